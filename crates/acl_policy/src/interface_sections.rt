@@ -1,11 +1,12 @@
 //! The sections of a policy.
-ghost use Rattle.std.specs.Prelude.{◌≡◌};
-ghost use Rattle.acl_policy.specs.Policies.{empty_section, section_facts};
+ghost use Rattle.std.specs.Prelude.{◌≡◌, map};
+ghost use Rattle.acl_policy.specs.Policies.{empty_section, numbers_of, section_facts};
+ghost use Rattle.acl_policy.specs.inner.Reading.Policies.{is_among};
 
 use crate::policy::{Policy, Section};
 use std::alloc::Global;
 
-/// A section of which nothing is said.
+/// The section of an interface of which nothing is said.
 pub fn empty(alloc: Global, interface: u8) -> Section
     ensures { section_facts result ≡ empty_section interface }
 {
@@ -15,6 +16,20 @@ pub fn empty(alloc: Global, interface: u8) -> Section
         inbound: Vec::new(alloc),
         outbound: Vec::new(alloc),
     }
+}
+
+/// Whether one of the sections that were read of a policy is of this interface.
+pub fn has_section(sections: &[Section], interface: u8) -> bool
+    ensures { result ≡ is_among interface (numbers_of (map section_facts sections.now)) }
+{
+    let mut rest = sections;
+    'sections: while !rest.is_empty() {
+        if interface == rest[0].interface {
+            return true;
+        }
+        rest = &rest[1..];
+    }
+    false
 }
 
 impl Policy {

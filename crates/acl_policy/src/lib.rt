@@ -6,6 +6,7 @@ mod interface_sections;
 mod policy;
 mod policy_draft;
 mod policy_line;
+mod policy_line_words;
 mod policy_reading;
 mod policy_text_laws;
 mod rule;
@@ -14,7 +15,8 @@ mod rule_match;
 pub use first_match_laws::rules_decide_each_packet;
 pub use policy::{Policy, PolicyFault, Section};
 pub use policy_draft::Draft;
-pub use policy_line::{Line, action_of, direction_of, family_of, interface_of, line_of};
+pub use policy_line::{Line, line_of};
+pub use policy_line_words::{action_of, direction_of, family_of, interface_of};
 pub use policy_reading::{add_line, empty_draft, read_policy};
 pub use policy_text_laws::one_reading;
 pub use policy_words::{

@@ -1,15 +1,14 @@
 //! What a line of a policy says.
 ghost use Rattle.std.specs.Prelude.{◌≡◌, ◌≤◌, ◌<◌, IfSome, option_map};
-ghost use Rattle.acl_policy.specs.inner.Reading.Lines.{action_in, direction_in, ends_in, family_in, head_in, heading_in, interface_in, line_facts, line_in, own_line_in, rule_line_in};
+ghost use Rattle.acl_policy.specs.inner.Reading.Lines.{ends_in, head_in, heading_in, line_facts, line_in, own_line_in, rule_line_in};
 ghost use Rattle.policy_words.specs.Widths.{width};
 ghost use Rattle.policy_words.specs.Words.{words_of};
 ghost use Rattle.packet_view.specs.Addresses.{address_limit};
 
+use crate::policy_line_words::{action_of, direction_of, family_of, interface_of};
 use crate::rule::{Action, Rule};
 use packet_view::{Direction, Family, Mac};
-use policy_words::{
-    before_comment, is_end, mac_of, next_word, number_up_to, prefix_of, traffic_of,
-};
+use policy_words::{before_comment, is_end, mac_of, next_word, prefix_of, traffic_of};
 
 /// What a line says: nothing, the beginning of an interface's section, the interface's own address, or a rule of a
 /// direction.
@@ -21,42 +20,7 @@ pub enum Line {
     Ruled(Direction, Rule),
 }
 
-pub fn direction_of(word: &[u8]) -> Option<Direction>
-    ensures { result ≡ direction_in word.now }
-{
-    match word {
-        b"in" => Some(Direction::Inbound),
-        b"out" => Some(Direction::Outbound),
-        _ => None,
-    }
-}
-
-pub fn action_of(word: &[u8]) -> Option<Action>
-    ensures { result ≡ action_in word.now }
-{
-    if word == b"deny".as_slice() {
-        return Some(Action::Deny);
-    }
-    if word == b"permit".as_slice() {
-        return Some(Action::Permit);
-    }
-    if word == b"permit+reflect".as_slice() {
-        return Some(Action::Reflect);
-    }
-    None
-}
-
-pub fn family_of(word: &[u8]) -> Option<Family>
-    ensures { result ≡ family_in word.now }
-{
-    match word {
-        b"ipv4" => Some(Family::V4),
-        b"ipv6" => Some(Family::V6),
-        _ => None,
-    }
-}
-
-/// The first three words of a rule, and the text after them.
+/// The first three words of a policy's line that is a rule, and the text after them.
 #[tactic(auto, unfolding(crate::specs::inner::Reading::Lines::head_in))]
 fn head_of(text: &[u8]) -> Option<(Direction, Action, Family, &[u8])>
     ensures { option_map (λ r. (r.0, r.1, r.2, words_of r.3.now)) result ≡ head_in (words_of text.now) }
@@ -70,7 +34,7 @@ fn head_of(text: &[u8]) -> Option<(Direction, Action, Family, &[u8])>
     Some((direction, action, family, text))
 }
 
-/// The prefixes of a rule, and the text after them.
+/// The prefixes of a policy's line that is a rule, and the text after them.
 #[tactic(auto, unfolding(crate::specs::inner::Reading::Lines::ends_in))]
 fn ends_of(family: Family, text: &[u8]) -> Option<((u128, u8), (u128, u8), &[u8])>
     ensures value { option_map (λ r. (r.0, r.1, words_of r.2.now)) result
@@ -119,18 +83,6 @@ fn own_line_of(text: &[u8]) -> Option<Line>
     } else {
         None
     }
-}
-
-/// The number of an interface whose section begins.
-#[tactic(auto, unfolding(crate::specs::inner::Reading::Lines::interface_in))]
-pub fn interface_of(word: &[u8]) -> Option<u8>
-    ensures { result ≡ interface_in word.now }
-{
-    let number = number_up_to(word, u16::from(u8::MAX))?;
-    if number == 0 {
-        return None;
-    }
-    Some(number as u8)
 }
 
 #[tactic(auto, unfolding(crate::specs::inner::Reading::Lines::heading_in))]

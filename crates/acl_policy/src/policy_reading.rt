@@ -2,13 +2,13 @@
 ghost use Rattle.std.specs.Prelude.{◌≡◌, ◌≢◌, ◌≤◌, ◌⊎◌, [], IfOk, IfErr, MatchResult, OnOk, length, map};
 ghost use Rattle.std.specs.Str.{IsUtf8};
 ghost use Rattle.std.specs.Str.Lines.{lines};
-ghost use Rattle.acl_policy.specs.Policies.{IsPolicyFault, IsPolicyText, PolicyFacts, SayPolicy, empty_section, numbers_of, policy_facts, section_facts};
+ghost use Rattle.acl_policy.specs.Policies.{IsPolicyFault, IsPolicyText, PolicyFacts, SayPolicy, empty_section, numbers_of, policy_facts};
 ghost use Rattle.acl_policy.specs.inner.Reading.Lines.{line_in};
 ghost use Rattle.acl_policy.specs.inner.Reading.Policies.{Fails, LinesFail, draft_facts, is_among, line_added, policy_so_far, rule_added};
 ghost use Rattle.acl_policy.specs.Rules.{most_rules, rule_facts};
 
-use crate::interface_sections::empty;
-use crate::policy::{Policy, PolicyFault, Section};
+use crate::interface_sections::{empty, has_section};
+use crate::policy::{Policy, PolicyFault};
 use crate::policy_draft::Draft;
 use crate::policy_line::{Line, line_of};
 use crate::rule::Rule;
@@ -19,7 +19,7 @@ use std::mem;
 /// The greatest number of rules of one direction.
 const MOST_RULES: usize = 4096;
 
-/// Adds a rule to those of its direction. `number` is its line.
+/// Adds a rule that was read of a policy to those of its direction. `number` is its line.
 #[tactic(auto, unfolding(crate::specs::inner::Reading::Policies::rule_added))]
 fn add_rule(rules: &mut Vec<Rule>, rule: Rule, number: u64) -> Result<(), PolicyFault>
     ensures ok { OnOk result (rule_added number (map rule_facts rules.old.items) (rule_facts rule)
@@ -36,29 +36,15 @@ fn add_rule(rules: &mut Vec<Rule>, rule: Rule, number: u64) -> Result<(), Policy
     Ok(())
 }
 
-// Whether one of the sections is of this interface.
-fn has_section(sections: &[Section], interface: u8) -> bool
-    ensures { result ≡ is_among interface (numbers_of (map section_facts sections.now)) }
-{
-    let mut rest = sections;
-    'sections: while !rest.is_empty() {
-        if interface == rest[0].interface {
-            return true;
-        }
-        rest = &rest[1..];
-    }
-    false
-}
-
-// Whether a section so far is of this interface.
+// While a policy is read: whether a section of it was begun for this interface.
 fn has_begun(draft: &Draft, interface: u8) -> bool
     ensures { result ≡ is_among interface (numbers_of (policy_so_far (draft_facts draft.now)).sections) }
 {
     has_section(draft.done.as_slice(), interface) || interface == draft.current.interface
 }
 
-/// Adds what a line says to a policy of the lines before it. `number` is the line's. Where the line is at fault, the
-/// policy stays as it was; where memory ran out, it is of no use.
+/// Reads a line: adds what it says to a policy of the lines before it. `number` is the line's. Where the line is at
+/// fault, the policy stays as it was; where memory ran out, it is of no use.
 pub fn add_line(
     alloc: Global,
     draft: &mut Draft,

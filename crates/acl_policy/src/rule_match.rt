@@ -11,6 +11,7 @@ use crate::rule::{Action, Rule};
 use packet_view::{Family, Fields, Tuple};
 use policy_words::width_of;
 
+/// Whether an address matches a prefix of a rule.
 #[tactic(auto, using(crate::proofs::PrefixBits::begins_alike))]
 pub fn has_prefix(family: Family, prefix: (u128, u8), address: u128) -> bool
     requires length { prefix.1 ≤ width family }
@@ -26,12 +27,14 @@ pub fn has_prefix(family: Family, prefix: (u128, u8), address: u128) -> bool
     }
 }
 
+// Whether a port, type or code of a packet matches a range of a rule.
 fn is_in(range: (u16, u16), n: u16) -> bool
     ensures { IsTrue result ↔ IsIn range n }
 {
     range.0 <= n && n <= range.1
 }
 
+// Whether the ports, flags, or type and code of a packet match a rule, as they do where the packet has none.
 fn has_fields(rule: &Rule, fields: &Fields) -> bool
     ensures { IsTrue result ↔ HasFields (rule_facts rule.now) fields.now }
 {

@@ -14,7 +14,7 @@ use Rattle.bihash_table.specs.declared.close_fault.CloseFault.{CloseFault}
 use Rattle.bihash_table.specs.declared.contended.Contended.{Contended}
 use Rattle.bihash_table.specs.declared.renew_fault.RenewFault.{RenewFault}
 use Rattle.bihash_c.specs.Answers.{answer_of, close_number, renew_number, search_answer_of, split_number, stamp_told}
-use Rattle.bihash_c.specs.Members.{IsCloseTold, IsClosed, IsRenewTold, IsRenewedFrom, IsSplit}
+use Rattle.bihash_c.specs.CallersWithTable.{IsCloseTold, IsClosed, IsRenewTold, IsRenewedFrom, IsSplit}
 use Rattle.bihash_c.specs.declared.answer_numbers.Answer.{Answer}
 use Rattle.bihash_c.specs.declared.answer_numbers.Stamp.{Stamp}
 use Rattle.bihash_c.specs.declared.handle_content.Content.{Content}

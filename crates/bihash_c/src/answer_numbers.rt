@@ -62,7 +62,7 @@ pub struct Stamp {
     pub stamp: u64,
 }
 
-// An answer that carries no value.
+// An answer for C of this number, without a value.
 fn bare(kind: u32) -> Answer
     ensures { result ≡ record { kind = kind; value = 0; log2 = 0 } }
 {
@@ -73,7 +73,7 @@ fn bare(kind: u32) -> Answer
     }
 }
 
-// The one answer where there was no value, the other where there was one.
+// The answer for C by what was found: the number `none` where the key was absent, else `some` with the value.
 fn found_answer(found: Option<u64>, none: u32, some: u32) -> Answer
     ensures { result ≡ value_told found none some }
 {
@@ -87,7 +87,7 @@ fn found_answer(found: Option<u64>, none: u32, some: u32) -> Answer
     }
 }
 
-/// The answer for what a try came to.
+/// What C is told of a try of an update: the number of its reply, with what that carries.
 #[inline(always)]
 pub fn reply_answer(tried: Result<Reply, Contended>) -> Answer
     ensures { result ≡ answer_of tried }
@@ -106,7 +106,7 @@ pub fn reply_answer(tried: Result<Reply, Contended>) -> Answer
     }
 }
 
-/// The answer for what a try of a search came to.
+/// What C is told of a try of a search: a number, with the value that was found.
 #[inline(always)]
 pub fn search_answer(tried: Result<Option<u64>, Contended>) -> Answer
     ensures { result ≡ search_answer_of tried }

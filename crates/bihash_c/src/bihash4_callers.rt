@@ -117,7 +117,7 @@ pub extern "C" fn bihash4_is_lone(alloc: Global, handle: &mut Handle4) -> bool
     is_lone
 }
 
-/// The bucket and the stamp of the last answered call.
+/// The bucket and the stamp of the caller's last answered call.
 #[unsafe(no_mangle)]
 pub extern "C" fn bihash4_stamp(alloc: Global, handle: &mut Handle4) -> Stamp
     requires { HasCaller (content_in handle.old.place) }
@@ -130,7 +130,7 @@ pub extern "C" fn bihash4_stamp(alloc: Global, handle: &mut Handle4) -> Stamp
     stamp
 }
 
-/// Lets go of what the handle has.
+/// Lets go of what the handle has: a caller, which isn't joined then, or the pairs of a closed table.
 #[unsafe(no_mangle)]
 pub extern "C" fn bihash4_free(alloc: Global, handle: &mut Handle4)
     requires { HasPlace handle.old.place }

@@ -117,7 +117,7 @@ pub extern "C" fn bihash6_is_lone(alloc: Global, handle: &mut Handle6) -> bool
     is_lone
 }
 
-/// The bucket and the stamp of the last answered call.
+/// The bucket and the stamp of the caller's last answered call.
 #[unsafe(no_mangle)]
 pub extern "C" fn bihash6_stamp(alloc: Global, handle: &mut Handle6) -> Stamp
     requires { HasCaller (content_in handle.old.place) }
@@ -130,7 +130,7 @@ pub extern "C" fn bihash6_stamp(alloc: Global, handle: &mut Handle6) -> Stamp
     stamp
 }
 
-/// Lets go of what the handle has.
+/// Lets go of what the handle has: a caller, which isn't joined then, or the pairs of a closed table.
 #[unsafe(no_mangle)]
 pub extern "C" fn bihash6_free(alloc: Global, handle: &mut Handle6)
     requires { HasPlace handle.old.place }

@@ -1,12 +1,12 @@
-//! The calls of a member on keys: one try each.
+//! The calls of a caller with its table on keys: one try each.
 ghost use Rattle.bihash_table.specs.Calls.{TellsRecycleTry, TellsSearchTry, TellsUpdateTry};
 
-use crate::caller_with_table::Member;
+use crate::caller_with_table::CallerWithTable;
 use bihash_table::Contended;
 use bihash_words::{Expiry, Patch, Reply, Shape};
 
-impl<S: Shape> Member<S> {
-    /// One try of a search.
+impl<S: Shape> CallerWithTable<S> {
+    /// One try of a search by a caller with its table.
     #[inline(always)]
     pub fn search(&mut self, key: &S::Key) -> Result<Option<u64>, Contended>
         ensures { TellsSearchTry ⟦<S as Shape>⟧ self.old self.new key.now result }
@@ -15,7 +15,7 @@ impl<S: Shape> Member<S> {
         sessions.try_search(&mut self.caller, key)
     }
 
-    /// One try of an update.
+    /// One try of an update by a caller with its table.
     #[inline(always)]
     pub fn update<P: Patch>(&mut self, key: &S::Key, patch: &P) -> Result<Reply, Contended>
         ensures { TellsUpdateTry ⟦<S as Shape>⟧ self.old self.new key.now (P.decision patch.now) result }
@@ -24,7 +24,7 @@ impl<S: Shape> Member<S> {
         sessions.try_update(&mut self.caller, key, patch)
     }
 
-    /// One try of an update with an expiry.
+    /// One try of an update with an expiry by a caller with its table.
     #[inline(always)]
     pub fn add_or_recycle<P: Patch, E: Expiry>(
         &mut self,

@@ -90,7 +90,7 @@ impl<S: Shape, L: Shape<Key = S::Key>> EitherSize<S, L> {
         }
     }
 
-    /// The bucket and the stamp of the last answered call.
+    /// The bucket and the stamp of the caller's last answered call.
     pub fn stamp(&self) -> Stamp
         requires { HasCaller self.now }
         ensures { StampTold self.now result }

@@ -1,5 +1,5 @@
 //! What is behind a handle.
-use crate::caller_with_table::Member;
+use crate::caller_with_table::CallerWithTable;
 use bihash_words::Shape;
 
 /// What is behind a handle.
@@ -8,7 +8,7 @@ pub enum Content<S: Shape> {
     /// Nothing.
     Empty,
     /// A caller with its table.
-    Caller(Member<S>),
+    Caller(CallerWithTable<S>),
     /// The pairs of a table that was closed.
     Pairs(Vec<(S::Key, u64)>),
 }

@@ -6,7 +6,7 @@ ghost use Rattle.bihash_table.specs.Calls.{TellsLone};
 ghost use Rattle.bihash_c.specs.Contents.{AreOfOneTable, Calls, HasCaller, IsFirst, JoinTold, MeetTold, SplitTold, StampTold};
 
 use crate::answer_numbers::{DONE, Stamp, split_refusal, stamp_answer};
-use crate::caller_with_table::Member;
+use crate::caller_with_table::CallerWithTable;
 use crate::handle_content::Content;
 use bihash_words::Shape;
 use std::alloc::Global;
@@ -18,7 +18,7 @@ impl<S: Shape> Content<S> {
         requires { IsSound (sizes_of S.Shape) }
         ensures { IfSome result (IsFirst (sizes_of S.Shape)) }
     {
-        match Member::first(alloc) {
+        match CallerWithTable::first(alloc) {
             Some(member) => Some(Content::Caller(member)),
             None => None,
         }
@@ -86,7 +86,7 @@ impl<S: Shape> Content<S> {
         member.is_lone()
     }
 
-    /// The bucket and the stamp of the last answered call.
+    /// The bucket and the stamp of the caller's last answered call.
     pub fn stamp(&self) -> Stamp
         requires { HasCaller self.now }
         ensures { StampTold self.now result }

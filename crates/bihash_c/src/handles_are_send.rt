@@ -4,7 +4,7 @@ ghost use Rattle.std.specs.Prelude.{◌≡◌};
 use crate::handle4::Handle4;
 use crate::handle6::Handle6;
 
-// What another thread may have.
+// Takes only what is Send, so that its calls on handles prove that they are.
 fn cross<T: Send>(value: T) -> T
     ensures { result ≡ value }
 {

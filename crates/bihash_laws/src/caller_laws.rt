@@ -97,7 +97,7 @@ pub fn agreeing_callers_have_one_order()
         × IsCommonSerialization z b v w history operations }
 {}
 
-/// An answered call is legal on what is known of its bucket afterwards, which continues what was known
+/// An answered call is legal on what its caller knows of the bucket afterwards, which continues what it knew
 /// before. What it found, unless it wrote, is what the map holds there. Its entry is at the end of the
 /// acting record, with the number of the bucket's known writes as its stamp. Nothing is learned of another
 /// bucket, and no other record changes.
@@ -121,8 +121,8 @@ pub fn answers_are_the_maps()
         → w.known.openings ≡ v.known.openings }
 {}
 
-/// A call writes at most once. Answered `Changed` its write is the last that is known of the bucket, and no
-/// other that was learned is the caller's own. Answered otherwise none is.
+/// A caller's call writes at most once. Answered `Changed` its write is the last that the caller knows of the bucket,
+/// and no other that was learned is the caller's own. Answered otherwise none is.
 pub fn changed_alone_writes()
     ensures last { (z : Sizes) (b : ℕ) (v w : View) (e : Event) → IsLawfulAnswer z b v w e
         → is_changed e.reply ≡ true
@@ -155,8 +155,8 @@ pub fn lone_callers_know_all()
         → (known_at w.known b ≡ known_at v.known b) × (map_now w b ≡ map_now v b) }
 {}
 
-/// A call with an expiry is answered Full only where no value of its bucket's map is expired. Where it removes a key,
-/// that is the one with the least words among those with expired values: no live pair goes, and never two.
+/// A caller's call with an expiry is answered Full only where no value of its bucket's map is expired. Where it removes
+/// a key, that is the one with the least words among those with expired values: no live pair goes, and never two.
 pub fn only_the_least_expired_pair_goes()
     ensures full { (z : Sizes) (b : ℕ) (v w : View) (key : List ℕ) (found : Option ℕ) (change : Change) (is_expired : ℕ → Bool)
         (removed : Option (List ℕ)) → IsLawfulAnswer z b v w (recycled_update key found change is_expired removed Full)

@@ -2,7 +2,7 @@
 #![tactic(auto)]
 
 mod caller_laws;
-mod log_laws;
+mod row_log_laws;
 
 pub use caller_laws::{
     agreeing_callers_have_one_order, agreeing_callers_share_a_history, answers_are_the_maps,
@@ -10,7 +10,7 @@ pub use caller_laws::{
     logs_are_one_order, lone_callers_know_all, one_writer_has_one_map, one_writer_stays,
     only_the_least_expired_pair_goes, whole_callers_have_one_order, whole_callers_made_each_write,
 };
-pub use log_laws::{
+pub use row_log_laws::{
     calls_enter_at_the_end, calls_stand_in_real_time, logs_only_grow, no_step_recalls,
     runs_answer_in_real_time, stale_reads_never_enter, whole_callers_know_the_log,
 };

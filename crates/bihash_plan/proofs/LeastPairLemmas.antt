@@ -8,7 +8,7 @@ use Rattle.std.specs.Ordering.{nat_cmp, ordering_reverse, ordering_then}
 use Rattle.std.specs.declared.cmp.Ordering.TheVariants.{Less, Equal, Greater}
 use Rattle.bihash_plan.specs.Blocks.{HasPairAt}
 use Rattle.bihash_plan.specs.inner.LeastPairs.{IsBound, IsLeastAmong, IsLeastTo}
-use Rattle.bihash_plan.specs.declared.recycling_plan.Least.{Least}
+use Rattle.bihash_plan.specs.declared.least_expired_pair.Least.{Least}
 
 -- a key below one that is not above another is not above that other
 still_least : (a b c : List ℕ) → slice_cmp nat_cmp b a ≡ Greater → slice_cmp nat_cmp b c ≢ Greater → slice_cmp nat_cmp a c ≢ Greater

@@ -1,6 +1,6 @@
 //! The pages and places of a block, and which places are open to a key.
 
-ghost use Rattle.std.specs.Prelude.{◌≡◌, ◌≤◌, ◌<◌, ◌+◌, ◌^◌};
+ghost use Rattle.std.specs.Prelude.{◌≡◌, ◌≤◌, ◌<◌, ◌^◌};
 ghost use Rattle.bihash_words.specs.Pages.{page_of, paging_of};
 ghost use Rattle.bihash_plan.specs.Searches.{AreOpenPlaces, MayHavePages, MayHavePlaces};
 
@@ -23,7 +23,8 @@ pub fn page_count(log2: u64) -> usize
     1usize << log2
 }
 
-/// The places open to the key, as the first of them and the one after the last.
+/// The places of a block that are open to the key, those of its page or all, as the first of them and the one after the
+/// last.
 pub(crate) fn open_places<S: Shape>(count: usize, size: BlockSize, key: &S::Key) -> (usize, usize)
     requires { MayHavePlaces ⟦<S as Shape>⟧ size.log2 count }
     ensures { AreOpenPlaces size.linear (page_of (paging_of ⟦<S as Shape>⟧) size.log2 key.now) count result.0 result.1 }

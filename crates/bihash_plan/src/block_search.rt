@@ -10,8 +10,8 @@ ghost use Rattle.bihash_plan.specs.Searches.{IsFirstFreeOf, IsPlace, IsPlaceOfKe
 use crate::block_pages::open_places;
 use bihash_words::{BlockSize, FREE, Shape, is_same};
 
-/// The place where the key's pair stands. `places` has four places a page, and none where the
-/// bucket has no block. Where they are no lawful block, as in a read that a writer overtook, only
+/// Searches a block for the place where the key's pair stands. `places` has four places a page, and none
+/// where the bucket has no block. Where they are no lawful block, as in a read that a writer overtook, only
 /// the places open to the key are searched.
 pub fn find<S: Shape>(places: &[(S::Key, u64)], size: BlockSize, key: &S::Key) -> Option<usize>
     requires { MayHavePlaces ⟦<S as Shape>⟧ size.log2 (length places.now) }
@@ -28,7 +28,7 @@ pub fn find<S: Shape>(places: &[(S::Key, u64)], size: BlockSize, key: &S::Key) -
     place_of_key::<S>(places, from, to, key)
 }
 
-/// A place with a pair of the key, among those from one place to before another.
+/// Searches a block for a place with a pair of the key, among those from one place to before another.
 pub(crate) fn place_of_key<S: Shape>(
     places: &[(S::Key, u64)],
     from: usize,
@@ -49,7 +49,7 @@ pub(crate) fn place_of_key<S: Shape>(
     None
 }
 
-/// The first free place, among those from one place to before another.
+/// Searches a block for the first free place, among those from one place to before another.
 pub(crate) fn free_place<K: Copy>(places: &[(K, u64)], from: usize, to: usize) -> Option<usize>
     requires range { IsRange places.now to }
     ensures { IsFirstFreeOf places.now from to result }
@@ -62,7 +62,7 @@ pub(crate) fn free_place<K: Copy>(places: &[(K, u64)], from: usize, to: usize) -
     None
 }
 
-/// Whether a pair with the key is at the place.
+/// Whether a pair with the key that is searched for is at the place.
 fn has_key<S: Shape>(places: &[(S::Key, u64)], i: usize, key: &S::Key) -> bool
     requires shape { IsSound (sizes_of ⟦<S as Shape>⟧) }
     requires place { IsPlace places.now i }
@@ -72,7 +72,7 @@ fn has_key<S: Shape>(places: &[(S::Key, u64)], i: usize, key: &S::Key) -> bool
     *value != FREE && is_same::<S>(other, key)
 }
 
-/// Whether the place is free.
+/// Whether the place that a search looks at is free.
 fn is_free<K: Copy>(places: &[(K, u64)], i: usize) -> bool
     requires place { IsPlace places.now i }
     ensures { IsTrue result ↔ IsFree places.now i }

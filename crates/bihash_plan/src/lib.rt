@@ -3,18 +3,18 @@
 #![tactic(auto)]
 
 mod block_fit;
+mod block_layout;
 mod block_pages;
 mod block_search;
 mod key_plan;
+mod least_expired_pair;
 mod plan_answer;
 mod recycled_place;
-mod recycling_plan;
-mod rehash;
 
+pub use block_layout::lay;
 pub use block_pages::page_count;
 pub use block_search::find;
 pub use key_plan::{larger, plan};
+pub use least_expired_pair::recycle;
 pub use plan_answer::Plan;
 pub use recycled_place::Recycle;
-pub use recycling_plan::recycle;
-pub use rehash::lay;

@@ -8,13 +8,13 @@ ghost use Rattle.bihash_rule.specs.Views.{first_view};
 use crate::create_fault::CreateFault;
 use crate::row::{Caller, CallerSeat, Row};
 use crate::row_layout::row_words;
-use crate::working_copy::Scratch;
+use crate::scratch::Scratch;
 use atomic_table::Table;
 use bihash_words::Shape;
 use std::alloc::{AllocError, Global};
 use std::marker::PhantomData;
 
-// The words of a row that no caller has used.
+// The words with which a new row begins, as no caller has used them: one caller is counted, and all else is 0.
 fn fresh_words<S: Shape>(alloc: Global) -> Result<Vec<u64>, AllocError>
     requires sound { IsSound (sizes_of S.Shape) }
     ensures { IfOk result (λ w. IsFresh (sizes_of S.Shape) w.items) }

@@ -9,7 +9,7 @@ ghost use Rattle.bihash_steps.specs.Renewals.{AreRenewed, AreRowWords, HaveField
 use crate::create_fault::CreateFault;
 use crate::row::{Caller, CallerSeat, Row};
 use crate::row_beginning::{Beginning, mark};
-use crate::working_copy::Scratch;
+use crate::scratch::Scratch;
 use atomic_table::{Mark, Table};
 use bihash_rule::Openings;
 use bihash_words::{BucketWord, Shape};
@@ -21,8 +21,8 @@ mod lone_loads;
 use lone_loads::LoneLoads;
 
 impl<S: Shape> Row<S> {
-    /// Word `at` of the row, which a lone caller loads after the words before it. It notes them until its next
-    /// step of another kind.
+    /// Word `at` of a row of which a renewed one or a close needs all words: a lone caller loads it after those before
+    /// it, and notes them until its next step of another kind.
     pub fn load_lone(&self, caller: &mut CallerSeat<S>, at: usize) -> u64
         requires own { caller.old.row ≡ self.now }
         requires next { IsNextWord (sizes_of S.Shape) caller.old.view at }
@@ -30,23 +30,17 @@ impl<S: Shape> Row<S> {
     {
         self.table.shared.load::<LoneLoads<S>>(&mut caller.seat, at)
     }
-
-    /// How many words the row has.
-    pub fn word_count(&self) -> usize
-        ensures { result ≡ all_words (sizes_of S.Shape) }
-    {
-        self.table.word_count()
-    }
 }
 
-// With what a row begins, as `E` names it: the caller's proof picks it by these words.
+// With what a renewed row begins, as `E` names it: the caller's proof picks it by these words.
 fn with_all<E: Beginning, S: Shape>(caller: &CallerSeat<S>, _words: &[u64]) -> Mark<Openings>
     ensures { result.view ≡ E.openings }
 {
     mark::<E>(&caller.seat)
 }
 
-// The same words, with one caller and no version.
+// The words with which a renewed row begins: those of the old one, with one caller, and with each bucket unlocked and
+// at version 0.
 fn renewed_words<S: Shape>(
     alloc: Global,
     row: &Row<S>,
@@ -67,8 +61,8 @@ fn renewed_words<S: Shape>(
     Ok(renewed)
 }
 
-/// A row of its own that begins with the pages and maps that these words have, which a lone caller loaded, and
-/// its caller 1, which is lone and has made no call. `Memory`: memory was refused.
+/// A renewed row of its own, with the pages and maps of these words, which a lone caller loaded, and its caller 1,
+/// which is lone and has made no call. `Memory`: memory was refused.
 pub fn reopen_row<S: Shape>(
     alloc: Global,
     row: &Row<S>,

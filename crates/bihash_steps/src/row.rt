@@ -1,13 +1,13 @@
 //! A row of atomic words under the word rule, and its callers.
-ghost use Rattle.std.specs.Prelude.{◌≡◌, []};
+ghost use Rattle.std.specs.Prelude.{◌≡◌, ◌≤◌, [], length};
 ghost use Rattle.atomic_table.specs.Seated.{TableId};
-ghost use Rattle.bihash_words.specs.Sizes.{sizes_of};
+ghost use Rattle.bihash_words.specs.Sizes.{sizes_of, IsSound};
 ghost use Rattle.bihash_steps.specs.Seats.{CallerState, caller_state, IsRow, CanAct, stamp_of};
 ghost use Rattle.bihash_rule.specs.Views.{opening_view, openings_told};
 ghost use Rattle.bihash_rule.specs.WordRule.{WordRule};
 
 use crate::row_beginning::Began;
-use crate::working_copy::Scratch;
+use crate::scratch::Scratch;
 use atomic_table::{Seat, Table, TableRule};
 use bihash_rule::View;
 use bihash_words::Shape;
@@ -39,6 +39,15 @@ impl<S: Shape> Model for Row<S> {
     ghost invariant = { λ r. IsRow (sizes_of S.Shape) r.table.shared.table_id };
 }
 
+impl<S: Shape> Row<S> {
+    /// The sizes of a row are sound.
+    pub fn is_sound(&self)
+        ensures { IsSound (sizes_of S.Shape) }
+    {
+        let _ = &self.table;
+    }
+}
+
 /// The seat of a caller at one table. Contracts see its row and what the caller knows.
 #[derive(Drop)]
 pub struct CallerSeat<S: Shape> {
@@ -57,6 +66,24 @@ impl<S: Shape> Model for CallerSeat<S> {
 
     ghost invariant = { λ c. (c.seat.me.1 ≡ []) × CanAct c.seat.me.0 c.numbers
         × (c.stamp ≡ stamp_of c.seat.me.0.records) };
+}
+
+impl<S: Shape> CallerSeat<S> {
+    /// The bucket and the stamp of the last answered call on the row under the caller's acting number, None before
+    /// the first.
+    pub fn stamp(&self) -> Option<(u64, u64)>
+        ensures { result ≡ stamp_of self.now.view.records }
+    {
+        self.stamp
+    }
+
+    /// How many numbers of the row the caller has: its own, and those of the callers that were joined into it.
+    pub fn numbers(&self) -> u64
+        ensures count { result ≡ length self.now.view.records }
+        ensures some { 1 ≤ result }
+    {
+        self.numbers
+    }
 }
 
 /// A caller of one table: its seat, and the lists that it works with while it splits a block.

@@ -30,7 +30,7 @@ impl<E: Beginning> PerchRule<Openings> for Begins<E> {
     ghost first = { E.openings };
 }
 
-/// A mark that says these openings. The seat names its types, and nothing else is asked of it.
+/// A mark that says with what a row begins, as `E` names it. The seat names its types, and nothing else is asked of it.
 pub(crate) fn mark<E: Beginning>(like: &Seat<(), View>) -> Mark<Openings>
     ensures { result.view ≡ E.openings }
 {

@@ -16,8 +16,8 @@ pub(crate) const ALLOCATION_LOCK: usize = 1;
 
 pub(crate) const USED_MARK: usize = 2;
 
-// How many words the lists of returned blocks of all smaller log2 have together. Compiled into its callers it is a
-// number, so that no step loads where a word stands.
+// How many words of a row the lists of returned blocks of all smaller log2 have together. Compiled into its callers it
+// is a number, so that no step loads where a word stands.
 #[inline(always)]
 fn lists_words<S: Shape>(log2: u64) -> usize
     requires sound { IsSound (sizes_of S.Shape) }
@@ -31,7 +31,7 @@ fn lists_words<S: Shape>(log2: u64) -> usize
     words
 }
 
-/// How many words stand before the bucket words: the counts and locks, and the lists.
+/// How many words of a row stand before the bucket words: the counts and locks, and the lists.
 #[inline(always)]
 pub(crate) fn front_words<S: Shape>() -> usize
     requires sound { IsSound (sizes_of S.Shape) }
@@ -57,7 +57,7 @@ fn bucket_place<S: Shape>(bucket: usize) -> usize
     bucket * (buckets + 1) / 16 % buckets
 }
 
-/// How many words stand before the page words.
+/// How many words of a row stand before the page words.
 #[inline(always)]
 fn pages_front<S: Shape>() -> usize
     requires sound { IsSound (sizes_of S.Shape) }
@@ -67,7 +67,7 @@ fn pages_front<S: Shape>() -> usize
     front_words::<S>() + (1 << S::LOG2_BUCKETS)
 }
 
-/// How many words a row has.
+/// How many words a row has: those before the bucket words, these, and the page words.
 pub(crate) fn row_words<S: Shape>() -> usize
     requires sound { IsSound (sizes_of S.Shape) }
     ensures { result ≡ all_words (sizes_of S.Shape) }
@@ -77,6 +77,13 @@ pub(crate) fn row_words<S: Shape>() -> usize
 }
 
 impl<S: Shape> Row<S> {
+    /// How many words the row has by its layout, which a lone caller loads for a renewed row or a close.
+    pub fn word_count(&self) -> usize
+        ensures { result ≡ all_words (sizes_of S.Shape) }
+    {
+        self.table.word_count()
+    }
+
     /// Where the word of a bucket stands among the words of the row.
     pub fn bucket_at(&self, bucket: usize) -> usize
         requires { bucket < buckets (sizes_of S.Shape) }
@@ -88,7 +95,7 @@ impl<S: Shape> Row<S> {
         front_words::<S>() + bucket_place::<S>(bucket)
     }
 
-    /// Where word k stands of the block that begins at this page.
+    /// Where word k of the block that begins at this page stands among the words of the row.
     pub fn page_at(&self, page: u64, k: usize) -> usize
         requires some_page { 1 ≤ page }
         requires inside { Words.page_at (sizes_of S.Shape) page + k < all_words (sizes_of S.Shape) }
@@ -100,7 +107,7 @@ impl<S: Shape> Row<S> {
         pages_front::<S>() + (page - 1) as usize * (4 * (S::WORDS + 1)) + k
     }
 
-    /// The count of the returned blocks of this log2.
+    /// Where the count of the returned blocks of this log2 stands among the words of the row.
     pub(crate) fn returned_count_at(&self, log2: u64) -> usize
         requires { log2 ≤ S.MAX_LOG2 }
         ensures place { result ≡ Words.returned_count_at log2 }
@@ -111,7 +118,7 @@ impl<S: Shape> Row<S> {
         3 + log2 as usize
     }
 
-    /// Place i in the list of the returned blocks of this log2.
+    /// Where place i in the list of the returned blocks of this log2 stands among the words of the row.
     pub(crate) fn list_at(&self, log2: u64, i: u64) -> usize
         requires small { log2 ≤ S.MAX_LOG2 }
         requires inside { i < list_words (sizes_of S.Shape) log2 }
@@ -123,7 +130,7 @@ impl<S: Shape> Row<S> {
         4 + S::MAX_LOG2 as usize + lists_words::<S>(log2) + i as usize
     }
 
-    /// A word of the page store.
+    /// Where a word of the page store stands among the words of the row.
     pub(crate) fn pool_word_at(&self, word: PoolWord) -> usize
         requires { (store : PageStore) × IsInStore (sizes_of S.Shape) store word }
         ensures place { result ≡ StoreSteps.pool_word_at (sizes_of S.Shape) word }

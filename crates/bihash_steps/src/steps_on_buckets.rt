@@ -20,7 +20,7 @@ use bucket_step_kinds::{
 };
 
 impl<S: Shape> Row<S> {
-    /// The word of a bucket. A lone caller that holds no lock finds it unlocked.
+    /// A step that loads the word of a bucket. A lone caller that holds no lock finds it unlocked.
     pub fn load_bucket(&self, caller: &mut CallerSeat<S>, bucket: usize) -> BucketWord
         requires at { IsAt (sizes_of S.Shape) self.now caller.old bucket }
         ensures { FindsBucket (sizes_of S.Shape) caller.old caller.new bucket result }
@@ -44,7 +44,7 @@ impl<S: Shape> Row<S> {
         shared.compare_exchange::<Locks<S>>(&mut caller.seat, at, open, locked) == open
     }
 
-    /// Word k of the block that the caller has locked, which begins at this page.
+    /// A step on a bucket that the caller has locked: loads word k of its block, which begins at this page.
     pub fn load_locked(&self, caller: &mut CallerSeat<S>, page: u64, k: usize) -> u64
         requires own { caller.old.row ≡ self.now }
         requires word { IsLockedWord (sizes_of S.Shape) caller.old.view page k }
@@ -55,7 +55,7 @@ impl<S: Shape> Row<S> {
         shared.load::<LockedWords<S>>(&mut caller.seat, self.page_at(page, k))
     }
 
-    /// Stores word k of the block that the caller has locked, which begins at this page.
+    /// A step on a bucket that the caller has locked: stores word k of its block, which begins at this page.
     pub fn store_locked(&self, caller: &mut CallerSeat<S>, page: u64, k: usize, word: u64)
         requires own { caller.old.row ≡ self.now }
         requires word { IsLockedWord (sizes_of S.Shape) caller.old.view page k }

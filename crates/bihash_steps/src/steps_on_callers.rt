@@ -1,14 +1,14 @@
 //! Callers that are counted, split, joined and told of one another.
 ghost use Rattle.std.specs.Prelude.{◌≡◌, ℕ, ◌<◌, ◌≤◌, length, IfOk, IfErr};
-ghost use Rattle.bihash_words.specs.Sizes.{sizes_of, IsSound};
+ghost use Rattle.bihash_words.specs.Sizes.{sizes_of};
 ghost use Rattle.bihash_steps.specs.CallerCalls.{AreIdle, AreInformed, HasCounted, IsCut, IsIdle, IsJoined, MayCut, TakesNumber};
 ghost use Rattle.bihash_rule.specs.Callers.{IsLawfulCaller, Agrees};
 ghost use Rattle.bihash_steps.specs.Steps.{parent, newcomer, IsRefused};
-ghost use Rattle.bihash_steps.specs.Seats.{with_view, stamp_of};
+ghost use Rattle.bihash_steps.specs.Seats.{with_view};
 
 use crate::row::{Caller, CallerSeat, Row};
+use crate::scratch::Scratch;
 use crate::split_fault::SplitFault;
-use crate::working_copy::Scratch;
 use bihash_words::Shape;
 use std::alloc::Global;
 use std::marker::{Brand, PhantomData};
@@ -30,7 +30,7 @@ impl<S: Shape> Row<S> {
         self.table.shared.load::<Counts<S>>(&mut caller.seat, COUNT)
     }
 
-    // Takes the next number, where the caller count still is this one.
+    // Takes the next number for a caller that is split, where the caller count still is this one.
     fn take_number(&self, caller: &mut CallerSeat<S>, count: u64) -> bool
         requires own { caller.old.row ≡ self.now }
         requires few { count < S.CALLERS }
@@ -47,7 +47,7 @@ impl<S: Shape> Row<S> {
         true
     }
 
-    // Gives a new seat, whose last answered call had this stamp, all numbers but the first ones.
+    // Gives a new caller's seat, whose last answered call had this stamp, all numbers of the caller but the first ones.
     fn cut<E: Keeping>(
         &self,
         caller: &mut CallerSeat<S>,
@@ -106,7 +106,7 @@ impl<S: Shape> Row<S> {
         Ok((caller, Caller { seat, scratch }))
     }
 
-    // The caller takes in the other one.
+    // The caller takes in the numbers and records of another one, as callers do that are joined or meet.
     fn take_in(&self, caller: &mut CallerSeat<S>, other: CallerSeat<S>)
         requires idle { AreIdle self.now caller.old other }
         ensures joined { IsJoined (sizes_of S.Shape) caller.old other caller.new }
@@ -145,32 +145,5 @@ impl<S: Shape> Row<S> {
         self.take_in(&mut caller.seat, seat);
         let seat = self.cut::<Brand>(&mut caller.seat, own, stamp);
         (caller, Caller { seat, scratch })
-    }
-}
-
-impl<S: Shape> CallerSeat<S> {
-    /// The bucket and the stamp of the last answered call under the caller's acting number, None before
-    /// the first.
-    pub fn stamp(&self) -> Option<(u64, u64)>
-        ensures { result ≡ stamp_of self.now.view.records }
-    {
-        self.stamp
-    }
-
-    /// How many numbers the caller has.
-    pub fn numbers(&self) -> u64
-        ensures count { result ≡ length self.now.view.records }
-        ensures some { 1 ≤ result }
-    {
-        self.numbers
-    }
-}
-
-impl<S: Shape> Row<S> {
-    /// The sizes of a row are sound.
-    pub fn is_sound(&self)
-        ensures { IsSound (sizes_of S.Shape) }
-    {
-        let _ = &self.table;
     }
 }

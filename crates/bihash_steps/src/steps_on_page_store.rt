@@ -68,7 +68,7 @@ impl<S: Shape> Row<S> {
         shared.store::<TakesUnused<S>>(&mut caller.seat, USED_MARK, used + (1 << log2));
     }
 
-    /// Stores word k of the block that the caller holds, which begins at this page.
+    /// Stores word k of the block that the caller holds, taken from the page store, which begins at this page.
     pub fn store_held(&self, caller: &mut CallerSeat<S>, page: u64, k: usize, word: u64)
         requires own { caller.old.row ≡ self.now }
         requires word { IsHeldWord (sizes_of S.Shape) caller.old.view page k }

@@ -12,7 +12,7 @@ use bihash_steps::{Caller, SplitFault};
 use bihash_words::Shape;
 use std::alloc::Global;
 
-/// The bucket and the stamp of the last answered call under the caller's acting number, refusals other than
+/// The bucket and the stamp of the last answered call of a table's caller under its acting number, refusals other than
 /// Contended included. `None` before the first.
 pub fn stamp<S: Shape>(caller: &Caller<S>) -> Option<(u64, u64)>
     ensures { result ≡ stamp_of caller.now.seat.view.records }
@@ -59,8 +59,8 @@ impl<S: Shape> Sessions<S> {
         self.row.join(caller, other)
     }
 
-    /// Whether the caller has every number that was made. It is whole then, and lone until a split of it
-    /// succeeds.
+    /// Whether the caller has every number that was made, with all others joined into it. It is whole then, and lone
+    /// until a split of it succeeds.
     pub fn is_lone(&self, caller: &mut Caller<S>) -> bool
         requires own { caller.old.seat.row ≡ self.now.row }
         ensures { TellsLone (sizes_of S.Shape) caller.old.seat caller.new.seat result }

@@ -1,4 +1,4 @@
-//! Changes that a bucket's block has room for, and answers that leave it.
+//! Changes that a bucket's block has room for.
 ghost use Rattle.std.specs.Prelude.{◌≡◌, ◌≢◌, ◌<◌, ◌+◌, ◌*◌, true, None, Some, Ok};
 ghost use Rattle.bihash_words.specs.Sizes.{sizes_of};
 ghost use Rattle.bihash_words.specs.declared.patch.Change.TheVariants.{Set, Remove};
@@ -8,7 +8,7 @@ ghost use Rattle.bihash_rule.specs.declared.view.LockedBucket.{LockedBucket};
 ghost use Rattle.bihash_steps.specs.Seats.{with_view};
 ghost use Rattle.bihash_table.specs.inner.Locked.{HasLock, HasPlace, IsPairBeside, IsPlaceForNew, UnderLock};
 ghost use Rattle.bihash_table.specs.inner.OpenReads.{IsPairIn};
-ghost use Rattle.bihash_table.specs.inner.Seen.{MayReply, WantsChange};
+ghost use Rattle.bihash_table.specs.inner.Seen.{WantsChange};
 ghost use Rattle.bihash_table.specs.inner.Stores.{FindsWord, HasStored, HoldsWord};
 ghost use Rattle.bihash_table.specs.Tries.{Finished, Tried};
 
@@ -22,31 +22,7 @@ use bihash_steps::{CallerSeat, Event, Row};
 use bihash_words::{BucketWord, Change, Reply, Shape};
 use std::marker::Brand;
 
-/// Gives a reply that is no write, where the bucket still has the word that was seen.
-pub(crate) fn answer<S: Shape>(
-    row: &Row<S>,
-    seat: &mut CallerSeat<S>,
-    seen: &SeenBucket<'_, S>,
-    found: Option<u64>,
-    change: Change,
-    reply: Reply,
-) -> Result<Reply, Contended>
-    requires { MayReply ⟦<S as Shape>⟧ row.now seat.old seen.now found change reply }
-    ensures { Tried ⟦<S as Shape>⟧ seat.old seat.new seen.now.hashed.key.now found change result }
-{
-    let event = Event {
-        key: seen.hashed.key,
-        found,
-        change,
-        reply,
-    };
-    if !row.validate::<Brand, Event<'_, S>>(seat, seen.hashed.bucket, seen.word, &event) {
-        return Err(Contended);
-    }
-    Ok(reply)
-}
-
-/// Gives the pair at a place another value.
+/// Changes a pair of the locked bucket's block in place: it gets another value.
 pub(crate) fn overwrite<S: Shape>(
     row: &Row<S>,
     seat: &mut CallerSeat<S>,
@@ -75,7 +51,7 @@ pub(crate) fn overwrite<S: Shape>(
     Reply::Changed(Some(pair.1))
 }
 
-/// Enters a pair of a new key at a free place.
+/// Enters a pair of a new key in place, at a free place of the locked bucket's block.
 pub(crate) fn fill<S: Shape>(
     row: &Row<S>,
     seat: &mut CallerSeat<S>,
@@ -104,7 +80,7 @@ pub(crate) fn fill<S: Shape>(
     Reply::Changed(None)
 }
 
-/// Removes the key's pair. With the last pair the block goes too.
+/// Removes the key's pair: in place where the bucket has another one, and else with its block.
 #[inline(always)]
 pub(crate) fn remove<S: Shape>(
     row: &Row<S>,
@@ -125,7 +101,7 @@ pub(crate) fn remove<S: Shape>(
     Ok(vacate(row, seat, seen, pair))
 }
 
-// Frees the place of a pair, where another pair is left.
+// Removes a pair in place: frees its place in the locked bucket's block, where another pair is left.
 fn vacate<S: Shape>(
     row: &Row<S>,
     seat: &mut CallerSeat<S>,
@@ -152,8 +128,8 @@ fn vacate<S: Shape>(
     Reply::Changed(Some(pair.1))
 }
 
-// Stores the words of a key at a place of the block that the caller has locked, but those that stand there. A
-// freed place shows the key that it had, and a store costs far more than a load.
+// Stores a key in place, in the locked bucket's block, but not the words that stand there: a freed place shows the key
+// that it had, and a store costs far more than a load.
 pub(crate) fn store_key<S: Shape>(
     row: &Row<S>,
     seat: &mut CallerSeat<S>,
@@ -174,7 +150,7 @@ pub(crate) fn store_key<S: Shape>(
     }
 }
 
-// Word i of a place of the block that the caller has locked.
+// Word i of a place of the locked bucket's block, which is changed in place.
 fn held_word<S: Shape>(
     row: &Row<S>,
     seat: &mut CallerSeat<S>,
@@ -189,7 +165,7 @@ fn held_word<S: Shape>(
     row.load_locked(seat, word.page(), place * (S::WORDS + 1) + i)
 }
 
-// Stores word i of a place of the block that the caller has locked.
+// Stores word i of a place of the locked bucket's block, which is changed in place.
 pub(crate) fn store_word<S: Shape>(
     row: &Row<S>,
     seat: &mut CallerSeat<S>,

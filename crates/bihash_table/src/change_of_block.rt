@@ -1,5 +1,5 @@
 //! Changes that give a bucket another block, or none.
-ghost use Rattle.std.specs.Prelude.{◌≡◌, ◌*◌, ◌^◌, false, length, None, Some, Ok};
+ghost use Rattle.std.specs.Prelude.{◌≡◌, ◌*◌, ◌^◌, false, length, None, Some};
 ghost use Rattle.bihash_words.specs.Sizes.{sizes_of};
 ghost use Rattle.bihash_words.specs.declared.patch.Change.TheVariants.{Set, Remove};
 ghost use Rattle.bihash_steps.specs.Seats.{with_view};
@@ -24,8 +24,8 @@ use bihash_steps::{Caller, CallerSeat, Event, Row};
 use bihash_words::{BlockSize, BucketWord, Change, Expiry, Reply, Shape};
 use std::marker::Brand;
 
-/// Enters a new pair that finds no place in the block that was seen: the block grows, or an expired pair makes
-/// room, or the call is refused.
+/// Enters a new pair that finds no place in the block that was seen: the bucket changes to a larger block, or an
+/// expired pair makes room, or the call is refused.
 #[inline(never)]
 pub(crate) fn enter_larger<S: Shape, E: Expiry>(
     row: &Row<S>,
@@ -43,7 +43,8 @@ pub(crate) fn enter_larger<S: Shape, E: Expiry>(
     enter_as_planned(row, seat, seen, entrant, old, new)
 }
 
-/// The same, with room for all pairs of a bucket twice: as they stand, and as they will stand.
+/// Enters a new pair by a change to a larger block, where the plan is one, and else recycles or refuses. The lists have
+/// room for all pairs of a bucket, as they stand and as they will stand.
 fn enter_as_planned<S: Shape, E: Expiry>(
     row: &Row<S>,
     seat: &mut CallerSeat<S>,
@@ -70,7 +71,7 @@ fn enter_as_planned<S: Shape, E: Expiry>(
     enter(row, seat, seen, entrant.value, size, new)
 }
 
-/// Gives the bucket a block of this size, in which its pairs and the new one are laid out.
+/// By a change of block the bucket gets one of this size, in which its pairs and the new one are laid out.
 fn enter<S: Shape>(
     row: &Row<S>,
     seat: &mut CallerSeat<S>,
@@ -122,7 +123,7 @@ fn enter<S: Shape>(
     }
 }
 
-/// Gives back the block that the bucket of this word had, if any, and opens the allocation lock.
+/// Ends a change of block: gives back the one that the bucket of this word had, if any, and opens the allocation lock.
 fn leave_store<S: Shape>(row: &Row<S>, seat: &mut CallerSeat<S>, word: BucketWord)
     requires { MayLeave (sizes_of S.Shape) row.now seat.old word }
     ensures same { seat.new ≡ with_view seat.old seat.new.view }
@@ -132,7 +133,7 @@ fn leave_store<S: Shape>(row: &Row<S>, seat: &mut CallerSeat<S>, word: BucketWor
     row.pool_unlock(seat);
 }
 
-/// Gives back the block that the bucket of this word had, if any.
+/// Gives back, after a change of block, the one that the bucket of this word had, if any.
 fn give_back_old<S: Shape>(row: &Row<S>, seat: &mut CallerSeat<S>, word: BucketWord)
     requires { MayLeave (sizes_of S.Shape) row.now seat.old word }
     ensures { GivenBack seat.old seat.new }
@@ -144,7 +145,7 @@ fn give_back_old<S: Shape>(row: &Row<S>, seat: &mut CallerSeat<S>, word: BucketW
     give_back(row, seat, word.log2(), page);
 }
 
-/// Removes the last pair of a bucket, and gives its block back.
+/// Removes the last pair of a bucket, which changes from its block to none, and gives the block back.
 #[inline(never)]
 pub(crate) fn remove_last<S: Shape>(
     row: &Row<S>,

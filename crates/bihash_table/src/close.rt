@@ -51,7 +51,7 @@ impl<S: Shape> Sessions<S> {
     }
 }
 
-/// The pairs of all buckets, one bucket after the other.
+/// The pairs of all buckets of a table that is closed, one bucket after the other.
 fn read_all<S: Shape>(
     row: &Row<S>,
     seat: &mut CallerSeat<S>,
@@ -72,7 +72,7 @@ fn read_all<S: Shape>(
     Ok(pairs)
 }
 
-/// Adds the pairs of the block that the word of its bucket names.
+/// Adds to the pairs of a table that is closed those of the block that the word of its bucket names.
 fn read_pairs<S: Shape>(
     row: &Row<S>,
     words: &[u64],
@@ -94,7 +94,7 @@ fn read_pairs<S: Shape>(
     Ok(())
 }
 
-/// The key and the value of a place of that block.
+/// The key and the value of a place of a bucket's block, by the words of a table that is closed.
 fn pair_at<S: Shape>(row: &Row<S>, words: &[u64], word: BucketWord, place: usize) -> (S::Key, u64)
     requires { HasBlockIn (sizes_of S.Shape) words.now word (place + 1) }
     ensures { OfBlockIn (sizes_of S.Shape) words.now word (StandsAt ⟦<S as Shape>⟧ place result) }
@@ -105,7 +105,7 @@ fn pair_at<S: Shape>(row: &Row<S>, words: &[u64], word: BucketWord, place: usize
     (S::key(&words[at..end]), words[end])
 }
 
-/// Sorts pairs by the words of their keys, in place.
+/// Sorts the pairs of a closed table by the words of their keys, in place.
 fn sort<S: Shape>(pairs: &mut Vec<(S::Key, u64)>)
     ensures same { IsPermutation pairs.old.items pairs.new.items }
     ensures sorted { 1 ≤ S.WORDS → IsSortedBy (λ p q. is_lt (slice_cmp nat_cmp (S.words_of p.0) (S.words_of q.0))) pairs.new.items }

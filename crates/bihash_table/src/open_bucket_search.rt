@@ -37,7 +37,7 @@ pub(crate) fn find_pair<S: Shape>(
     pair_in_pages(row, seat, word, hashed)
 }
 
-/// The value of the pair that was found.
+/// The value of the pair that a search of an open bucket's block found.
 pub(crate) fn value_found(pair: Option<(usize, u64)>) -> Option<u64>
     ensures { result ≡ value_of pair }
 {
@@ -119,8 +119,8 @@ fn open_pages<S: Shape>(word: BucketWord, hashed: &HashedKey<'_, S>) -> (usize, 
     (page, page + 1)
 }
 
-// The place and the value of the key's pair among the four places of a page. Where the last word of the
-// key stands is found without a branch for each place, and mostly it is at the pair or nowhere.
+// The place and the value of the key's pair in a page of an open bucket's block. Where the last word of the key stands
+// is found without a branch for each place, and mostly it is at the pair or nowhere.
 #[inline(always)]
 fn pair_in_page<S: Shape>(
     row: &Row<S>,
@@ -145,7 +145,7 @@ fn pair_in_page<S: Shape>(
     None
 }
 
-// The same, page by page, as a linear block wants it.
+// The place and the value of the key's pair in an open bucket's block, page by page, as a linear block wants it.
 #[inline(never)]
 fn pair_in_pages<S: Shape>(
     row: &Row<S>,
@@ -166,7 +166,7 @@ fn pair_in_pages<S: Shape>(
     None
 }
 
-// How many of four marks are set. Their sum is compared at once.
+// How many of the four marks are set that a search of an open bucket's page makes. Their sum is compared at once.
 fn count_marks(marks: (bool, bool, bool, bool)) -> u64
     ensures { result ≡ set_count marks }
 {
@@ -174,7 +174,7 @@ fn count_marks(marks: (bool, bool, bool, bool)) -> u64
     u64::from(a) + u64::from(b) + u64::from(c) + u64::from(d)
 }
 
-// Which of four marks is the first that is set, where one is.
+// Which of the four marks that a search of an open bucket's page makes is the first that is set, where one is.
 fn first_mark(marks: (bool, bool, bool, bool)) -> usize
     ensures first { result ≡ first_set marks }
     ensures inside { result < 4 }
@@ -191,7 +191,7 @@ fn first_mark(marks: (bool, bool, bool, bool)) -> usize
     }
 }
 
-// The marks but the first that is set.
+// The marks that a search of an open bucket's page makes, but the first that is set.
 fn later_marks(marks: (bool, bool, bool, bool)) -> (bool, bool, bool, bool)
     ensures { result ≡ later_set marks }
 {
@@ -199,7 +199,7 @@ fn later_marks(marks: (bool, bool, bool, bool)) -> (bool, bool, bool, bool)
     (false, a && b, (a || b) && c, (a || b || c) && d)
 }
 
-// At which of the four places of a page the last word of the key stands.
+// At which of the four places of a page of an open bucket's block the last word of the searched key stands.
 fn marks<S: Shape>(
     row: &Row<S>,
     seat: &mut CallerSeat<S>,
@@ -217,7 +217,7 @@ fn marks<S: Shape>(
     (a, b, c, d)
 }
 
-// Whether the last word of the key is at a place.
+// Whether the last word of the searched key is at a place of the open bucket's block.
 fn has_last<S: Shape>(
     row: &Row<S>,
     seat: &mut CallerSeat<S>,
@@ -232,8 +232,8 @@ fn has_last<S: Shape>(
     load_word(row, seat, word, place, S::WORDS - 1) == hashed.last
 }
 
-// The value of the key's pair at a place where the last word of the key stands. A free place may show the
-// words of any key.
+// The value of the searched key's pair at a place of the open bucket's block where the last word of the key stands. A
+// free place may show the words of any key.
 fn value_at<S: Shape>(
     row: &Row<S>,
     seat: &mut CallerSeat<S>,

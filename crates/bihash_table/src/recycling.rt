@@ -51,7 +51,7 @@ pub(crate) fn recycle_or_refuse<S: Shape, E: Expiry>(
     Ok(replace(row, seat, seen, entrant, &going))
 }
 
-/// Refuses a new key for want of room, where the bucket still has the word that was seen.
+/// Refuses a new key for which no expired pair can be recycled, where the bucket still has the word that was seen.
 fn refuse<S: Shape, E: Expiry>(
     row: &Row<S>,
     seat: &mut CallerSeat<S>,
@@ -74,7 +74,7 @@ fn refuse<S: Shape, E: Expiry>(
     Ok(Reply::Full)
 }
 
-/// Enters a pair of a new key where an expired one stands.
+/// Enters a pair of a new key by recycling the place of an expired one.
 fn replace<S: Shape, E: Expiry>(
     row: &Row<S>,
     seat: &mut CallerSeat<S>,

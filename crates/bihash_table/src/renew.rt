@@ -45,7 +45,7 @@ impl<S: Shape> Sessions<S> {
     }
 }
 
-/// A row that begins with what this one came to.
+/// The row of the renewed table, which begins with what this one came to, and its caller 1.
 fn reopen<S: Shape>(
     row: &Row<S>,
     caller: &mut Caller<S>,
@@ -61,7 +61,7 @@ fn reopen<S: Shape>(
     reopen_row(alloc, row, caller, words.as_slice())
 }
 
-/// All words of the row, which a lone caller notes.
+/// Reads all words of a table, to renew or close it; a lone caller notes them.
 pub(crate) fn read_words<S: Shape>(
     row: &Row<S>,
     seat: &mut CallerSeat<S>,

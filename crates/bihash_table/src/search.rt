@@ -43,7 +43,8 @@ impl<S: Shape> Sessions<S> {
         Err(Contended)
     }
 
-    /// The same. It tries again until no other caller holds the bucket's lock or changes it meanwhile.
+    /// The value of the key, `None` where it is absent. The search is tried again until no other caller holds the
+    /// bucket's lock or changes it meanwhile.
     pub fn search<R: Wait>(&self, rt: &R, caller: &mut Caller<S>, key: &S::Key) -> Option<u64>
         requires { IsIdle self.now.row caller.old.seat }
         ensures { TellsSearch ⟦<S as Shape>⟧ caller.old.seat caller.new.seat key.now result }

@@ -15,7 +15,7 @@ pub struct Sessions<S: Shape> {
     pub row: Row<S>,
 }
 
-/// A new table and its caller 1, which is lone and has made no call. `Memory`: memory was refused.
+/// A new shared table and its caller 1, which is lone and has made no call. `Memory`: memory was refused.
 pub fn create<S: Shape>(alloc: Global) -> Result<(Sessions<S>, Caller<S>), CreateFault>
     requires sound { IsSound (sizes_of S.Shape) }
     ensures first { IfOk result (λ r. (r.1.seat.row ≡ r.0.row) × (r.1.seat.view ≡ first_view (sizes_of S.Shape))) }

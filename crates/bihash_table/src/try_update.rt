@@ -1,16 +1,16 @@
 //! Updates, one try each.
-ghost use Rattle.std.specs.Prelude.{◌≡◌, ◌≢◌, true, false, None, Option, Some};
+ghost use Rattle.std.specs.Prelude.{◌≡◌, ◌≢◌, true, false, None, Some};
 ghost use Rattle.bihash_words.specs.Maps.{effect_of};
 ghost use Rattle.bihash_words.specs.Patches.{IsStorable};
 ghost use Rattle.bihash_words.specs.declared.patch.Change.TheVariants.{Keep};
 ghost use Rattle.bihash_steps.specs.CallerCalls.{IsIdle};
 ghost use Rattle.bihash_table.specs.Calls.{TellsRecycleTry, TellsUpdateTry};
 ghost use Rattle.bihash_table.specs.inner.OpenReads.{value_of};
-ghost use Rattle.bihash_table.specs.inner.Seen.{Found, WantsChange};
+ghost use Rattle.bihash_table.specs.inner.Seen.{Found, MayReply, WantsChange};
 ghost use Rattle.bihash_table.specs.Tries.{Tried, TriedOver};
 
 use crate::bucket_lock::{load_unlocked, lock_if_unchanged};
-use crate::change_in_place::{answer, fill, overwrite, remove};
+use crate::change_in_place::{fill, overwrite, remove};
 use crate::change_of_block::enter_larger;
 use crate::contended::Contended;
 use crate::entered_value::Entrant;
@@ -19,8 +19,9 @@ use crate::never_expired::Never;
 use crate::open_bucket_search::{find_free, find_pair, value_found};
 use crate::shared_table::Sessions;
 use crate::worn_bucket::is_worn;
-use bihash_steps::{Caller, CallerSeat, Row};
+use bihash_steps::{Caller, CallerSeat, Event, Row};
 use bihash_words::{Change, Expiry, Patch, Reply, Shape};
+use std::marker::Brand;
 
 impl<S: Shape> Sessions<S> {
     /// Decides once on the value of the key, and makes the change that was decided. The answers come in
@@ -39,9 +40,9 @@ impl<S: Shape> Sessions<S> {
         self.try_add_or_recycle(caller, key, patch, &Never)
     }
 
-    /// The same, but where the answer would be `Full`, the new pair takes the place of the expired pair of the bucket
-    /// with the least key by its words, first word first, and the answer is `Changed(None)`. It is `Full` where no
-    /// pair of the bucket is expired.
+    /// Tries an update once as `try_update` does, but where the answer would be `Full`, the new pair takes the place of
+    /// the expired pair of the bucket with the least key by its words, first word first, and the answer is
+    /// `Changed(None)`. It is `Full` where no pair of the bucket is expired.
     #[inline(always)]
     pub fn try_add_or_recycle<P: Patch, E: Expiry>(
         &self,
@@ -67,7 +68,7 @@ impl<S: Shape> Sessions<S> {
     }
 }
 
-// Makes the change that was decided on what was found, where it is one and the version isn't used up.
+// Makes the change that a try of an update decided on what it found, where it is one and the version isn't used up.
 #[inline(always)]
 fn make<S: Shape, E: Expiry>(
     row: &Row<S>,
@@ -96,7 +97,7 @@ fn make<S: Shape, E: Expiry>(
     }
 }
 
-// Whether a change of what was found leaves it.
+// Whether the change that a try of an update decided on leaves what it found.
 fn is_idle(change: Change, found: Option<u64>) -> bool
     ensures yes { result ≡ true → effect_of change found ≡ Keep }
     ensures no { result ≡ false → effect_of change found ≢ Keep }
@@ -109,7 +110,31 @@ fn is_idle(change: Change, found: Option<u64>) -> bool
     }
 }
 
-// Gives the key's pair another value, or removes it.
+// Gives a reply that is no write and leaves the block in place, where the bucket still has the word that was seen.
+fn answer<S: Shape>(
+    row: &Row<S>,
+    seat: &mut CallerSeat<S>,
+    seen: &SeenBucket<'_, S>,
+    found: Option<u64>,
+    change: Change,
+    reply: Reply,
+) -> Result<Reply, Contended>
+    requires { MayReply ⟦<S as Shape>⟧ row.now seat.old seen.now found change reply }
+    ensures { Tried ⟦<S as Shape>⟧ seat.old seat.new seen.now.hashed.key.now found change result }
+{
+    let event = Event {
+        key: seen.hashed.key,
+        found,
+        change,
+        reply,
+    };
+    if !row.validate::<Brand, Event<'_, S>>(seat, seen.hashed.bucket, seen.word, &event) {
+        return Err(Contended);
+    }
+    Ok(reply)
+}
+
+// Gives another value to the pair that a try of an update found, or removes it.
 #[inline(always)]
 fn change_pair<S: Shape>(
     row: &Row<S>,
@@ -133,7 +158,7 @@ fn change_pair<S: Shape>(
     }
 }
 
-// Enters a pair of a new key: at a free place that is open to it, or in a larger block.
+// Enters a pair of a new key, as a try of an update decided: at a free place that is open to it, or in a larger block.
 #[inline(always)]
 fn enter_new<S: Shape, E: Expiry>(
     row: &Row<S>,

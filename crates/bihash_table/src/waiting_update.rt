@@ -12,8 +12,8 @@ use crossbeam_utils::Backoff;
 use std::sync::Wait;
 
 impl<S: Shape> Sessions<S> {
-    /// Decides once on the value of the key, and makes the change that was decided. It tries again until
-    /// no other caller holds a lock or changes the bucket meanwhile.
+    /// Decides once on the value of the key, and makes the change that was decided. It waits, and tries again until no
+    /// other caller holds a lock or changes the bucket meanwhile.
     #[inline(always)]
     pub fn update<P: Patch, R: Wait>(
         &self,
@@ -35,8 +35,8 @@ impl<S: Shape> Sessions<S> {
         unreachable!()
     }
 
-    /// The same, but a new key that finds no room takes the place of the expired pair of the bucket with the least
-    /// key, if any: the answer is `Changed(None)` then.
+    /// An update that waits for its turn, and by which a new key that finds no room takes the place of the expired pair
+    /// of the bucket with the least key, if any: the answer is `Changed(None)` then.
     #[inline(always)]
     pub fn add_or_recycle<P: Patch, E: Expiry, R: Wait>(
         &self,
@@ -60,7 +60,7 @@ impl<S: Shape> Sessions<S> {
         unreachable!()
     }
 
-    /// Sets the value, whatever was found.
+    /// Sets the value, whatever was found, by an update that waits for its turn.
     pub fn add<R: Wait>(&self, rt: &R, caller: &mut Caller<S>, key: &S::Key, value: u64) -> Reply
         requires idle { IsIdle self.now.row caller.old.seat }
         requires storable { value ≢ free_mark }
@@ -69,7 +69,7 @@ impl<S: Shape> Sessions<S> {
         self.update(rt, caller, key, &Add { value })
     }
 
-    /// Sets the value where there is none, and keeps one that is there.
+    /// Sets the value where there is none, and keeps one that is there, by an update that waits for its turn.
     pub fn add_if_absent<R: Wait>(
         &self,
         rt: &R,
@@ -84,7 +84,7 @@ impl<S: Shape> Sessions<S> {
         self.update(rt, caller, key, &AddIfAbsent { value })
     }
 
-    /// Sets the value where there is one.
+    /// Sets the value where there is one, by an update that waits for its turn.
     pub fn touch<R: Wait>(&self, rt: &R, caller: &mut Caller<S>, key: &S::Key, value: u64) -> Reply
         requires idle { IsIdle self.now.row caller.old.seat }
         requires storable { value ≢ free_mark }
@@ -93,7 +93,7 @@ impl<S: Shape> Sessions<S> {
         self.update(rt, caller, key, &Touch { value })
     }
 
-    /// Removes the value.
+    /// Removes the value, by an update that waits for its turn.
     pub fn remove<R: Wait>(&self, rt: &R, caller: &mut Caller<S>, key: &S::Key) -> Reply
         requires { IsIdle self.now.row caller.old.seat }
         ensures { TellsUpdate ⟦<S as Shape>⟧ caller.old.seat caller.new.seat key.now (λ _. Remove) result }

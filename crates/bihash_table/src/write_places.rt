@@ -50,7 +50,7 @@ fn write_place<S: Shape>(
     row.store_held(seat, page, first + S::WORDS, value);
 }
 
-/// How many words of a key a place with this value shows. A store costs far more than a load, and the key of a
+/// How many words of a key are written at a place with this value. A store costs far more than a load, and the key of a
 /// free place means nothing.
 fn shown_word_count<S: Shape>(value: u64) -> usize
     ensures few { result ≤ S.WORDS }

@@ -3,7 +3,7 @@ ghost use Rattle.std.specs.Prelude.{◌≡◌};
 ghost use Rattle.bihash_words.specs.Hash;
 ghost use Rattle.bihash_words.specs.Hash.{hash_of};
 
-/// Mixes the bits of a word. This is the last step of the generator SplitMix64.
+/// Mixes the bits of a word, for the hash of words. This is the last step of the generator SplitMix64.
 pub fn mix(z: u64) -> u64
     ensures { result ≡ Hash.mix z }
 {

@@ -3,35 +3,39 @@
 #![tactic(auto)]
 
 mod block_size;
+mod bounded_map_laws;
 mod bucket_of_key;
 mod bucket_word;
+mod bucket_word_laws;
 mod expiry;
 mod flow_shapes;
 mod hash;
-mod map_laws;
+mod hash_laws;
+mod key_order;
 mod patch;
 mod recycling_note;
 mod shape;
 mod shape_laws;
 mod tiny_shape;
-mod word_laws;
 
 pub use block_size::BlockSize;
-pub use bucket_of_key::bucket_of;
-pub use bucket_word::BucketWord;
-pub use expiry::Expiry;
-pub use flow_shapes::{ShapeV4, ShapeV6};
-pub use hash::mix;
-pub use map_laws::{
+pub use bounded_map_laws::{
     each_call_has_one_answer, maps_stay_bounded, other_keys_stay, refusals_change_nothing,
     replies_tell_what_was_found, runs_join_and_part, taken_values_stand,
     the_least_expired_key_goes,
 };
+pub use bucket_of_key::bucket_of;
+pub use bucket_word::BucketWord;
+pub use bucket_word_laws::words_pack_exactly;
+pub use expiry::Expiry;
+pub use flow_shapes::{ShapeV4, ShapeV6};
+pub use hash::mix;
+pub use hash_laws::mix_has_its_published_values;
+pub use key_order::{compare, is_same};
 pub use patch::{Add, AddIfAbsent, Change, Delete, FREE, Patch, Reply, Touch};
 pub use recycling_note::Recycling;
-pub use shape::{PAGE_PLACES, Shape, compare, is_same};
+pub use shape::{PAGE_PLACES, Shape};
 pub use shape_laws::{
     flow_shapes_are_sound, flow_shapes_have_their_sizes, tiny_has_its_sizes, tiny_is_sound,
 };
 pub use tiny_shape::Tiny;
-pub use word_laws::{mix_has_its_published_values, words_pack_exactly};

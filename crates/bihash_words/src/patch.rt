@@ -1,5 +1,5 @@
 //! What an update decides on a stored value, what it answers, and the four fixed decisions.
-ghost use Rattle.std.specs.Prelude.{◌≡◌, ◌≢◌, ℕ, ◌-◌, Option};
+ghost use Rattle.std.specs.Prelude.{◌≡◌, ◌≢◌, ℕ, Option};
 ghost use Rattle.bihash_words.specs.declared.patch.Change.{Change};
 ghost use Rattle.bihash_words.specs.declared.patch.Change.TheVariants.{Set, Remove};
 ghost use Rattle.bihash_words.specs.Patches.{IsStorable, free_mark, set_if_absent, set_if_present};

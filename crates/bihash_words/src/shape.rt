@@ -1,9 +1,5 @@
 //! The shape of a table: how large it is, and what its keys are.
-ghost use Rattle.std.specs.Prelude.{◌≡◌, ◌↔◌, ◌<◌, ◌≤◌, ℕ, IsTrue, List, length, slice_index};
-ghost use Rattle.std.specs.Ordering.{nat_cmp};
-ghost use Rattle.std.specs.Cmp.Lexicographic.{slice_cmp};
-
-use std::cmp::Ordering;
+ghost use Rattle.std.specs.Prelude.{◌≡◌, ◌<◌, ℕ, List, length, slice_index};
 
 /// How many places a page has.
 pub const PAGE_PLACES: usize = 4;
@@ -69,30 +65,4 @@ pub trait Shape {
 
     /// The words of a key of words are those words.
     ghost words_of_key: { (w : List ℕ) → length w ≡ WORDS → words_of (key_of w) ≡ w };
-}
-
-/// Whether two keys have the same words, and so are the same.
-pub fn is_same<S: Shape>(a: &S::Key, b: &S::Key) -> bool
-    requires { 1 ≤ S.WORDS }
-    ensures { IsTrue result ↔ (S.words_of a.now ≡ S.words_of b.now) }
-{
-    for i in 0..S::WORDS {
-        if S::word(a, i) != S::word(b, i) {
-            return false;
-        }
-    }
-    true
-}
-
-/// How two keys stand by their words, first word first.
-pub fn compare<S: Shape>(a: &S::Key, b: &S::Key) -> Ordering
-    ensures { 1 ≤ S.WORDS → result ≡ slice_cmp nat_cmp (S.words_of a.now) (S.words_of b.now) }
-{
-    for i in 0..S::WORDS {
-        let order = S::word(a, i).cmp(&S::word(b, i));
-        if order != Ordering::Equal {
-            return order;
-        }
-    }
-    Ordering::Equal
 }

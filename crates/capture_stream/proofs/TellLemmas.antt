@@ -18,14 +18,14 @@ use Rattle.packet_view.proofs.RecordListLemmas.{packets_count, records_within}
 use Rattle.flow_filter.specs.declared.verdict.Verdict.{Verdict}
 use Rattle.racl_io.specs.declared.fault.Fault.{Fault}
 use Rattle.racl_io.specs.declared.fault.Fault.TheVariants as fault
-use Rattle.racl_io.specs.declared.whole_report.Totals.{Totals}
+use Rattle.racl_io.specs.declared.report_totals.Totals.{Totals}
 use Rattle.racl_io.specs.Reports.{is_truncated, lines_from, passed, report_of, totals_line, totals_of, truncation_line}
 use Rattle.racl_io.specs.Sinks.{GotFront, HasPutFront}
 use Rattle.racl_io.proofs.ReportLemmas.{cut_at, lines_of_both, passed_of_both, totals_counted}
 use Rattle.capture_stream.specs.Lives.{HasToldAll, HasToldPart, HasToldSome, IsLiveFault, most_live, told_alone}
 use Rattle.capture_stream.specs.Telling.{AreTold, CanTell, HaveTold}
 use Rattle.capture_stream.specs.declared.live_telling.Live.{Live}
-use Rattle.capture_stream.specs.declared.judge_window.Found.{Found}
+use Rattle.capture_stream.specs.declared.windows_of_records.Found.{Found}
 use Rattle.capture_stream.specs.inner.Found.{HaveFound, behind_of}
 use Rattle.capture_stream.specs.inner.Tellings.{HasCutWindow, HasGot, HasJudgedWindow, HasToldWindow, IsCutAt, IsLive, IsPartFault, IsTold, IsWindowFault, MayTell, end_text, totals_with}
 

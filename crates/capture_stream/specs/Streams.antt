@@ -8,7 +8,7 @@ use Rattle.racl_io.specs.Inputs.{most_bytes}
 use Rattle.capture_stream.specs.Judging.{HaveFollowed}
 use Rattle.capture_stream.specs.declared.stream_judging.Opening.{Opening}
 use Rattle.capture_stream.specs.declared.stream_judging.Streamed.{Streamed}
-use Rattle.capture_stream.specs.declared.judge_window.WindowSize.{WindowSize}
+use Rattle.capture_stream.specs.declared.windows_of_records.WindowSize.{WindowSize}
 
 -- the bytes from the first record on, where these were read after the opening
 abbrev pub records_in : Opening → List ℕ → List ℕ

@@ -1,11 +1,11 @@
 //! A capture whose packets are told while they come.
-ghost use Rattle.std.specs.Prelude.{◌≡◌, ◌+◌, ◌-◌, ◌<◌, ◌≤◌, ◌^◌, [], IfOk, MatchResult};
+ghost use Rattle.std.specs.Prelude.{◌≡◌, ◌-◌, ◌<◌, ◌≤◌, ◌^◌, [], IfOk, MatchResult};
 ghost use Rattle.racl_io.specs.Sinks.{HasPutFront};
 ghost use Rattle.capture_stream.specs.Lives.{HasToldAll, IsLiveFault, with_read, with_write};
 ghost use Rattle.capture_stream.specs.inner.Tellings.{HasGot, HasJudgedWindow, HasToldWindow, IsCutAt, IsLongAt, IsPartFault, IsWindowFault, MayTell, end_text, totals_with};
 
-use crate::judge_window::{Found, find_records};
 use crate::telling_judges::Tellers;
+use crate::windows_of_records::{Found, find_records};
 use flow_filter::Verdict;
 use packet_view::{Order, Packets, Records, Stop};
 use racl_io::{
@@ -38,7 +38,7 @@ pub struct Live<J> {
     pub read: usize,
 }
 
-// The packets of the whole records in the window are judged. What is behind them is the next window.
+// Of a live capture the packets of whole records in the window are judged. What is behind them is the next window.
 fn judge_window<J: Tellers + Drop>(
     live: Live<J>,
 ) -> Result<(Live<J>, Vec<Verdict>, Stop), AllocError>
@@ -84,7 +84,7 @@ fn judge_window<J: Tellers + Drop>(
     }
 }
 
-// The packets of the whole records in the window are judged, and their lines written.
+// Of a live capture the packets of whole records in the window are judged, and their lines written.
 fn tell_window<J: Tellers + Drop, W: Sink>(
     writer: &mut W,
     piece: &mut Piece,
@@ -112,7 +112,7 @@ fn tell_window<J: Tellers + Drop, W: Sink>(
     }
 }
 
-// Whether a capture that ends here, where its records stop after so many packets, ends within one.
+// Whether a live capture that ends here, where its records stop after so many packets, ends within one.
 fn cut_at(stop: Stop, packets: usize) -> Result<bool, Fault>
     requires { packets < 2 ^ 63 }
     ensures { MatchResult result (IsCutAt stop) (IsLongAt stop packets) }
@@ -124,7 +124,7 @@ fn cut_at(stop: Stop, packets: usize) -> Result<bool, Fault>
     }
 }
 
-// Some bytes that are there are read behind the window, and none only at the end: how many they are.
+// Some bytes of a live capture that are there are read behind the window, and none only at its end: how many they are.
 fn read_part<R: Source>(reader: &mut R, window: &mut Vec<u8>) -> Result<usize, Fault>
     requires { R.failures reader.old < 2 ^ 64 - 1 }
     ensures got { MatchResult result (HasGot (R.bytes reader.old) (R.bytes reader.new) window.old.items window.new.items) (IsPartFault (R.bytes reader.old) (R.bytes reader.new)) }
@@ -140,7 +140,7 @@ fn read_part<R: Source>(reader: &mut R, window: &mut Vec<u8>) -> Result<usize, F
     Ok(n)
 }
 
-// The totals over the packets that were told.
+// The totals over the packets of a live capture that were told.
 fn totals_at<J>(live: &Live<J>, truncated: bool) -> Totals
     requires { live.now.passed ≤ live.now.packets }
     ensures { result ≡ totals_with live.now.packets live.now.passed truncated }
@@ -154,7 +154,7 @@ fn totals_at<J>(live: &Live<J>, truncated: bool) -> Totals
     }
 }
 
-// What stands behind the lines of all packets.
+// What stands behind the lines of all packets of a live capture.
 fn write_end<W: Sink>(writer: &mut W, piece: &mut Piece, totals: &Totals) -> Result<(), Fault>
     requires { W.failures writer.old < 2 ^ 64 - 1 }
     ensures { HasPutFront W.bytes W.failures writer.old writer.new (end_text totals.now) result }

@@ -5,8 +5,8 @@ ghost use Rattle.racl_io.specs.Transfers.{HasReadWithin};
 ghost use Rattle.capture_stream.specs.Streams.{HasStreamed, IsSize, IsStreamFault, MayStream};
 ghost use Rattle.capture_stream.specs.inner.Walks.{HasAdvanced, HasEnded, IsLastFault, IsWindowFault, MayAdvance};
 
-use crate::judge_window::{Found, NextWindow, WindowSize, find_records, judge_and_read};
 use crate::packet_judges::Judges;
+use crate::windows_of_records::{Found, NextWindow, WindowSize, find_records, judge_and_read};
 use packet_view::{Order, Packets, Records, Stop};
 use racl_io::{Fault, MOST_BYTES, ReadBuffer, Source, drain};
 use std::alloc::Global;
@@ -58,7 +58,7 @@ struct Walk<J> {
     ended: bool,
 }
 
-// A window is judged, and the next one is read.
+// A window of a capture's stream is judged, and the next one is read.
 fn next_window<J: Judges + Drop, T: Threads, R: Source + Send>(
     beside: Option<&T>,
     reader: &mut R,
@@ -132,7 +132,7 @@ fn next_window<J: Judges + Drop, T: Threads, R: Source + Send>(
     })
 }
 
-// The last window is judged.
+// The last window of a capture's stream is judged.
 fn last_window<J: Judges + Drop>(walk: Walk<J>) -> Result<Streamed<J>, Fault>
     requires may { MayAdvance J.became walk }
     ensures { MatchResult result (HasEnded J.became walk) (IsLastFault walk) }

@@ -17,7 +17,7 @@ ghost use Rattle.flow_filter.specs.Readings.{AreReadings, IsReading, Reading, Ru
 ghost use Rattle.flow_filter.specs.Updates.{Update, update_of};
 ghost use Rattle.flow_filter.specs.Verdicts.{passes};
 
-/// A policy reads each packet, and in one way.
+/// A policy reads each packet, and in one way: its verdict follows from this reading and from what its bucket holds.
 pub fn each_packet_has_one_reading()
     ensures some { (policy : PolicyFacts) (packet : PacketFacts) → (reading : Reading) × IsReading policy packet reading }
     ensures one { (policy : PolicyFacts) (packet : PacketFacts) (a b : Reading)
@@ -29,7 +29,7 @@ pub fn each_packet_has_one_reading()
 {}
 
 /// Packets that are judged one after the other are judged in one way: their readings and what the buckets
-/// hold at first give the event of each.
+/// hold at first give the event of each, and so its verdict.
 pub fn each_list_is_judged_once()
     ensures some { (l : Layout) (times : Timeouts) (opening : Home → Pairs) (readings : List Reading)
         → (js : List Judged) × (readings_of js ≡ readings) × IsOneThread l times opening js }
@@ -65,8 +65,8 @@ pub fn packets_pass_by_rule_or_session()
         × ((passes (verdict_on times j) ≡ true) ↔ (HoldsLive u m ⊎ LetsThrough u n ruling)) }
 {}
 
-/// A packet is dropped as full exactly where it would start a session and its bucket, which may still change, has its
-/// most sessions, all of which are live and none of which is of its flow.
+/// A packet gets the verdict `full` exactly where it would start a session and its bucket, which may still change, has
+/// its most sessions, all of which are live and none of which is of its flow.
 pub fn full_buckets_hold_live_sessions()
     ensures flow { (times : Timeouts) (moment : ℕ) (tuple : TupleFacts) (ruling : Ruling) (u : Update) (b : Bounds) (m n : Pairs)
         (w : ℕ) (e : Event) → update_of times (Ruled moment tuple ruling) ≡ Some u → IsEventOf u e → IsEvent b m w e n
@@ -78,8 +78,8 @@ pub fn full_buckets_hold_live_sessions()
         × ((verdict_on times j ≡ Full) ↔ FindsNoRoom u (bounds_in l (home_of l u.key).family) m left.0) }
 {}
 
-/// In a full bucket a packet's new session takes the place of one that isn't live at the packet's moment, and of those
-/// the one with the least key.
+/// Where the filter starts a packet's session in a full bucket, this takes the place of one that isn't live at the
+/// packet's moment, and of those the one with the least key.
 pub fn only_expired_sessions_make_room()
     ensures { (u : Update) (b : Bounds) (m n : Pairs) (w : ℕ) (e : Event) (gone : List ℕ) → IsEventOf u e
         → IsEvent b m w e n → e.recycling.removed ≡ Some gone → MakesRoom u m gone }

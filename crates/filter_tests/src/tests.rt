@@ -3,16 +3,16 @@ use session_state::Timeouts;
 use std::test::Fail;
 
 mod captures;
-mod dealing;
+mod dealing_by_flow;
+mod dealt_packets;
 mod filters;
 mod frames;
 mod index;
-mod late_rules;
+mod lazy_patches;
 mod matching;
 mod policies;
+mod session_tables;
 mod sessions;
-mod shares;
-mod tables;
 mod workers;
 
 /// The range of all ports, types and codes.
@@ -25,7 +25,7 @@ const TIMES: Timeouts = Timeouts {
     udp: 600,
 };
 
-// A test that ends since what it begins with was refused.
+// What tests of policies, filters, dealing and workers answer where what they begin with was refused.
 fn refused() -> Result<(), Fail> {
     Err("what the test begins with was refused")?
 }

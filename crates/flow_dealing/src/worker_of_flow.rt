@@ -9,6 +9,7 @@ use crate::dealing::Dealing;
 use bihash_words::{Shape, bucket_of};
 use session_state::{Flow, FlowKey};
 
+// The bucket by which the packets of a flow get their worker, by the words of the flow's key.
 fn bucket_in<S: Shape>(words: &[u64]) -> u64
     requires sound { IsSound (sizes_of ⟦<S as Shape>⟧) }
     requires counted { length words.now ≡ S.WORDS }
@@ -17,6 +18,7 @@ fn bucket_in<S: Shape>(words: &[u64]) -> u64
     bucket_of::<S>(&S::key(words))
 }
 
+// The bucket by which the packets of a flow get their worker, in the table of the flow's family.
 fn bucket<A: Shape, B: Shape>(key: FlowKey) -> u64
     requires four { IsSound (sizes_of ⟦<A as Shape>⟧) }
     requires six { IsSound (sizes_of ⟦<B as Shape>⟧) }
@@ -29,7 +31,8 @@ fn bucket<A: Shape, B: Shape>(key: FlowKey) -> u64
     }
 }
 
-// By a power of two that the compiler knows this takes no division, and workers are often so many.
+// The worker of a flow's bucket. By a power of two that the compiler knows this takes no division, and workers are
+// often so many.
 fn remainder(bucket: u64, workers: u64) -> u64
     requires some { 0 < workers }
     ensures is { result ≡ bucket % workers }

@@ -1,6 +1,6 @@
 -- A filter at hand, as what it goes by.
 use Rattle.acl_policy.specs.Policies.{SectionFacts}
-use Rattle.flow_filter.specs.declared.filter.InterfaceFilter.{InterfaceFilter}
+use Rattle.flow_filter.specs.declared.interface_filters.InterfaceFilter.{InterfaceFilter}
 use Rattle.flow_filter.specs.Rulesets.{rules_in}
 
 -- the section that a filter at an interface goes by

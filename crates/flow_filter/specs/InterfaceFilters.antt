@@ -2,7 +2,7 @@
 use Rattle.std.specs.Prelude.{◌≡◌, ◌<◌, ℕ, List, length, slice_index_or}
 use Rattle.acl_policy.specs.Policies.{PolicyFacts, section_of}
 use Rattle.session_state.specs.declared.timeouts.Timeouts.{Timeouts}
-use Rattle.flow_filter.specs.declared.filter.InterfaceFilter.{InterfaceFilter}
+use Rattle.flow_filter.specs.declared.interface_filters.InterfaceFilter.{InterfaceFilter}
 use Rattle.flow_filter.specs.Filters.{section_in}
 
 -- the filter goes by what the policy says of the interface with this number

@@ -10,7 +10,7 @@ ghost use Rattle.flow_filter.specs.Filters.{section_in};
 ghost use Rattle.flow_filter.specs.PacketFlows.{IsRulingOn};
 ghost use Rattle.flow_filter.specs.Rulesets.{rules_in};
 
-use crate::filter::InterfaceFilter;
+use crate::interface_filters::InterfaceFilter;
 use crate::packet_flow::{PacketFlow, tuple_copy};
 use crate::ruleset::Ruleset;
 use crate::session_or_rules::Decider;
@@ -58,7 +58,8 @@ struct Decided<D: HasReading> {
     ghost few: { ForSome ruling (λ decided. decided.0 < most_rules) },
 }
 
-// Few packets of a busy flow come here, so it is kept out of their way, and what they are told by stays out of memory.
+// A lazy patch asks its rules by this, where no session of the packet is live. Few packets of a busy flow come here,
+// so it is kept out of their way, and what they are told by stays out of memory.
 #[cold]
 #[inline(never)]
 fn ask_rules(rules: Ruleset<'_>, tuple: Tuple) -> Option<(usize, Action)>

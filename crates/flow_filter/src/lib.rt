@@ -3,20 +3,20 @@
 #![tactic(auto)]
 
 mod filter;
+mod filters_made_ready;
 mod interface_filters;
 mod lazy_patch;
 mod packet_flow;
 mod rule_indexes;
 mod rule_search;
 mod ruleset;
-mod section_filter;
 mod session_or_rules;
 mod session_update;
 mod verdict;
 mod verdict_by_rules;
 
-pub use filter::{Filter, InterfaceFilter};
-pub use interface_filters::InterfaceFilters;
+pub use filter::Filter;
+pub use interface_filters::{InterfaceFilter, InterfaceFilters};
 pub use lazy_patch::{HasReading, LazyPatch};
 pub use packet_flow::{PacketFlow, tuple_copy};
 pub use rule_indexes::RuleIndexes;

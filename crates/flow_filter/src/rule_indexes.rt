@@ -18,7 +18,7 @@ pub struct RuleIndexes {
     pub outbound: Option<RuleIndex>,
 }
 
-/// The index of some rules, where it pays for this many packets.
+/// The index of a filter's rules of one direction, where it pays for this many packets.
 pub fn index_of(
     alloc: Global,
     rules: &[Rule],
@@ -33,7 +33,7 @@ pub fn index_of(
     Ok(Some(RuleIndex::new(alloc, rules)?))
 }
 
-/// The rules by their index, where they have one.
+/// A filter's rules of one direction with their index: they are searched by it, where they have one.
 pub fn searched<'a>(rules: &'a [Rule], index: &'a Option<RuleIndex>) -> Ruleset<'a>
     requires few { length rules.now ≤ most_rules }
     requires index { ForSome index.now (λ index. index.rules.items ≡ rules.now) }

@@ -1,5 +1,5 @@
 //! The one update of a packet that takes part in sessions.
-ghost use Rattle.std.specs.Prelude.{◌≡◌, ◌&&◌};
+ghost use Rattle.std.specs.Prelude.{◌≡◌};
 ghost use Rattle.session_state.specs.Decisions.{patch_facts};
 ghost use Rattle.flow_filter.specs.Updates;
 ghost use Rattle.flow_filter.specs.PacketFlows.{update_by};
@@ -26,14 +26,14 @@ fn is_tcp(fields: &Fields) -> bool
     matches!(fields, Fields::Tcp { .. })
 }
 
-// Whether the rule that decides a packet lets it enter a session.
+// Whether a packet's update may enter a session, by the rule that decides it.
 fn reflects(ruling: Option<(usize, Action)>) -> bool
     ensures { result ≡ Updates.reflects ruling }
 {
     matches!(ruling, Some((_, Action::Reflect)))
 }
 
-/// What the packet does to its flow's session, where the rules say this of it.
+/// The update that the packet makes of its flow's session, where the rules say this of it.
 pub fn patch_of(
     times: &Timeouts,
     packet: &PacketFlow<'_>,

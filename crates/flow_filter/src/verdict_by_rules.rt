@@ -31,6 +31,7 @@ pub fn verdict_of_rules(ruling: Option<(usize, Action)>) -> Verdict
     }
 }
 
+/// The verdict on a packet that reflects, by the rule that decides it and the reply to its update.
 fn verdict_reflected(ruling: Option<(usize, Action)>, reply: Reply) -> Verdict
     requires { ForSome ruling (λ decided. decided.0 < most_rules) }
     ensures { result ≡ Verdicts.verdict_reflected ruling reply }
@@ -46,7 +47,7 @@ fn verdict_reflected(ruling: Option<(usize, Action)>, reply: Reply) -> Verdict
     }
 }
 
-/// The value that an update found.
+/// The value that a packet's update found, by the reply from which its verdict follows.
 pub fn found_in(reply: Reply) -> Option<u64>
     ensures { result ≡ found_by reply }
 {
@@ -56,7 +57,7 @@ pub fn found_in(reply: Reply) -> Option<u64>
     }
 }
 
-/// The verdict on a packet whose update found no live session.
+/// The verdict by the rules on a packet whose update found no live session.
 pub fn verdict_without_session(
     patch: &PacketPatch,
     ruling: Option<(usize, Action)>,

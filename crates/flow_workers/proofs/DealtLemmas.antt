@@ -1,9 +1,10 @@
 -- A worker at packets that were dealt.
-use Rattle.std.proofs.Common.{◌≡◌, ◌≢◌, ◌∙◌, ◌+◌, ◌<◌, ◌≤◌, ℕ, zero, suc, List, [], ◌∷◌, ◌++◌, Some, ap, drop, drop-drop, length, get_or, slice_get, refl, subst, sym, arith}
+use Rattle.std.proofs.Common.{◌≡◌, ◌≢◌, ◌∙◌, ◌+◌, ◌<◌, ◌≤◌, ℕ, zero, suc, List, [], ◌∷◌, ◌++◌, Some, Ok, ap, drop, drop-drop, length, get_or, slice_get, refl, subst, sym, arith}
 use Rattle.std.specs.Prelude.{slice_index}
 use Rattle.std.proofs.lemmas.List.{drop_all, drop_more, length-drop}
 use Rattle.std.proofs.lemmas.Option.{slice_get_within}
 use Rattle.packet_view.specs.Captures.{PacketFacts}
+use Rattle.std.specs.declared.convert.Infallible.{Infallible}
 use Rattle.packet_view.specs.CheckedCaptures.{remaining}
 use Rattle.packet_view.specs.Frames.{FrameFacts, frame_facts}
 use Rattle.packet_view.specs.Interfaces.{Interface}
@@ -14,7 +15,7 @@ use Rattle.bihash_table.specs.Tries.{TookByTries}
 use Rattle.bihash_words.specs.declared.shape.Shape.{Ghosts}
 use Rattle.flow_filter.specs.Readings.{IsSeenAt}
 use Rattle.flow_filter.specs.InterfaceFilters.{IsReadyAt}
-use Rattle.flow_filter.specs.declared.filter.InterfaceFilter.{InterfaceFilter}
+use Rattle.flow_filter.specs.declared.interface_filters.InterfaceFilter.{InterfaceFilter}
 use Rattle.flow_filter.specs.declared.verdict.Verdict.{Verdict}
 use Rattle.packet_dealing.proofs.DealtLists.{next_there, some_left, stands_at, there_behind}
 use Rattle.packet_dealing.specs.Dealt.{AreDealt, IsDealtTo}
@@ -105,7 +106,7 @@ module _ {A B R G K L : Type 0} (ga : Ghosts A K) (gb : Ghosts B L) (batch : Bat
   -- and is judged by the policy
   pub judged_among : (at : ℕ) (filter : InterfaceFilter) (viewed : ViewedPacket)
       (stands : IsViewedAt batch at filter viewed) (old new : Callers A B K L ga gb) (verdict : Verdict)
-      → TellsViewed TookByTries filter viewed batch.setup.tables.now old new verdict
+      → TellsViewed {E = Infallible} TookByTries filter viewed batch.setup.tables.now old new (Ok verdict)
       → HasVerdict ga gb TookByTries batch.setup.filter.now.times (policy_of batch.setup) stands.packet old new verdict
   judged_among at filter viewed stands old new verdict tells =
       subst (λ times. HasVerdict ga gb TookByTries times (policy_of batch.setup) stands.packet old new verdict)

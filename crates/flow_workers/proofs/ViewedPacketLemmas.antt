@@ -1,15 +1,13 @@
 -- What judging a packet that was viewed tells, by what its update told, or without one.
-use Rattle.std.proofs.Common.{◌≡◌, ◌∙◌, ℕ, Bool, Option, None, Some, Ok, refl, sym}
+use Rattle.std.proofs.Common.{◌≡◌, ◌∙◌, None, Some, Ok, refl, sym}
 use Rattle.packet_view.specs.Frames.{frame_facts}
 use Rattle.bihash_words.specs.Maps.{found_by}
-use Rattle.bihash_words.specs.declared.patch.Change.{Change}
 use Rattle.bihash_words.specs.declared.patch.Reply.{Reply}
 use Rattle.bihash_words.specs.declared.shape.Shape.{Ghosts}
 use Rattle.bihash_rule.specs.declared.view.View.{View}
 use Rattle.session_state.specs.Decisions.{decision_of}
 use Rattle.session_state.specs.Sessions.{is_expired_at}
-use Rattle.session_state.specs.declared.flow.FlowKey.{FlowKey}
-use Rattle.flow_filter.specs.declared.filter.InterfaceFilter.{InterfaceFilter}
+use Rattle.flow_filter.specs.declared.interface_filters.InterfaceFilter.{InterfaceFilter}
 use Rattle.flow_filter.specs.declared.verdict.Verdict.{Verdict}
 use Rattle.flow_filter.specs.Filters.{section_in}
 use Rattle.flow_filter.specs.Judged.{verdict_with}
@@ -20,21 +18,20 @@ use Rattle.flow_workers.specs.declared.session_tables.Callers.{Callers}
 use Rattle.flow_workers.specs.declared.session_tables.Tables.{Tables}
 use Rattle.flow_workers.specs.declared.viewed_packet.ViewedPacket.{ViewedPacket}
 use Rattle.flow_workers.specs.Callers.{AreIdle}
-use Rattle.flow_workers.specs.Judging.{TookByOneTry}
 use Rattle.flow_workers.specs.inner.PacketPlans.{IsFrameRuling}
-use Rattle.flow_workers.specs.inner.Updates.{TellsFlow, TellsFlowTry}
-use Rattle.flow_workers.specs.inner.ViewedPackets.{TellsViewed, TellsViewedTry}
+use Rattle.flow_workers.specs.inner.Updates.{TellsFlow}
+use Rattle.flow_workers.specs.inner.ViewedPackets.{TellsViewed}
 use Rattle.flow_workers.proofs.JudgedPackets.{answered, reading_in, ruled_by, settled}
 use Rattle.flow_workers.proofs.ShortPackets.{flow_reply, settled_has_pages, short_packet}
 
 -- of a packet without an update, whose callers stay as they are
-pub told_settled : {A B K L : Type 0} (ga : Ghosts A K) (gb : Ghosts B L) (took : View → View → Reply → Type 0)
+pub told_settled : {A B K L E : Type 0} (ga : Ghosts A K) (gb : Ghosts B L) (took : View → View → Reply → Type 0)
     (filter : InterfaceFilter) (packet : ViewedPacket) (ruling : Ruling) (tables : Tables A B K L)
     (callers : Callers A B K L ga gb) (verdict : Verdict) → AreIdle ga gb tables callers
     → IsFrameRuling (section_in filter) (frame_facts packet.frame.now) ruling
     → (update_of filter.times (reading_in packet ruling) ≡ None)
     × (verdict ≡ verdict_with filter.times (reading_in packet ruling) None)
-    → TellsViewed took filter packet tables callers callers verdict
+    → TellsViewed {E = E} took filter packet tables callers callers (Ok verdict)
 told_settled ga gb took filter packet ruling tables callers verdict idle ruled known = record {
   same = record { four = refl; six = refl };
   idle = idle;
@@ -44,17 +41,20 @@ told_settled ga gb took filter packet ruling tables callers verdict idle ruled k
   no_pages = λ policy s seen said. absurd
       (settled_has_pages filter.times packet.moment (frame_facts packet.frame.now) ruling verdict known said);
   wanted = (λ had. had, λ had. had);
+  refused = tt;
+  lone = λ four six. refl;
+  settled = λ none. refl;
 }
 
 -- of a packet whose update told this
-pub told_answered : {A B K L : Type 0} (ga : Ghosts A K) (gb : Ghosts B L) (took : View → View → Reply → Type 0)
+pub told_answered : {A B K L E : Type 0} (ga : Ghosts A K) (gb : Ghosts B L) (took : View → View → Reply → Type 0)
     (filter : InterfaceFilter) (packet : ViewedPacket) (ruling : Ruling) (tables : Tables A B K L)
     (old new : Callers A B K L ga gb) (u : Update) (reply : Reply) (verdict : Verdict)
     → IsFrameRuling (section_in filter) (frame_facts packet.frame.now) ruling
     → update_of filter.times (reading_in packet ruling) ≡ Some u
-    → TellsFlow took tables old new u.key (decision_of u.patch) (is_expired_at filter.times packet.moment) reply
+    → TellsFlow {E = E} took tables old new u.key (decision_of u.patch) (is_expired_at filter.times packet.moment) (Ok reply)
     → verdict ≡ verdict_of u.patch ruling (found_by reply) reply
-    → TellsViewed took filter packet tables old new verdict
+    → TellsViewed {E = E} took filter packet tables old new (Ok verdict)
 told_answered ga gb took filter packet ruling tables old new u reply verdict ruled asks told said = record {
   same = told.same;
   idle = told.idle;
@@ -67,32 +67,6 @@ told_answered ga gb took filter packet ruling tables old new u reply verdict rul
       (flow_reply _ took u.key _ _ _ told.entered.1 told.idle.lawful.0.acts told.idle.lawful.1.acts)
       told.no_pages (sym said ∙ none);
   wanted = told.wanted;
-}
-
--- a try that was answered tells what an update does
-pub try_answered : {A B K L : Type 0} {ga : Ghosts A K} {gb : Ghosts B L} (tables : Tables A B K L)
-    (old new : Callers A B K L ga gb) (key : FlowKey) (decision : Option ℕ → Change) (is_expired : ℕ → Bool)
-    (reply : Reply) → TellsFlowTry tables old new key decision is_expired (Ok reply)
-    → TellsFlow TookByOneTry tables old new key decision is_expired reply
-try_answered tables old new key decision is_expired reply told =
-    record {
-      same = told.same;
-      idle = told.idle;
-      entered = told.entered;
-      no_pages = told.no_pages;
-      wanted = told.wanted;
-    }
-
--- what is told of a verdict is told by a try that gave it
-pub try_judged : {A B K L : Type 0} {ga : Ghosts A K} {gb : Ghosts B L} (filter : InterfaceFilter)
-    (packet : ViewedPacket) (tables : Tables A B K L) (old new : Callers A B K L ga gb) (verdict : Verdict)
-    → TellsViewed TookByOneTry filter packet tables old new verdict
-    → TellsViewedTry filter packet tables old new (Ok verdict)
-try_judged filter packet tables old new verdict told = record {
-  same = told.same;
-  idle = told.idle;
-  judged = told.judged;
-  no_pages = told.no_pages;
   refused = tt;
   lone = λ four six. refl;
   settled = λ none. refl;

@@ -1,85 +1,14 @@
 //! One worker: each packet that is dealt to it is judged, in the order of the file.
 ghost use Rattle.std.specs.Prelude.{◌+◌, ◌<◌, IfOk, length};
-ghost use Rattle.packet_view.specs.Captures.{packet_facts};
-ghost use Rattle.flow_workers.specs.inner.Jobs.{CanWork, HasWorked, HasWorkedOn, IsShareOf, MayJudgePacket, MayJudgeChunk, MayJudgeViewed};
+ghost use Rattle.flow_workers.specs.inner.Jobs.{CanWork, HasWorked, HasWorkedOn, IsShareOf, MayJudgeChunk};
 
 use crate::gate::Gate;
-use crate::packet_verdict::judge_as;
-use crate::viewed_packet::ViewedPacket;
+use crate::worker_packet_verdict::judge_packet;
 use crate::worker_share::{Batch, Dealt, Job, Share};
 use bihash_words::Shape;
-use flow_filter::InterfaceFilter;
-use packet_dealing::{DealtChunk, flow_of_frame};
-use packet_view::{Packet, plain_frame, view};
+use packet_dealing::DealtChunk;
 use std::alloc::AllocError;
-use std::marker::Brand;
 use std::sync::Wait;
-
-// Judges a packet of the worker, which stands at this place among those of the batch and was viewed, by the filter at its
-// interface, and says its verdict.
-#[inline(always)]
-fn record_verdict<A: Shape, B: Shape, R: Wait, G: Gate>(
-    batch: &Batch<'_, '_, '_, A, B, R, G>,
-    worker: usize,
-    at: usize,
-    filter: &InterfaceFilter<'_>,
-    packet: &ViewedPacket<'_>,
-    share: &mut Share<A, B>,
-) -> Result<(), AllocError>
-    requires { MayJudgeViewed ⟦<A as Shape>⟧ ⟦<B as Shape>⟧ batch.now worker at filter.now packet.now share.old }
-    ensures { IfOk result (λ _. HasWorkedOn ⟦<A as Shape>⟧ ⟦<B as Shape>⟧ batch.now worker at (at + 1) share.old share.new) }
-{
-    let setup = &batch.setup;
-    let number = batch.first + at;
-    setup.gate.before(worker, number);
-    let callers = &mut share.callers;
-    let verdict = judge_as::<A, B, Brand, R>(setup.rt, filter, setup.tables, callers, packet);
-    setup.gate.after(worker, number);
-    share.said.push(verdict)?;
-    Ok(())
-}
-
-// Judges a packet of the worker by the view of its frame. Few frames aren't plain, and what is done with the others is
-// shorter without this.
-#[inline(never)]
-fn judge_slow_path<A: Shape, B: Shape, R: Wait, G: Gate>(
-    batch: &Batch<'_, '_, '_, A, B, R, G>,
-    worker: usize,
-    at: usize,
-    packet: &Packet<'_>,
-    share: &mut Share<A, B>,
-) -> Result<(), AllocError>
-    requires { MayJudgePacket ⟦<A as Shape>⟧ ⟦<B as Shape>⟧ batch.now worker at (packet_facts packet.now) share.old }
-    ensures { IfOk result (λ _. HasWorkedOn ⟦<A as Shape>⟧ ⟦<B as Shape>⟧ batch.now worker at (at + 1) share.old share.new) }
-{
-    let filter = batch.setup.filter.at(packet.interface);
-    let frame = view(packet.frame, packet.interface, filter.own);
-    let flow = flow_of_frame(&frame);
-    let viewed = ViewedPacket::new(packet, &frame, &flow);
-    record_verdict(batch, worker, at, filter, &viewed, share)
-}
-
-/// Judges a packet of the worker, which stands at this place among those of the batch, and says its verdict. All that it
-/// does with a plain frame is within the loops in which it is called: as a call it took a fifth more instructions.
-#[inline(always)]
-pub fn judge_packet<A: Shape, B: Shape, R: Wait, G: Gate>(
-    batch: &Batch<'_, '_, '_, A, B, R, G>,
-    worker: usize,
-    at: usize,
-    packet: &Packet<'_>,
-    share: &mut Share<A, B>,
-) -> Result<(), AllocError>
-    requires { MayJudgePacket ⟦<A as Shape>⟧ ⟦<B as Shape>⟧ batch.now worker at (packet_facts packet.now) share.old }
-    ensures { IfOk result (λ _. HasWorkedOn ⟦<A as Shape>⟧ ⟦<B as Shape>⟧ batch.now worker at (at + 1) share.old share.new) }
-{
-    let filter = batch.setup.filter.at(packet.interface);
-    let Some(frame) = plain_frame(packet.frame, packet.interface, filter.own) else {
-        return judge_slow_path(batch, worker, at, packet, share);
-    };
-    let flow = flow_of_frame(&frame);
-    let viewed = ViewedPacket::new(packet, &frame, &flow);
-    record_verdict(batch, worker, at, filter, &viewed, share)
-}
 
 // Judges the worker's packets of a dealt chunk, which begins at this place among those of the batch.
 fn judge_chunk<'a, A: Shape, B: Shape, R: Wait, G: Gate>(

@@ -6,7 +6,7 @@ ghost use Rattle.flow_workers.specs.inner.Together.{HasJudgedNext, HaveJudgedBat
 ghost use Rattle.flow_workers.specs.inner.Turns.{MayJudgeBatch};
 
 use crate::gate::Gate;
-use crate::judge_dealt_packets::judge_packet;
+use crate::worker_packet_verdict::judge_packet;
 use crate::worker_share::{Batch, Share};
 use bihash_words::Shape;
 use packet_dealing::worker_of_packet;

@@ -1,6 +1,5 @@
 //! All workers, each in a thread of its own: the packets of a batch are dealt, and then judged at once.
 ghost use Rattle.std.specs.Prelude.{◌≡◌, ◌<◌, ◌++◌, IfOk};
-ghost use Rattle.packet_dealing.specs.declared.dealt_chunk.DealtChunk.{DealtChunk};
 ghost use Rattle.flow_workers.specs.inner.Shares.{workers_in};
 ghost use Rattle.flow_workers.specs.inner.Together.{HaveJudgedBatch};
 ghost use Rattle.flow_workers.specs.inner.Turns.{MayJudgeBatch};

@@ -1,7 +1,6 @@
 //! Packets judged by many workers over session tables that they share.
 #![tactic(auto)]
 
-mod caller_split;
 mod gate;
 mod judge_dealt_packets;
 mod judge_in_one_thread;
@@ -17,8 +16,11 @@ mod table_closing;
 mod table_renewal;
 mod table_update;
 mod turns_in_threads;
+mod update_tries;
 mod verdict_merge;
 mod viewed_packet;
+mod worker_callers_split_and_joined;
+mod worker_packet_verdict;
 mod worker_results;
 mod worker_setup;
 mod worker_share;

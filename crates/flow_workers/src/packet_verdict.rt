@@ -1,15 +1,19 @@
 //! The verdict on one packet, by one update at most.
+ghost use Rattle.std.specs.Prelude.{Ok};
+ghost use Rattle.std.specs.declared.convert.Infallible.{Infallible};
 ghost use Rattle.packet_view.specs.Frames.{frame_facts};
 ghost use Rattle.bihash_table.specs.Tries.{TookByTries};
 ghost use Rattle.flow_filter.specs.Filters.{section_in};
 ghost use Rattle.flow_filter.specs.Liveness.{IsForeseen};
-ghost use Rattle.flow_workers.specs.Calls.{MayAsk, TellsVerdict, TellsVerdictTry};
+ghost use Rattle.flow_workers.specs.Calls.{MayAsk, TellsVerdict};
+ghost use Rattle.flow_workers.specs.Judging.{TookByOneTry};
 ghost use Rattle.flow_workers.specs.inner.PacketPlans.{IsFrameRuling};
-ghost use Rattle.flow_workers.specs.inner.ViewedPackets.{TellsViewed, TellsViewedTry};
+ghost use Rattle.flow_workers.specs.inner.ViewedPackets.{TellsViewed};
 
 use crate::packet_plan::PacketPlan;
 use crate::session_tables::{Callers, Tables};
-use crate::table_update::{try_update, update};
+use crate::table_update::update;
+use crate::update_tries::{OneTry, Tries, UntilAnswered};
 use crate::viewed_packet::ViewedPacket;
 use bihash_table::Contended;
 use bihash_words::Shape;
@@ -20,17 +24,19 @@ use session_state::SessionExpiry;
 use std::marker::Brand;
 use std::sync::Wait;
 
-// One try, under what the rules will say of the packet.
-fn try_judge_as<A: Shape, B: Shape, D: HasReading>(
+/// The verdict on a packet that was viewed, under what the rules will say of it.
+#[inline(always)]
+pub fn judge_as<A: Shape, B: Shape, D: HasReading, T: Tries>(
+    tries: &T,
     filter: &InterfaceFilter<'_>,
     tables: &Tables<A, B>,
     callers: &mut Callers<A, B>,
     packet: &ViewedPacket<'_>,
-) -> Result<Verdict, Contended>
+) -> Result<Verdict, T::Refusal>
     requires asks { MayAsk tables.now callers.old }
     requires ruling { IsFrameRuling (section_in filter.now) (frame_facts packet.now.frame.now) D.ruling }
     requires lives { IsForeseen filter.now.times packet.now.moment D.is_live }
-    ensures { TellsViewedTry filter.now packet.now tables.now callers.old callers.new result }
+    ensures { TellsViewed T.took filter.now packet.now tables.now callers.old callers.new result }
 {
     match PacketPlan::<D>::new(filter, packet) {
         PacketPlan::Settled(verdict) => Ok(verdict),
@@ -39,38 +45,10 @@ fn try_judge_as<A: Shape, B: Shape, D: HasReading>(
                 moment: packet.moment,
                 times: filter.times,
             };
-            match try_update(tables, callers, *key, &patch, &expiry) {
+            match update(tries, tables, callers, *key, &patch, &expiry) {
                 Ok(reply) => Ok(patch.verdict(reply)),
-                Err(contended) => Err(contended),
+                Err(refusal) => Err(refusal),
             }
-        }
-    }
-}
-
-/// The verdict on a packet that was viewed, under what the rules will say of it. It tries again where another caller's
-/// change or lock was met.
-#[inline(always)]
-pub fn judge_as<A: Shape, B: Shape, D: HasReading, R: Wait>(
-    rt: &R,
-    filter: &InterfaceFilter<'_>,
-    tables: &Tables<A, B>,
-    callers: &mut Callers<A, B>,
-    packet: &ViewedPacket<'_>,
-) -> Verdict
-    requires asks { MayAsk tables.now callers.old }
-    requires ruling { IsFrameRuling (section_in filter.now) (frame_facts packet.now.frame.now) D.ruling }
-    requires lives { IsForeseen filter.now.times packet.now.moment D.is_live }
-    ensures { TellsViewed TookByTries filter.now packet.now tables.now callers.old callers.new result }
-{
-    match PacketPlan::<D>::new(filter, packet) {
-        PacketPlan::Settled(verdict) => verdict,
-        PacketPlan::Asks(key, patch) => {
-            let expiry = SessionExpiry {
-                moment: packet.moment,
-                times: filter.times,
-            };
-            let reply = update(rt, tables, callers, *key, &patch, &expiry);
-            patch.verdict(reply)
         }
     }
 }
@@ -84,13 +62,17 @@ pub fn judge<A: Shape, B: Shape, R: Wait>(
     packet: &Packet<'_>,
 ) -> Verdict
     requires { MayAsk tables.now callers.old }
-    ensures { TellsVerdict filter.now packet.now tables.now callers.old callers.new result }
+    ensures { TellsVerdict {E = Infallible} TookByTries filter.now packet.now tables.now callers.old callers.new (Ok result) }
 {
     let filter = filter.ready(packet.interface);
     let frame = view(packet.frame, packet.interface, filter.own);
     let flow = flow_of_frame(&frame);
     let packet = ViewedPacket::new(packet, &frame, &flow);
-    judge_as::<A, B, Brand, R>(rt, &filter, tables, callers, &packet)
+    let tries = UntilAnswered { rt };
+    let Ok(verdict) = judge_as::<A, B, Brand, UntilAnswered<'_, R>>(
+        &tries, &filter, tables, callers, &packet,
+    );
+    verdict
 }
 
 /// The verdict on a packet, by one try. `Contended`: another caller's change or lock was met.
@@ -101,11 +83,11 @@ pub fn try_judge<A: Shape, B: Shape>(
     packet: &Packet<'_>,
 ) -> Result<Verdict, Contended>
     requires { MayAsk tables.now callers.old }
-    ensures { TellsVerdictTry filter.now packet.now tables.now callers.old callers.new result }
+    ensures { TellsVerdict TookByOneTry filter.now packet.now tables.now callers.old callers.new result }
 {
     let filter = filter.ready(packet.interface);
     let frame = view(packet.frame, packet.interface, filter.own);
     let flow = flow_of_frame(&frame);
     let packet = ViewedPacket::new(packet, &frame, &flow);
-    try_judge_as::<A, B, Brand>(&filter, tables, callers, &packet)
+    judge_as::<A, B, Brand, OneTry>(&OneTry, &filter, tables, callers, &packet)
 }

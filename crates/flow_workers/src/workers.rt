@@ -2,13 +2,13 @@
 ghost use Rattle.std.specs.Prelude.{◌≡◌, [], IfOk};
 ghost use Rattle.flow_workers.specs.inner.Shares.{AreSplit, MaySplit};
 
-use crate::caller_split::{join_whole, split_both};
 use crate::gate::Gate;
 use crate::judge_in_one_thread::judge_together;
 use crate::judge_in_threads::judge_in_threads;
 use crate::run_fault::RunFault;
 use crate::session_tables::{Callers, Tables};
 use crate::verdict_merge::merge_verdicts;
+use crate::worker_callers_split_and_joined::{join_whole, split_both};
 use crate::worker_results::results_of;
 use crate::worker_setup::Setup;
 use crate::worker_share::{Batch, Share, WorkerResults};
@@ -19,7 +19,7 @@ use std::alloc::{AllocError, Global};
 use std::sync::Wait;
 use std::thread::Threads;
 
-// The share with these callers of a worker that judged nothing.
+// What one of new workers begins with: a share with these callers, which judged nothing.
 fn unused<A: Shape, B: Shape>(alloc: Global, callers: Callers<A, B>) -> Share<A, B>
     ensures callers { result.callers ≡ callers }
     ensures silent { result.said.items ≡ [] }

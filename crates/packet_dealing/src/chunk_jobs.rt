@@ -12,7 +12,8 @@ use packet_view::Packets;
 use std::alloc::{AllocError, Global};
 use std::marker::PhantomData;
 
-// The place of a chunk's first packet. There is one chunk for each worker, and the packets end where one more began.
+// The place of the first packet of a chunk's job. There is one chunk for each worker, and the packets end where one
+// more began.
 fn begin(packets: usize, workers: usize, chunk: usize) -> usize
     requires some { 0 < workers }
     requires one { chunk ≤ workers }
@@ -26,7 +27,7 @@ fn begin(packets: usize, workers: usize, chunk: usize) -> usize
     }
 }
 
-// This chunk of the packets, which is ahead.
+// The job of dealing this chunk of the packets, which is ahead.
 fn chunk_ahead<'a, A: Shape, B: Shape>(
     alloc: Global,
     dealer: Dealer,
@@ -53,8 +54,8 @@ fn chunk_ahead<'a, A: Shape, B: Shape>(
     }))
 }
 
-/// The chunks of the packets, which are ahead, one for each worker. The packets' numbers begin with this one. This thread
-/// gets the memory for all chunks: what another thread gives back goes back to the system, and costs a first touch again.
+/// The jobs of the packets' chunks, one for each worker. The packets' numbers begin with this one. This thread gets the
+/// memory for all chunks: what another thread gives back goes back to the system, and costs a first touch again.
 pub fn chunks_ahead<'a, A: Shape, B: Shape>(
     alloc: Global,
     dealer: Dealer,
@@ -72,7 +73,7 @@ pub fn chunks_ahead<'a, A: Shape, B: Shape>(
     Ok(chunks)
 }
 
-/// The packets of all chunks, where none of them was refused memory.
+/// The packets that the jobs of all chunks dealt, where none of them was refused memory.
 pub fn chunks_over<'a, A: Shape, B: Shape>(
     alloc: Global,
     chunks: Vec<Chunk<'a, A, B>>,

@@ -4,8 +4,8 @@ use Rattle.byteorder.specs.Endian.{big_number, little_number}
 use Rattle.packet_view.specs.declared.capture.Order.{Order}
 use Rattle.packet_view.specs.declared.capture.Order.TheVariants.{Little, Big}
 use Rattle.packet_view.specs.declared.packet.Packet.{Packet}
-use Rattle.packet_view.specs.declared.capture.Piece.{Piece}
-use Rattle.packet_view.specs.declared.capture.Piece.TheVariants as piece
+use Rattle.packet_view.specs.declared.records_at_front.Piece.{Piece}
+use Rattle.packet_view.specs.declared.records_at_front.Piece.TheVariants as piece
 use Rattle.packet_view.specs.declared.capture.CaptureFault.{CaptureFault}
 use Rattle.packet_view.specs.declared.capture.CaptureFault.TheVariants as fault
 

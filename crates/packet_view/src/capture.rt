@@ -1,5 +1,5 @@
 //! Captures of the classic pcap format: a header, and records one after another.
-ghost use Rattle.std.specs.Prelude.{◌≡◌, ◌≤◌, ◌+◌, ◌⊎◌, ◌≢◌, length, List, Ok, Err, IsTrue, ◌↔◌, IfOk, IfErr, MatchResult, map};
+ghost use Rattle.std.specs.Prelude.{◌≡◌, ◌≤◌, ◌⊎◌, ◌≢◌, length, List, Ok, Err, IsTrue, ◌↔◌, IfOk, IfErr, MatchResult, map};
 ghost use Rattle.packet_view.specs.Captures.{
   End,
   HasFileHeader,
@@ -9,17 +9,14 @@ ghost use Rattle.packet_view.specs.Captures.{
   IsCaptureAt,
   IsCaptureFault,
   IsHeaderFault,
-  IsPiece,
-  PieceFacts,
   PacketFacts,
   RecordFacts,
   end_of,
   number_from,
-  piece_facts,
   packet_facts,
 };
 ghost use Rattle.packet_view.specs.CheckedCaptures.{records_of};
-ghost use Rattle.packet_view.specs.inner.RecordSteps.{Checks, part_of};
+ghost use Rattle.packet_view.specs.inner.RecordSteps.{Checks};
 ghost use Rattle.packet_view.specs.declared.capture.CaptureFault.{CaptureFault};
 ghost use Rattle.packet_view.specs.declared.capture.CaptureFault.TheVariants.{Memory};
 ghost use Rattle.packet_view.specs.declared.capture.Order.{Order};
@@ -30,31 +27,11 @@ use crate::records_at_front::{Front, Stop, front_records};
 use byteorder::{BigEndian, ByteOrder, LittleEndian};
 use std::alloc::{AllocError, AllocFailed, Global};
 
-/// The most bytes that a record keeps of a frame.
-const KEPT_LIMIT: usize = 262_144;
-
 /// Which byte of a number in a capture comes first: its lowest or its highest.
 #[derive(Clone, Copy, Debug, PartialEq, Eq)]
 pub enum Order {
     Little,
     Big,
-}
-
-/// What is at the front of the records that are left.
-#[derive(Clone, Copy)]
-pub enum Piece<'a> {
-    /// A record, and the bytes after it.
-    Whole {
-        moment: u32,
-        frame: &'a [u8],
-        rest: &'a [u8],
-    },
-    /// No byte.
-    End,
-    /// The front of a record, and not all of it.
-    Truncated,
-    /// A record that keeps more than 262144 bytes.
-    TooLong,
 }
 
 /// Why a capture isn't read, in the order of the checks.
@@ -110,6 +87,7 @@ pub struct CheckedCapture<'a> {
     pub truncated: bool,
 }
 
+/// The number in two bytes of a capture, in its order.
 #[inline]
 fn u16_in(order: Order, bytes: &[u8]) -> u16
     requires { 2 ≤ length bytes.now }
@@ -121,6 +99,7 @@ fn u16_in(order: Order, bytes: &[u8]) -> u16
     }
 }
 
+/// The number in four bytes of a capture, in its order.
 #[inline]
 pub fn u32_in(order: Order, bytes: &[u8]) -> u32
     requires { 4 ≤ length bytes.now }
@@ -132,7 +111,7 @@ pub fn u32_in(order: Order, bytes: &[u8]) -> u32
     }
 }
 
-/// Whether the bytes begin with a magic number in this order.
+/// Whether a capture's bytes begin with a magic number in this order.
 fn has_magic(order: Order, bytes: &[u8]) -> bool
     requires { 4 ≤ length bytes.now }
     ensures { IsTrue result ↔ HasMagic order bytes.now }
@@ -167,40 +146,7 @@ pub fn capture_header(bytes: &[u8]) -> Result<Order, CaptureFault>
     Ok(order)
 }
 
-#[inline]
-fn front_piece(rest: &[u8], order: Order) -> Piece<'_>
-    ensures { piece_facts result ≡ part_of order rest.now }
-{
-    if rest.is_empty() {
-        return Piece::End;
-    }
-    if rest.len() < 16 {
-        return Piece::Truncated;
-    }
-    let kept = u32_in(order, &rest[8..]) as usize;
-    if kept > KEPT_LIMIT {
-        return Piece::TooLong;
-    }
-    if rest.len() - 16 < kept {
-        return Piece::Truncated;
-    }
-    Piece::Whole {
-        moment: u32_in(order, rest),
-        frame: &rest[16..16 + kept],
-        rest: &rest[16 + kept..],
-    }
-}
-
-/// What is at the front of the records that are left of a capture in this order.
-#[inline]
-pub fn next_record(rest: &[u8], order: Order) -> Piece<'_>
-    ensures shown { IsPiece order rest.now (piece_facts result) }
-    ensures only { (other : PieceFacts) → IsPiece order rest.now other → other ≡ piece_facts result }
-{
-    front_piece(rest, order)
-}
-
-/// The records after a header.
+/// The records of a capture, behind its header.
 fn check_records(
     bytes: &[u8],
     order: Order,

@@ -5,7 +5,7 @@ ghost use Rattle.packet_view.specs.inner.FrameSteps.{after_tag, content_of, cont
 
 use byteorder::{BigEndian, ByteOrder};
 
-/// Whether a tag stands under this type.
+/// Whether a VLAN tag stands under this Ethernet type.
 #[inline]
 fn is_tag(kind: u16) -> bool
     ensures { result ≡ is_tag_type kind }
@@ -13,7 +13,7 @@ fn is_tag(kind: u16) -> bool
     matches!(kind, 0x8100 | 0x88a8)
 }
 
-/// The type that a frame's content has after one tag, if a tag stands here. None where the tag is cut.
+/// The type that a frame's content has after one VLAN tag, if a tag stands here. None where the tag is cut.
 #[inline]
 fn past_tag(kind: u16, content: &[u8]) -> Option<(u16, &[u8])>
     ensures { contents result ≡ after_tag kind content.now }
@@ -27,7 +27,7 @@ fn past_tag(kind: u16, content: &[u8]) -> Option<(u16, &[u8])>
     Some((BigEndian::read_u16(&content[2..]), &content[4..]))
 }
 
-/// The type of a frame and its content. None where the frame ends before them.
+/// The Ethernet type of a frame and its content, after up to two VLAN tags. None where the frame ends before them.
 #[inline]
 pub fn content(frame: &[u8]) -> Option<(u16, &[u8])>
     ensures { contents result ≡ content_of frame.now }

@@ -53,7 +53,8 @@ fn frame_of(interface: u8, direction: Direction, packet: Option<IpPacket<'_>>) -
     )
 }
 
-/// The layers, one above the other. Few frames aren't plain, and the path of the others is shorter without this.
+/// What a frame is by its layers, one above the other. Few frames aren't plain, and the path of the others is shorter
+/// without this.
 #[inline(never)]
 fn read(frame: &[u8], interface: u8, own: Option<Mac>) -> Frame
     ensures { frame_facts result ≡ view_of frame.now (record { number = interface; own = own }) }

@@ -6,7 +6,7 @@ ghost use Rattle.packet_view.specs.inner.FrameSteps.{direction_of};
 use crate::tuple::{Direction, Mac};
 use byteorder::{BigEndian, ByteOrder};
 
-/// The number of an address of six bytes.
+/// The number of an Ethernet address of six bytes, by which a frame's direction is told.
 #[inline]
 fn address_number(bytes: &[u8]) -> u64
     requires { 6 ≤ length bytes.now }

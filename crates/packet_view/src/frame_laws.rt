@@ -21,7 +21,7 @@ pub fn bytes_after_the_packet_are_not_seen()
         EndsWithin family packet → (at : Interface) (view : FrameFacts) → IsFrame frame at view ↔ IsFrame (frame ++ more) at view }
 {}
 
-/// The interface's own address decides the way of a packet, and nothing else of it.
+/// The interface's own address decides the way of a frame's packet, and nothing else of it.
 pub fn own_address_decides_the_way_alone()
     ensures { (frame : List ℕ) (number : ℕ) (own other : Option Mac) (direction : Direction) (tuple : TupleFacts) →
         IsFrame frame (record { number = number; own = own }) (Ip direction tuple) →

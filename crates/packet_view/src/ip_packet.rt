@@ -25,7 +25,7 @@ pub struct IpPacket<'a> {
     pub ghost dest_fits: { dest < address_limit family },
 }
 
-/// How many of the bytes that are there belong to a packet that declares so many.
+/// How many of the bytes that are there belong to an IP packet that declares so many.
 #[inline]
 pub fn extent(declared: u16, there: usize) -> usize
     ensures exact { result ≡ extent declared there }

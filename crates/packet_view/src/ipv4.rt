@@ -6,7 +6,7 @@ use crate::ip_packet::{IpPacket, Upper, extent};
 use crate::tuple::Family;
 use byteorder::{BigEndian, ByteOrder};
 
-/// The packet whose bytes these are. None where its header is malformed.
+/// The IPv4 packet whose bytes these are. None where its header is malformed.
 #[inline]
 pub fn packet(bytes: &[u8]) -> Option<IpPacket<'_>>
     ensures { packets result ≡ packet_of_v4 bytes.now }

@@ -16,7 +16,8 @@ enum Header<'a> {
     Last(Option<Upper<'a>>),
 }
 
-/// Hop-by-hop options, routing, fragment and destination options (RFC 8200, section 4).
+/// The numbers of IPv6 extension headers: hop-by-hop options, routing, fragment and destination options (RFC 8200,
+/// section 4).
 #[inline]
 fn is_extension(number: u8) -> bool
     ensures { result ≡ Ipv6.is_extension number }
@@ -24,7 +25,7 @@ fn is_extension(number: u8) -> bool
     matches!(number, 0 | 43 | 44 | 60)
 }
 
-/// What stands under this number at the front of the bytes.
+/// What stands under this number in the chain of IPv6 headers, at the front of the bytes.
 #[inline]
 fn header_at(number: u8, bytes: &[u8]) -> Header<'_>
     ensures { header_facts result ≡ header_of number bytes.now }
@@ -48,7 +49,7 @@ fn header_at(number: u8, bytes: &[u8]) -> Header<'_>
     Header::Skipped(bytes[0], &bytes[len..])
 }
 
-/// What the packet carries after at most eight skipped headers. None where a header isn't whole, or a ninth is there.
+/// What an IPv6 packet carries after up to eight skipped headers. None where a header isn't whole, or a ninth is there.
 #[inline]
 fn upper(first: u8, bytes: &[u8]) -> Option<Upper<'_>>
     ensures { uppers result ≡ walk 8 first bytes.now }
@@ -70,7 +71,7 @@ fn upper(first: u8, bytes: &[u8]) -> Option<Upper<'_>>
     Some(Upper::Payload(number, rest))
 }
 
-/// The packet whose bytes these are. None where its headers are malformed.
+/// The IPv6 packet whose bytes these are. None where its headers are malformed.
 #[inline]
 pub fn packet(bytes: &[u8]) -> Option<IpPacket<'_>>
     ensures { packets result ≡ packet_of_v6 bytes.now }

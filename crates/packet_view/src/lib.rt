@@ -20,8 +20,7 @@ mod transport;
 mod tuple;
 
 pub use capture::{
-    Capture, CaptureFault, CheckedCapture, Order, Piece, capture_header, check_capture,
-    next_record, read_capture,
+    Capture, CaptureFault, CheckedCapture, Order, capture_header, check_capture, read_capture,
 };
 pub use capture_laws::{a_cut_capture_keeps_its_front, each_capture_has_one_reading};
 pub use frame::{Frame, plain_frame, view};
@@ -33,5 +32,5 @@ pub use packet_bursts::PacketBursts;
 pub use packets::Packets;
 pub use packets_of_records::Records;
 pub use plain_packet::{PlainPacket, plain};
-pub use records_at_front::{Front, Stop, front_records};
+pub use records_at_front::{Front, Piece, Stop, front_records, next_record};
 pub use tuple::{Direction, Family, Fields, Mac, Tuple};

@@ -6,7 +6,7 @@ ghost use Rattle.packet_view.specs.RecordLists.{bytes_of, front_record, record_l
 use crate::capture::{Order, u32_in};
 use crate::packet::Packet;
 
-// How many bytes of its frame the record at the front keeps.
+// How many bytes of its frame the record keeps whose packet is taken next.
 #[inline(always)]
 fn kept_in(bytes: &[u8], order: Order) -> usize
     requires { record_length order bytes.now ≤ length bytes.now }
@@ -15,7 +15,7 @@ fn kept_in(bytes: &[u8], order: Order) -> usize
     u32_in(order, &bytes[8..]) as usize
 }
 
-// The packet of the record at the front, which is whole and keeps so many bytes, and the bytes after it.
+// The packet that is taken of the record at the front, which is whole and keeps so many bytes, and the bytes after it.
 #[inline(always)]
 fn front_of<'a>(bytes: &'a [u8], order: Order, interface: u8, kept: usize) -> (Packet<'a>, &'a [u8])
     requires whole { record_length order bytes.now ≤ length bytes.now }
@@ -51,7 +51,7 @@ impl<'a> Records<'a> {
     ghost use Rattle.packet_view.specs.Captures.{Takes, kept_length, packet_facts};
     ghost use Rattle.packet_view.specs.CheckedCaptures.{packets_of};
 
-    /// How many packets are left.
+    /// How many packets of records are left.
     #[inline]
     pub fn count(&self) -> usize
         ensures { result ≡ length (packets_of self.now) }

@@ -1,13 +1,67 @@
-//! The whole records at the front of some bytes.
+//! The record at the front of some bytes, and the whole records there.
 ghost use Rattle.std.specs.Prelude.{◌≡◌, ◌≤◌, IfSome};
-ghost use Rattle.packet_view.specs.Captures.{AreRecords, Record};
+ghost use Rattle.packet_view.specs.Captures.{AreRecords, IsPiece, PieceFacts, Record, piece_facts};
 ghost use Rattle.packet_view.specs.CheckedCaptures.{records_of};
 ghost use Rattle.packet_view.specs.Fronts.{IsSplit, Stops};
 ghost use Rattle.packet_view.specs.RecordLists.{front_record};
 ghost use Rattle.packet_view.specs.inner.RecordSteps.{part_of};
 
-use crate::capture::{Order, Piece, next_record, u32_in};
+use crate::capture::{Order, u32_in};
 use crate::packets_of_records::Records;
+
+/// The most bytes that a record keeps of a frame.
+const KEPT_LIMIT: usize = 262_144;
+
+/// What is at the front of the records that are left.
+#[derive(Clone, Copy)]
+pub enum Piece<'a> {
+    /// A record, and the bytes after it.
+    Whole {
+        moment: u32,
+        frame: &'a [u8],
+        rest: &'a [u8],
+    },
+    /// No byte.
+    End,
+    /// The front of a record, and not all of it.
+    Truncated,
+    /// A record that keeps more than 262144 bytes.
+    TooLong,
+}
+
+/// The piece at the front of what is left of a capture, by how many bytes the record there keeps.
+#[inline]
+fn front_piece(rest: &[u8], order: Order) -> Piece<'_>
+    ensures { piece_facts result ≡ part_of order rest.now }
+{
+    if rest.is_empty() {
+        return Piece::End;
+    }
+    if rest.len() < 16 {
+        return Piece::Truncated;
+    }
+    let kept = u32_in(order, &rest[8..]) as usize;
+    if kept > KEPT_LIMIT {
+        return Piece::TooLong;
+    }
+    if rest.len() - 16 < kept {
+        return Piece::Truncated;
+    }
+    Piece::Whole {
+        moment: u32_in(order, rest),
+        frame: &rest[16..16 + kept],
+        rest: &rest[16 + kept..],
+    }
+}
+
+/// What is at the front of the records that are left of a capture in this order.
+#[inline]
+pub fn next_record(rest: &[u8], order: Order) -> Piece<'_>
+    ensures shown { IsPiece order rest.now (piece_facts result) }
+    ensures only { (other : PieceFacts) → IsPiece order rest.now other → other ≡ piece_facts result }
+{
+    front_piece(rest, order)
+}
 
 /// Why no more whole records stand at the front.
 #[derive(Clone, Copy, Debug)]

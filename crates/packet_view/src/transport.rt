@@ -6,8 +6,8 @@ ghost use Rattle.packet_view.specs.inner.FrameSteps.{fields_of};
 use crate::tuple::{Family, Fields};
 use byteorder::{BigEndian, ByteOrder};
 
-/// The fields under a protocol: 6 for TCP, 17 for UDP, 1 and 58 for the ICMP of either family. None where the payload
-/// ends before they do.
+/// The fields of the transport header under a protocol: 6 for TCP, 17 for UDP, 1 and 58 for the ICMP of either family.
+/// None where the payload ends before they do.
 #[inline]
 pub fn fields(family: Family, proto: u8, payload: &[u8]) -> Option<Fields>
     ensures exact { result ≡ fields_of family proto payload.now }

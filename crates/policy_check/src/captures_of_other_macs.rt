@@ -13,7 +13,7 @@ use thiserror::Error;
 #[error("none of the first frames of interface {0} is from or to the address of its mac line")]
 pub struct ForeignMac(pub u8);
 
-// Whether bytes of a frame begin with the address of a `mac` line.
+// Whether bytes of a captured frame begin with the MAC address of a `mac` line.
 fn begins_with(bytes: &[u8], own: Mac) -> bool
     ensures yes { IsTrue result → take 6 bytes.now ≡ own.0 }
     ensures no { result ≡ false → take 6 bytes.now ≡ own.0 → ⊥ }
@@ -21,7 +21,7 @@ fn begins_with(bytes: &[u8], own: Mac) -> bool
     bytes.len() >= 6 && bytes[..6] == own.0[..]
 }
 
-// Whether a frame is from or to the address of a `mac` line.
+// Whether a captured frame is from or to the MAC address of a `mac` line.
 fn is_of(frame: &[u8], own: Mac) -> bool
     ensures yes { IsTrue result → IsOf own.0 frame.now }
     ensures no { result ≡ false → IsOf own.0 frame.now → ⊥ }
@@ -29,7 +29,7 @@ fn is_of(frame: &[u8], own: Mac) -> bool
     begins_with(frame, own) || begins_with(&frame[frame.len().min(6)..], own)
 }
 
-// Whether a frame is for one station, and not for a group of them.
+// Whether a frame is for one station and not for a group: without one, no capture is said to be of other MAC addresses.
 fn is_for_one(frame: &[u8]) -> bool
     ensures yes { IsTrue result → IsForOne frame.now }
     ensures no { result ≡ false → IsForOne frame.now → ⊥ }
@@ -40,7 +40,7 @@ fn is_for_one(frame: &[u8]) -> bool
     }
 }
 
-// Whether some of these packets is for one station, and none has to do with this address.
+// Whether some packet of a capture is for one station, and none is from or to the MAC address of the `mac` line.
 fn are_foreign(own: Mac, packets: Packets<'_>) -> bool
     ensures yes { IsTrue result → AreForeign own.0 (remaining packets.entry) }
     ensures no { result ≡ false → AreForeign own.0 (remaining packets.entry) → ⊥ }

@@ -3,26 +3,25 @@
 
 mod captures_of_other_macs;
 mod check_laws;
-mod check_text;
 mod complaint;
-mod finding;
 mod line_finding;
 mod policy_checking;
-mod ports_and_flags;
+mod port_and_flag_findings;
+mod prefix_findings;
+mod protocol_findings;
 mod reason;
 mod remark_kinds;
 mod remarks_on_policy;
-mod rule_head;
-mod rule_prefixes;
-mod rule_protocol;
+mod rule_head_findings;
 mod shadowing_rules;
 mod source_checking;
+mod told_lines;
 mod unseen_characters;
+mod word_finding;
 mod word_readers;
 
 pub use captures_of_other_macs::{ForeignMac, foreign_mac};
 pub use check_laws::checks_agree_with_runs;
-pub use check_text::{Told, tell};
 pub use complaint::{Checked, Complaint};
 pub use policy_checking::check_policy;
 pub use reason::Reason;
@@ -30,3 +29,4 @@ pub use remark_kinds::Remark;
 pub use remarks_on_policy::{no_mac, remarks_on};
 pub use shadowing_rules::takes_all;
 pub use source_checking::check_source;
+pub use told_lines::{Told, tell};

@@ -1,22 +1,24 @@
-//! What is wrong with a line of no form.
+//! What is wrong with a line.
 ghost use Rattle.std.specs.Prelude.{IfErr};
 ghost use Rattle.acl_policy.specs.Lines.{IsInterface};
+ghost use Rattle.acl_policy.specs.inner.Reading.Lines.{line_in};
 ghost use Rattle.policy_words.specs.Prefixes.{IsMac};
 ghost use Rattle.policy_words.specs.Words.{words_of};
 ghost use Rattle.policy_check.specs.Complaints.{line_words};
 ghost use Rattle.policy_check.specs.Reasons.{IsFirst, IsFormReason, IsPairReason, IsRuleReason, IsWordsReason};
 ghost use Rattle.policy_check.specs.declared.reason.Reason.TheVariants.{NoInterface, NoMac};
+ghost use Rattle.policy_check.specs.inner.Explained.{Explains};
 
-use crate::finding::{Finding, missing, of};
+use crate::prefix_findings::ends;
+use crate::protocol_findings::traffic;
 use crate::reason::Reason;
-use crate::rule_head::head;
-use crate::rule_prefixes::ends;
-use crate::rule_protocol::traffic;
+use crate::rule_head_findings::head;
 use crate::unseen_characters::unseen;
+use crate::word_finding::{Finding, missing, of};
 use crate::word_readers::{interface, is_word, mac, next};
-use acl_policy::before_comment;
+use acl_policy::{Line, before_comment, line_of};
 
-// What is wrong with the words after `mac`.
+// What is wrong with a line that begins with `mac`, by the words after it.
 fn own_line(text: &[u8]) -> Result<(), Finding<'_>>
     ensures { IfErr result (λ found. IsPairReason NoMac IsMac (words_of text.now) found.reason found.word.now) }
 {
@@ -32,7 +34,7 @@ fn own_line(text: &[u8]) -> Result<(), Finding<'_>>
     }
 }
 
-// What is wrong with the words after `interface`.
+// What is wrong with a line that begins with `interface`, by the words after it.
 fn heading(text: &[u8]) -> Result<(), Finding<'_>>
     ensures { IfErr result (λ found. IsPairReason NoInterface IsInterface (words_of text.now) found.reason found.word.now) }
 {
@@ -48,6 +50,7 @@ fn heading(text: &[u8]) -> Result<(), Finding<'_>>
     }
 }
 
+// What is wrong with a line that is to be a rule: the first finding in its head, its prefixes and its protocol.
 fn rule_line(text: &[u8]) -> Result<(), Finding<'_>>
     ensures { IfErr result (λ found. IsRuleReason (words_of text.now) found.reason found.word.now) }
 {
@@ -56,6 +59,7 @@ fn rule_line(text: &[u8]) -> Result<(), Finding<'_>>
     traffic(family, text)
 }
 
+// What is wrong with the words of a line, in the form that the first of them begins: `mac`, `interface` or a rule.
 fn words_of_line(text: &[u8]) -> Result<(), Finding<'_>>
     ensures { IfErr result (λ found. IsWordsReason (words_of text.now) found.reason found.word.now) }
 {
@@ -71,8 +75,8 @@ fn words_of_line(text: &[u8]) -> Result<(), Finding<'_>>
     }
 }
 
-/// The first word of a line, and nothing where it has none.
-pub fn first_word(line: &[u8]) -> &[u8]
+// The first word of a line, of which a finding on the whole line is said, and nothing where it has none.
+fn first_word(line: &[u8]) -> &[u8]
     ensures { IsFirst (line_words line.now) result.now }
 {
     match next(before_comment(line)) {
@@ -81,8 +85,8 @@ pub fn first_word(line: &[u8]) -> &[u8]
     }
 }
 
-/// What is wrong with a line of no form.
-pub fn form_finding(line: &[u8]) -> Finding<'_>
+// What is wrong with a line of no form.
+fn form_finding(line: &[u8]) -> Finding<'_>
     ensures { IsFormReason (line_words line.now) result.reason result.word.now }
 {
     let text = before_comment(line);
@@ -92,5 +96,17 @@ pub fn form_finding(line: &[u8]) -> Finding<'_>
     match words_of_line(text) {
         Err(found) => found,
         Ok(()) => of(Reason::NoForm, first_word(line)),
+    }
+}
+
+/// Why a line at which a policy is wrong is so: what it says can't stand there, or it is of no form.
+pub fn explained(line: &[u8]) -> Finding<'_>
+    ensures { Explains line.now (line_in line.now) result.reason result.word.now }
+{
+    match line_of(line) {
+        Some(Line::Begins(_)) => of(Reason::SecondSection, first_word(line)),
+        Some(Line::Own(_)) => of(Reason::SecondMac, first_word(line)),
+        Some(Line::Ruled(_, _)) => of(Reason::Surplus, first_word(line)),
+        Some(Line::Blank) | None => form_finding(line),
     }
 }

@@ -3,38 +3,24 @@ ghost use Rattle.std.specs.Prelude.{◌≡◌, ◌≢◌, false, ◌+◌, ◌==�
 ghost use Rattle.std.specs.Str.Lines.{lines};
 ghost use Rattle.acl_policy.specs.Policies.{SayPolicy, policy_facts};
 ghost use Rattle.acl_policy.specs.declared.policy.PolicyFault.TheVariants.{Memory};
-ghost use Rattle.acl_policy.specs.inner.Reading.Lines.{line_in};
 ghost use Rattle.acl_policy.specs.inner.Reading.Policies.{draft_facts, policy_so_far};
 ghost use Rattle.policy_check.specs.Complaints.{AreComplaints, IsChecked, complaint_facts};
 ghost use Rattle.policy_check.specs.declared.reason.Reason.TheVariants.{NotUtf8};
-ghost use Rattle.policy_check.specs.inner.Explained.{Explains};
 
 use crate::complaint::{Checked, Complaint};
-use crate::finding::{Finding, of};
-use crate::line_finding::{first_word, form_finding};
+use crate::line_finding::explained;
 use crate::reason::Reason;
-use acl_policy::{Draft, Line, Policy, PolicyFault, add_line, empty_draft, line_of};
+use acl_policy::{Draft, Policy, PolicyFault, add_line, empty_draft};
 use std::alloc::{AllocError, Global};
 
-// Why a line that is at fault is so.
-fn explained(line: &[u8]) -> Finding<'_>
-    ensures { Explains line.now (line_in line.now) result.reason result.word.now }
-{
-    match line_of(line) {
-        Some(Line::Begins(_)) => of(Reason::SecondSection, first_word(line)),
-        Some(Line::Own(_)) => of(Reason::SecondMac, first_word(line)),
-        Some(Line::Ruled(_, _)) => of(Reason::Surplus, first_word(line)),
-        Some(Line::Blank) | None => form_finding(line),
-    }
-}
-
+// Whether a line couldn't be added to the policy since memory ran out, which ends the check of its text.
 fn is_memory(fault: PolicyFault) -> bool
     ensures { result ≡ false → fault ≢ Memory }
 {
     matches!(fault, PolicyFault::Memory)
 }
 
-// The policy that a draft comes to.
+// The policy that the draft of a check comes to at its end.
 fn finished(draft: Draft) -> Result<Policy, AllocError>
     ensures { IfOk result (λ policy. policy_facts policy ≡ policy_so_far (draft_facts draft)) }
 {
@@ -46,6 +32,7 @@ fn finished(draft: Draft) -> Result<Policy, AllocError>
     Ok(Policy { sections })
 }
 
+// Checks the lines of a policy's text in their order: wrong ones are complained of, and the others make the policy.
 fn check_lines(alloc: Global, text: &str) -> Result<Checked<'_>, AllocError>
     ensures { IfOk result (λ c. AreComplaints (lines text.now) (map complaint_facts c.complaints.items) (policy_facts c.policy)) }
 {
@@ -72,7 +59,7 @@ fn check_lines(alloc: Global, text: &str) -> Result<Checked<'_>, AllocError>
     Ok(Checked { complaints, policy })
 }
 
-// The number of the line that follows so many bytes.
+// The check of a policy's text: the number of the line in which it stops being UTF-8, behind these bytes.
 fn line_after(bytes: &[u8]) -> u64
     ensures { result ≡ length (filter (λ b. b == 10) bytes.now) + 1 }
 {
@@ -85,7 +72,7 @@ fn line_after(bytes: &[u8]) -> u64
     count + 1
 }
 
-// A text that isn't UTF-8 in the line with this number.
+// What the check finds of a policy's text that isn't UTF-8: one complaint, of the line with this number.
 fn broken<'a>(alloc: Global, line: u64) -> Result<Checked<'a>, AllocError>
     ensures complaint { IfOk result (λ c. map complaint_facts c.complaints.items
         ≡ record { line = line; reason = NotUtf8; word = [] } ∷ []) }

@@ -13,6 +13,7 @@ use acl_policy::{Policy, Rule, Section, width_of};
 use packet_view::{Direction, Family};
 use std::alloc::{AllocError, Global};
 
+// Whether a prefix has bits behind its length, on which there is a remark.
 fn has_bits(family: Family, prefix: (u128, u8)) -> bool
     requires { prefix.1 ≤ width family }
     ensures { IsTrue result → HasBits family prefix }
@@ -25,6 +26,7 @@ fn has_bits(family: Family, prefix: (u128, u8)) -> bool
     }
 }
 
+// The rules of a direction of a section, on which remarks are made.
 fn rules(section: &Section, direction: Direction) -> &[Rule]
     ensures { map rule_facts result.now ≡ rules_of direction (section_facts section.now) }
 {
@@ -34,7 +36,7 @@ fn rules(section: &Section, direction: Direction) -> &[Rule]
     }
 }
 
-// The first rule before this one that takes all its packets, by its place.
+// The first rule before this one that takes all its packets, by its place, for the remark that this one never decides.
 fn taker(rules: &[Rule], place: usize) -> Option<usize>
     requires { place < length rules.now }
     ensures { IfSome result (IsShadowed (map rule_facts rules.now) place) }
@@ -47,6 +49,7 @@ fn taker(rules: &[Rule], place: usize) -> Option<usize>
     None
 }
 
+// The remark on a rule of a policy that it never decides, since one before it takes all its packets.
 fn shadow(section: &Section, direction: Direction, place: usize) -> Option<Remark>
     requires { place < length (rules_of direction (section_facts section.now)) }
     ensures { IfSome result (IsRuleRemark (section_facts section.now) direction place) }
@@ -60,6 +63,7 @@ fn shadow(section: &Section, direction: Direction, place: usize) -> Option<Remar
     ))
 }
 
+// The remark on a rule of a policy that its source has bits behind the length of its prefix.
 fn source_bits(section: &Section, direction: Direction, place: usize) -> Option<Remark>
     requires { place < length (rules_of direction (section_facts section.now)) }
     ensures { IfSome result (IsRuleRemark (section_facts section.now) direction place) }
@@ -72,6 +76,7 @@ fn source_bits(section: &Section, direction: Direction, place: usize) -> Option<
     }
 }
 
+// The remark on a rule of a policy that its destination has bits behind the length of its prefix.
 fn dest_bits(section: &Section, direction: Direction, place: usize) -> Option<Remark>
     requires { place < length (rules_of direction (section_facts section.now)) }
     ensures { IfSome result (IsRuleRemark (section_facts section.now) direction place) }
@@ -132,12 +137,14 @@ fn add_section(all: &mut Vec<Remark>, section: &Section) -> Result<(), AllocErro
     Ok(())
 }
 
+// Whether a section has no rule; where no section has one, that is the only remark on the policy.
 fn is_bare(section: &Section) -> bool
     ensures { IsTrue result → HasNoRule (section_facts section.now) }
 {
     section.inbound.is_empty() && section.outbound.is_empty()
 }
 
+// Whether no section of a policy has a rule, which is then the only remark on it.
 fn has_no_rule(policy: &Policy) -> bool
     ensures { IsTrue result → All HasNoRule (policy_facts policy.now).sections }
 {

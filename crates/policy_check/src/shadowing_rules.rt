@@ -10,6 +10,7 @@ ghost use Rattle.policy_check.specs.Remarks.{TakesAll};
 use acl_policy::{Rule, has_prefix};
 use packet_view::Family;
 
+// Whether the prefix of a rule that may shadow a later one has each address of the later one's.
 #[tactic(auto, using(crate::proofs::ShadowLemmas::prefix_taken))]
 fn takes_prefix(family: Family, earlier: (u128, u8), later: (u128, u8)) -> bool
     requires length { later.1 ≤ width family }
@@ -20,12 +21,14 @@ fn takes_prefix(family: Family, earlier: (u128, u8), later: (u128, u8)) -> bool
     earlier.1 <= later.1 && has_prefix(family, earlier, later.0)
 }
 
+// Whether the range of a rule that may shadow a later one has each number of the later one's.
 fn takes_range(earlier: (u16, u16), later: (u16, u16)) -> bool
     ensures { IsTrue result → (n : ℕ) → IsIn later n → IsIn earlier n }
 {
     earlier.0 <= later.0 && later.1 <= earlier.1
 }
 
+// Whether a rule that may shadow a later one is found to take all TCP flags that the later one takes.
 #[tactic(auto, using(crate::proofs::ShadowLemmas::flags_taken))]
 fn takes_flags(earlier: &Rule, later: &Rule) -> bool
     ensures { IsTrue result → (flags : ℕ) → bit_and flags later.now.mask ≡ later.now.value → bit_and flags earlier.now.mask ≡ earlier.now.value }
@@ -33,6 +36,7 @@ fn takes_flags(earlier: &Rule, later: &Rule) -> bool
     later.mask & earlier.mask == earlier.mask && later.value & earlier.mask == earlier.value
 }
 
+// Whether a rule that may shadow a later one is found to take all ports, types, codes and flags of that one.
 fn takes_fields(earlier: &Rule, later: &Rule) -> bool
     ensures { IsTrue result → (fields : Fields) → HasFields (rule_facts later.now) fields → HasFields (rule_facts earlier.now) fields }
 {

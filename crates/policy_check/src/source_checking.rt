@@ -5,7 +5,7 @@ ghost use Rattle.racl_io.specs.Inputs.{most_bytes};
 ghost use Rattle.racl_io.specs.Transfers.{GaveAtMost};
 ghost use Rattle.racl_io.specs.declared.fault.Fault.TheVariants.{Memory, Read, TooLarge, Write};
 
-use crate::check_text::tell;
+use crate::told_lines::tell;
 use racl_io::{Fault, MOST_BYTES, Sink, Source, read_until, write_all};
 use std::alloc::Global;
 

@@ -3,22 +3,25 @@ ghost use Rattle.std.specs.Prelude.{◌≡◌, ◌++◌, ◌∷◌, ℕ, List, I
 ghost use Rattle.policy_words.specs.Words.{words_of};
 ghost use Rattle.policy_check.specs.Reasons.{IsUnseen, Stands};
 
-use crate::finding::{Finding, of};
 use crate::reason::Reason;
-use crate::word_readers::{cut, next};
+use crate::word_finding::{Finding, of};
+use crate::word_readers::next;
 
+// Whether a word begins with the byte order mark, a character that isn't seen.
 fn begins_with_mark(word: &[u8]) -> bool
     ensures { IsTrue result → (rest : List ℕ) × (word.now ≡ 239 ∷ 187 ∷ 191 ∷ rest) }
 {
     matches!(word, [0xef, 0xbb, 0xbf, ..])
 }
 
+// Whether bytes of a word begin with the no-break space, a character that isn't seen.
 fn begins_with_space(word: &[u8]) -> bool
     ensures { IsTrue result → (rest : List ℕ) × (word.now ≡ 194 ∷ 160 ∷ rest) }
 {
     matches!(word, [0xc2, 0xa0, ..])
 }
 
+// Whether a word has the no-break space, a character that isn't seen, at any place.
 fn has_no_break_space(word: &[u8]) -> bool
     ensures { IsTrue result → (front rest : List ℕ) × (word.now ≡ front ++ 194 ∷ 160 ∷ rest) }
 {
@@ -44,7 +47,7 @@ fn unseen_in(word: &[u8]) -> Option<Reason>
     }
 }
 
-/// The first word that has such a character.
+/// The first word of a text that has a character that isn't seen.
 pub fn unseen(text: &[u8]) -> Option<Finding<'_>>
     ensures reason { IfSome result (λ found. IsUnseen found.reason found.word.now) }
     ensures word { IfSome result (λ found. Stands found.word.now (words_of text.now)) }

@@ -11,7 +11,7 @@ ghost use Rattle.policy_check.specs.Reasons.{Reads};
 use acl_policy::Action;
 use packet_view::{Direction, Family, Mac};
 
-/// The first word of a text, and what follows it.
+/// Reads the first word of a text that is checked: the word, and what follows it.
 pub fn next(text: &[u8]) -> Option<(&[u8], &[u8])>
     ensures { MatchOption result (words_of text.now ≡ []) (λ r. words_of text.now ≡ r.0.now ∷ words_of r.1.now) }
 {
@@ -25,42 +25,42 @@ pub fn is_word(word: &[u8], name: &[u8]) -> bool
     word == name
 }
 
-/// What stands in front of a byte of a word, and what behind it.
+/// Reads a word of a checked line up to a byte: what stands in front of it, and what behind it.
 pub fn cut(word: &[u8], byte: u8) -> Option<(&[u8], &[u8])>
     ensures { IfSome result (λ r. word.now ≡ r.0.now ++ byte ∷ r.1.now) }
 {
     acl_policy::cut_at(word, byte)
 }
 
-/// The direction that a word says.
+/// Reads the direction that a word of a checked line says.
 pub fn direction(word: &[u8]) -> Option<Direction>
     ensures { Reads result (λ d. word.now ≡ direction_word d) }
 {
     acl_policy::direction_of(word)
 }
 
-/// The action that a word says.
+/// Reads the action that a word of a checked line says.
 pub fn action(word: &[u8]) -> Option<Action>
     ensures { Reads result (λ a. word.now ≡ action_word a) }
 {
     acl_policy::action_of(word)
 }
 
-/// The family that a word says.
+/// Reads the family that a word of a checked line says.
 pub fn family(word: &[u8]) -> Option<Family>
     ensures { Reads result (λ f. word.now ≡ family_word f) }
 {
     acl_policy::family_of(word)
 }
 
-/// The prefix that a word says.
+/// Reads the prefix that a word of a checked line says.
 pub fn prefix(family: Family, word: &[u8]) -> Option<(u128, u8)>
     ensures { Reads result (IsPrefix family word.now) }
 {
     acl_policy::prefix_of(family, word)
 }
 
-/// The address that a word says.
+/// Reads the address that a word of a checked line says.
 pub fn address(family: Family, word: &[u8]) -> Option<u128>
     ensures value { Reads result (IsAddress family word.now) }
     ensures fits { IfSome result (λ address. address < address_limit family) }
@@ -68,42 +68,42 @@ pub fn address(family: Family, word: &[u8]) -> Option<u128>
     acl_policy::address_of(family, word)
 }
 
-/// The number that a word says.
+/// Reads the number that a word of a checked line says.
 pub fn number(word: &[u8]) -> Option<u32>
     ensures { Reads result (IsNumber word.now) }
 {
     acl_policy::number_of(word)
 }
 
-/// The protocol that a word says.
+/// Reads the protocol that a word of a checked line says.
 pub fn protocol(family: Family, word: &[u8]) -> Option<u8>
     ensures { Reads result (IsProtocol family word.now) }
 {
     acl_policy::protocol_of(family, word)
 }
 
-/// The range that a word says.
+/// Reads the range that a word of a checked line says.
 pub fn range(word: &[u8], most: u16) -> Option<(u16, u16)>
     ensures { Reads result (IsRange most word.now) }
 {
     acl_policy::range_of(word, most)
 }
 
-/// The flags and their mask that a word says.
+/// Reads the flags and their mask that a word of a checked line says.
 pub fn flags(word: &[u8]) -> Option<(u8, u8)>
     ensures { Reads result (IsFlags word.now) }
 {
     acl_policy::flags_of_word(word)
 }
 
-/// The MAC address that a word says.
+/// Reads the MAC address that a word of a checked line says.
 pub fn mac(word: &[u8]) -> Option<Mac>
     ensures { Reads result (IsMac word.now) }
 {
     acl_policy::mac_of(word)
 }
 
-/// The number of an interface that a word says.
+/// Reads the number of an interface that a word of a checked line says.
 pub fn interface(word: &[u8]) -> Option<u8>
     ensures { Reads result (IsInterface word.now) }
 {

@@ -18,6 +18,7 @@ fn octet_before_dot(text: &[u8]) -> Option<(u8, &[u8])>
     Some((octet, rest))
 }
 
+/// An IPv4 address as text: four parts with dots between them.
 #[tactic(auto, unfolding(crate::specs::inner::Reading::Prefixes::four_parts_in))]
 fn four_parts_of(text: &[u8]) -> Option<u32>
     ensures { result ≡ four_parts_in text.now }
@@ -38,7 +39,7 @@ struct Groups {
     ghost fits: { number < 65536 ^ count },
 }
 
-/// The groups of a text. `None`: another form, or more than eight.
+/// The groups of an IPv6 address, or of an end of one, as text. `None`: another form, or more than eight.
 fn groups_of(text: &[u8]) -> Option<Groups>
     ensures { option_map (λ groups. (groups.number, groups.count)) result ≡ groups_in text.now }
 {
@@ -74,6 +75,7 @@ fn cut_at_double_colon(text: &[u8]) -> Option<(&[u8], &[u8])>
     Some((&text[..place], &text[place + 2..]))
 }
 
+/// Where the first `::` of an IPv6 address stands, where it has one.
 fn double_colon(text: &[u8]) -> Option<usize>
     ensures place { result ≡ position is_double (zip text.now (drop 1 text.now)) }
     ensures within { IfSome result (λ i. i + 2 ≤ length text.now) }

@@ -2,19 +2,19 @@
 #![tactic(auto)]
 
 mod address;
-mod family;
 mod line_words;
 mod mac;
 mod number_parsing;
 mod prefix;
 mod protocol_parts;
 mod ranges_and_flags;
+mod width_and_icmp_of_family;
 
 pub use address::address_of;
-pub use family::{icmp_number, width_of};
 pub use line_words::{before_comment, cut_at, is_blank, is_end, next_word, word_start};
 pub use mac::mac_of;
-pub use number_parsing::{number_of, octet_of};
+pub use number_parsing::{number_of, number_up_to, octet_of};
 pub use prefix::prefix_of;
 pub use protocol_parts::{Traffic, protocol_of, traffic_of};
-pub use ranges_and_flags::{flags_of_word, number_up_to, range_of};
+pub use ranges_and_flags::{flags_of_word, range_of};
+pub use width_and_icmp_of_family::{icmp_number, width_of};

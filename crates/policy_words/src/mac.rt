@@ -7,6 +7,7 @@ use crate::line_words::cut_at;
 use crate::number_parsing::pair_of;
 use packet_view::Mac;
 
+// The first pair of hexadecimal digits of a MAC address as text, and what follows its colon.
 #[tactic(auto, unfolding(crate::specs::inner::Reading::Numerals::piece_in))]
 fn pair_before_colon(text: &[u8]) -> Option<(u8, &[u8])>
     ensures { option_map (λ r. (r.0, r.1.now)) result ≡ piece_in 58 pair_in text.now }

@@ -1,6 +1,7 @@
 //! Numbers as digits.
 ghost use Rattle.std.specs.Prelude.{◌≡◌, ◌≤◌, ◌<◌, ◌^◌, IfSome};
 ghost use Rattle.policy_words.specs.inner.Reading.Numerals.{group_in, number_in, numeral_in, octet_in, pair_in};
+ghost use Rattle.policy_words.specs.inner.Reading.Traffic.{number_up_to_in};
 
 /// The number that at least one and at most so many digits in a base spell. `None`: they don't.
 #[tactic(auto, unfolding(crate::specs::inner::Reading::Numerals::numeral_in))]
@@ -29,7 +30,22 @@ pub fn number_of(word: &[u8]) -> Option<u32>
     numeral_of(word, 10, 5)
 }
 
-/// A part of an IPv4 address, or the number of a capture's interface: at most 255, in one to three digits.
+/// An end of a range, or another number of a policy: one to five digits, and no more than `most`.
+#[tactic(auto, unfolding(crate::specs::inner::Reading::Traffic::number_up_to_in))]
+pub fn number_up_to(word: &[u8], most: u16) -> Option<u16>
+    ensures value { result ≡ number_up_to_in most word.now }
+    ensures within { IfSome result (λ number. number ≤ most) }
+{
+    let number = number_of(word)?;
+    if number <= u32::from(most) {
+        Some(number as u16)
+    } else {
+        None
+    }
+}
+
+/// The number that one to three decimal digits spell, at most 255: a part of an IPv4 address, or the number of a
+/// capture's interface.
 #[tactic(auto, unfolding(crate::specs::inner::Reading::Numerals::octet_in))]
 pub fn octet_of(word: &[u8]) -> Option<u8>
     ensures { result ≡ octet_in word.now }
@@ -38,7 +54,7 @@ pub fn octet_of(word: &[u8]) -> Option<u8>
     u8::try_from(number).ok()
 }
 
-/// A group of an IPv6 address: one to four hexadecimal digits.
+/// The number that one to four hexadecimal digits spell: a group of an IPv6 address.
 #[tactic(auto, unfolding(crate::specs::inner::Reading::Numerals::group_in))]
 pub fn group_of(word: &[u8]) -> Option<u16>
     ensures { result ≡ group_in word.now }
@@ -47,7 +63,7 @@ pub fn group_of(word: &[u8]) -> Option<u16>
     Some(number as u16)
 }
 
-/// Two hexadecimal digits.
+/// The number that two hexadecimal digits spell.
 #[tactic(auto, unfolding(crate::specs::inner::Reading::Numerals::pair_in))]
 pub fn pair_of(word: &[u8]) -> Option<u8>
     ensures { result ≡ pair_in word.now }

@@ -5,9 +5,9 @@ ghost use Rattle.policy_words.specs.Widths.{width};
 ghost use Rattle.packet_view.specs.Addresses.{address_limit};
 
 use crate::address::address_of;
-use crate::family::width_of;
 use crate::line_words::cut_at;
 use crate::number_parsing::number_of;
+use crate::width_and_icmp_of_family::width_of;
 use packet_view::Family;
 
 /// An address and how many of its first bits count: `any`, one address, or an address and a length.

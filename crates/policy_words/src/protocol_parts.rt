@@ -4,9 +4,10 @@ ghost use Rattle.policy_words.specs.inner.Reading.Traffic.{protocol_flags_in, pr
 ghost use Rattle.policy_words.specs.Traffic.{parts_of};
 ghost use Rattle.policy_words.specs.Words.{words_of};
 
-use crate::family::icmp_number;
 use crate::line_words::{is_end, next_word};
-use crate::ranges_and_flags::{EVERY, flags_part, number_up_to, ranges_of};
+use crate::number_parsing::number_up_to;
+use crate::ranges_and_flags::{EVERY, flags_part, ranges_of};
+use crate::width_and_icmp_of_family::icmp_number;
 use packet_view::Family;
 
 const TCP: u8 = 6;
@@ -76,6 +77,7 @@ fn protocol_flags(family: Family, proto: u8, text: &[u8]) -> Option<((u8, u8), &
     }
 }
 
+/// What a protocol and the parts after it say, where nothing else follows.
 #[tactic(auto, unfolding(crate::specs::inner::Reading::Traffic::parts_in))]
 fn parts_after(family: Family, proto: u8, text: &[u8]) -> Option<Traffic>
     ensures { result ≡ parts_in (parts_of family proto) proto (words_of text.now) }

@@ -1,28 +1,14 @@
 //! The parts of a rule after its protocol: ranges of numbers, and flags.
-ghost use Rattle.std.specs.Prelude.{◌≡◌, ◌≤◌, IfSome, codes, option_map};
-ghost use Rattle.policy_words.specs.inner.Reading.Traffic.{after_in, flags_in, number_up_to_in, part_in, range_in, ranges_in};
+ghost use Rattle.std.specs.Prelude.{◌≡◌, codes, option_map};
+ghost use Rattle.policy_words.specs.inner.Reading.Traffic.{after_in, flags_in, part_in, range_in, ranges_in};
 ghost use Rattle.policy_words.specs.Traffic.{every};
 ghost use Rattle.policy_words.specs.Words.{words_of};
 
 use crate::line_words::{cut_at, next_word};
-use crate::number_parsing::{number_of, pair_of};
+use crate::number_parsing::{number_up_to, pair_of};
 
 /// Every port, type or code.
 pub const EVERY: (u16, u16) = (0, u16::MAX);
-
-/// A number of one to five digits, and no more than `most`.
-#[tactic(auto, unfolding(crate::specs::inner::Reading::Traffic::number_up_to_in))]
-pub fn number_up_to(word: &[u8], most: u16) -> Option<u16>
-    ensures value { result ≡ number_up_to_in most word.now }
-    ensures within { IfSome result (λ number. number ≤ most) }
-{
-    let number = number_of(word)?;
-    if number <= u32::from(most) {
-        Some(number as u16)
-    } else {
-        None
-    }
-}
 
 /// One number, or the least and the greatest with `-` between them.
 #[tactic(auto, unfolding(crate::specs::inner::Reading::Traffic::range_in))]

@@ -25,7 +25,8 @@ fn main(rt: HostRuntime) -> ExitCode {
     ExitCode::from(status)
 }
 
-// Does what the program's words ask for, and answers the exit status. The workers' threads come from `threads`.
+// The main function's work: does what the program's words ask for, and answers the exit status. The workers' threads
+// come from `threads`.
 fn status_of_words<T: Threads + Wait + Sync>(
     rt: &HostRuntime,
     threads: &T,
@@ -45,7 +46,7 @@ fn status_of_words<T: Threads + Wait + Sync>(
     }
 }
 
-// Runs on what the words ask for.
+// Runs the main program on the whole input that its words ask for, tells how that ended, and answers the exit status.
 fn status_of_run<T: Threads + Wait + Sync>(
     rt: &HostRuntime,
     threads: &T,
@@ -65,7 +66,8 @@ fn status_of_run<T: Threads + Wait + Sync>(
     }
 }
 
-// Runs, and saves packets where that is asked for. Where these can't be saved that is told, and None is answered.
+// Runs the main program from this source to standard output, and saves packets where that is asked for. Where these
+// can't be saved that is told, and None is answered.
 fn ran_on<T: Threads + Wait + Sync, R: Source + Send>(
     rt: &HostRuntime,
     threads: &T,
@@ -100,7 +102,7 @@ fn ran_on<T: Threads + Wait + Sync, R: Source + Send>(
     }))
 }
 
-// Runs on the capture of a file while it comes.
+// Runs the main program on the capture of a file while it comes, tells how that ended, and answers the exit status.
 fn status_of_live<T: Wait>(
     rt: &HostRuntime,
     threads: &T,

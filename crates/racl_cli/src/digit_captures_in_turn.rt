@@ -13,7 +13,8 @@ ghost use Rattle.racl_cli.specs.inner.Plans.{HasReached, MayJudgeContent};
 use crate::capture_header_reading::read_header;
 use crate::ended_workers::Ended;
 use crate::input_front::Marked;
-use crate::judge_by_plan::{Plan, end_capture, plan_for, threads_beside, window_size};
+use crate::judge_by_plan::end_capture;
+use crate::run_plan::{Plan, plan_for, threads_beside, window_size};
 use crate::sized_tables_and_workers::{SizedWorkers, create_sized};
 use crate::stored_sessions::with_stored;
 use crate::workers_as_judges::Crew;
@@ -45,7 +46,7 @@ pub struct Walk<'t, 'f, 'b, T: Wait> {
 impl<'t, 'f, 'b, T: Wait> Walk<'t, 'f, 'b, T> {
     ghost use Rattle.std.specs.Prelude.{◌≡◌, [], Some};
 
-    /// No capture was judged, and this is the first.
+    /// A walk over captures as digits, of which none was judged yet, and this is the first.
     fn at(beside: Option<&'t T>, crew: Crew<'t, 'f, T>, first: Numbered<'b>) -> Walk<'t, 'f, 'b, T>
         ensures crew { result.crew ≡ crew.entry }
         ensures captures { result.captures.items ≡ [] }
@@ -63,7 +64,7 @@ impl<'t, 'f, 'b, T: Wait> Walk<'t, 'f, 'b, T> {
     }
 }
 
-// Whether a capture of the interface with this number was judged.
+// Whether one of the captures as digits that were judged is of the interface with this number.
 fn is_seen(seen: &[u8], number: u8) -> bool
     ensures { result ≡ list_any (λ other. other == number) seen.now }
 {
@@ -101,7 +102,7 @@ fn judge_digits<'t, 'f, T: Threads + Wait + Sync>(
     judge_stream(beside, alloc, &mut source, crew, opening, size)
 }
 
-// Judges the next capture.
+// Judges the next one of captures as digits, which come in turn.
 fn judge_next<'t, 'f, 'b, T: Threads + Wait + Sync>(
     walk: Walk<'t, 'f, 'b, T>,
     capture: Numbered<'b>,
@@ -145,7 +146,7 @@ fn judge_next<'t, 'f, 'b, T: Threads + Wait + Sync>(
     })
 }
 
-// Judges all captures with numbers.
+// Judges in turn all captures as digits that have numbers.
 fn judge_each<'t, 'f, 'b, T: Threads + Wait + Sync>(
     begun: Walk<'t, 'f, 'b, T>,
 ) -> Result<Ended, Fault>
@@ -169,7 +170,7 @@ fn judge_each<'t, 'f, 'b, T: Threads + Wait + Sync>(
     })
 }
 
-// Judges all captures that follow a marker line of this form: the only one, or those with numbers.
+// Judges all captures as digits that follow a marker line of this form: the only one, or those with numbers.
 fn judge_all<'t, T: Threads + Wait + Sync>(
     beside: Option<&'t T>,
     crew: Crew<'t, '_, T>,
@@ -192,7 +193,7 @@ fn judge_all<'t, T: Threads + Wait + Sync>(
     }
 }
 
-// What the packets of all captures met that follow a marker line of this form, by this plan.
+// What the packets of all captures as digits met that follow a marker line of this form, by this plan.
 fn judge_content<T: Threads + Wait + Sync>(
     rt: &T,
     alloc: Global,

@@ -4,7 +4,7 @@ ghost use Rattle.racl_io.specs.Inputs.{most_bytes};
 ghost use Rattle.racl_io.specs.Transfers.{HasReadWithin};
 ghost use Rattle.racl_cli.specs.Reads.{AnswersInput, AnswersRead, HasFront, HasOpened, HasRest, IsUnread};
 
-use crate::judge_by_plan::front_bytes;
+use crate::run_plan::front_bytes;
 use acl_policy::read_policy;
 use flow_workers::Filter;
 use packet_view::{Order, capture_header};
@@ -87,7 +87,7 @@ pub struct Front {
     pub opened: Opened,
 }
 
-// An input of which all was read.
+// The front of an input of which all was read.
 fn open_whole(alloc: Global, options: &Options, bytes: Vec<u8>) -> Result<Front, Fault>
     ensures bytes { IfOk result (λ front. front.bytes ≡ bytes) }
     ensures ended { IfOk result (λ front. front.ended ≡ true) }
@@ -104,7 +104,7 @@ fn open_whole(alloc: Global, options: &Options, bytes: Vec<u8>) -> Result<Front,
     }
 }
 
-/// Reads all that an input has behind these bytes.
+/// Reads all that an input has behind these bytes at its front.
 pub fn read_rest<R: Source>(reader: &mut R, bytes: &mut Vec<u8>) -> Result<(), Fault>
     requires { R.failures reader.old < 2 ^ 64 - 1 }
     ensures ok { OnOk result (HasRest (R.bytes reader.old) (R.bytes reader.new) bytes.old.items bytes.new.items) }

@@ -11,6 +11,7 @@ mod judge_by_plan;
 mod live_run;
 mod open_gate;
 mod run_laws;
+mod run_plan;
 mod runs_end_to_end;
 mod sized_tables_and_workers;
 mod stored_sessions;

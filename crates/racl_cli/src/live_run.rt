@@ -27,7 +27,7 @@ pub struct LiveHead<'t, 'f> {
     pub order: Order,
 }
 
-// The packets of the capture behind its header are told by one worker.
+// In a live run one worker tells the packets of the capture behind its header while they come.
 fn tell_capture<R: Source, W: Sink, T: Wait>(
     rt: &T,
     alloc: Global,

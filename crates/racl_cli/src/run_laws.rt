@@ -6,13 +6,13 @@ ghost use Rattle.flow_dealing.specs.WorkerRecords.{HavePages};
 ghost use Rattle.racl_options.specs.declared.settings.Options.{Options};
 ghost use Rattle.racl_options.specs.declared.settings.TableSize.{TableSize};
 ghost use Rattle.racl_io.specs.declared.fault.Fault.{Fault};
-ghost use Rattle.racl_io.specs.declared.whole_report.Totals.{Totals};
+ghost use Rattle.racl_io.specs.declared.report_totals.Totals.{Totals};
 ghost use Rattle.racl_io.specs.Faults.{IsInputFault};
 ghost use Rattle.racl_cli.specs.Runs.{HasOutcome, HasRun, keeps_stored, layout_for};
 ghost use Rattle.racl_report.specs.RunReports.{Outcome};
 ghost use Rattle.racl_cli.specs.StoredRuns.{AreLeftByOneThread};
 
-/// All bytes are an input of one outcome of the one-thread filter or have one fault, and never both.
+/// All bytes are an input whose run has one outcome, that of the one-thread filter, or have one fault, and never both.
 pub fn each_input_has_one_outcome()
     ensures some { (size : TableSize) (times : Timeouts) (bytes : List ℕ) → ((outcome : Outcome) × HasOutcome size times bytes outcome)
         ⊎ ((fault : Fault) × IsInputFault bytes fault) }

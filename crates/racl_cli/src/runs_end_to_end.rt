@@ -11,7 +11,8 @@ ghost use Rattle.racl_cli.specs.SavingRuns.{HasRunSaving};
 use crate::bytes_at_hand::AtHand;
 use crate::digit_captures_in_turn::judge_captures;
 use crate::input_front::{Front, Headed, Opened, open_source, read_rest};
-use crate::judge_by_plan::{judge_records, threads_beside};
+use crate::judge_by_plan::judge_records;
+use crate::run_plan::threads_beside;
 use capture_stream::Opening;
 use racl_io::{Fault, Sink, Source, Totals};
 use racl_options::Options;
@@ -20,7 +21,7 @@ use std::alloc::Global;
 use std::sync::Wait;
 use std::thread::Threads;
 
-// What the packets of an input met that is read.
+// What the packets met of an input that a run reads from its front to its end.
 fn judge_source<R: Source + Send, T: Threads + Wait + Sync>(
     rt: &T,
     alloc: Global,
@@ -59,7 +60,7 @@ fn judge_source<R: Source + Send, T: Threads + Wait + Sync>(
     }
 }
 
-// What the packets of an input met that is read, whose bytes are kept.
+// What the packets met of an input whose bytes a run reads to the end, and keeps, before it judges.
 fn judge_kept<R: Source + Send, T: Threads + Wait + Sync>(
     rt: &T,
     alloc: Global,
@@ -84,7 +85,7 @@ fn judge_kept<R: Source + Send, T: Threads + Wait + Sync>(
     }
 }
 
-// Whose threads may make lines of the report beside this one.
+// Whose threads a run may take beside this one, from end to end: nobody's where the options ask for one worker.
 fn beside<'a, T>(rt: &'a T, options: &Options) -> Option<&'a T> {
     threads_beside(rt, options.workers > 1)
 }

@@ -20,7 +20,7 @@ use std::sync::Wait;
 /// From how many packets of a window on each worker judges them in a thread of its own.
 pub const MANY_PACKETS: usize = 65_536;
 
-// What so many workers share, who judge by this filter over these tables. Packets are dealt by bucket.
+// What so many workers share over tables of one of the sizes, who judge by this filter. Packets are dealt by bucket.
 fn setup_of<'t, 'f, A: Shape, B: Shape, T: Wait>(
     rt: &'t T,
     filter: &'t InterfaceFilters<'f>,

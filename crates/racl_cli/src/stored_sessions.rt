@@ -16,14 +16,14 @@ use racl_views::StoredPairs;
 use std::alloc::{AllocError, Global};
 use std::sync::Wait;
 
-/// Whether what is told needs the sessions that stand in the tables at the end.
+/// Whether what is told needs the sessions that are stored in the tables at the end.
 pub fn keeps_stored(options: &Options) -> bool
     ensures { result ≡ Runs.keeps_stored options.now }
 {
     options.hits || options.sessions
 }
 
-// The pairs of the tables, which end, or none.
+// The sessions that are stored in the tables, which end, where these are told; or none.
 fn stored_of<T: Wait>(
     rt: &T,
     alloc: Global,
@@ -43,7 +43,7 @@ fn stored_of<T: Wait>(
     })
 }
 
-/// What was judged by workers who ended, with the sessions that stand in their tables, where these are told.
+/// What was judged by workers who ended, with the sessions that are stored in their tables, where these are told.
 pub fn with_stored<T: Wait>(
     rt: &T,
     alloc: Global,

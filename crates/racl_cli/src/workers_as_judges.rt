@@ -21,6 +21,7 @@ impl<'t, 'f, T: Threads + Wait + Sync> Judges for Crew<'t, 'f, T> {
 
     ghost became = { λ begun packets crew. IsSync T.row × AreAfter (orders_of begun.workers) packets crew.workers };
 
+    // The workers of either size of tables judge these packets, as judges of a capture.
     fn judge(self, packets: Packets<'_>) -> Result<Crew<'t, 'f, T>, AllocError> {
         let Crew { alloc, workers } = self;
         match workers {
@@ -56,6 +57,7 @@ impl<'t, 'f, T: Wait> Tellers for Lone<'t, 'f, T> {
 
     ghost judged = { λ begun packets said. AreSaid (orders_of begun.workers) packets said };
 
+    // The only worker judges these packets, as the judge of a capture, and hands over the verdicts.
     fn judge(self, packets: Packets<'_>) -> Result<(Lone<'t, 'f, T>, Vec<Verdict>), AllocError> {
         let Lone { alloc, workers } = self;
         match workers.judge_alone(alloc, packets) {

@@ -9,7 +9,7 @@ use Rattle.racl_io.specs.Fronts.{front_of}
 use Rattle.racl_io.specs.Joined.{bytes_in_turn, content_in}
 use Rattle.racl_io.specs.declared.readers_in_turn.InTurn.{InTurn}
 use Rattle.racl_io.specs.declared.joined_source.Joined.{Joined}
-use Rattle.racl_io.specs.declared.reader_as_digits.Written.{Written}
+use Rattle.racl_io.specs.declared.capture_as_written.Written.{Written}
 
 -- a digit that is to be given yet
 abbrev pub kept_digit : Option ℕ → List ℕ

@@ -9,13 +9,14 @@ use crate::fault::Fault;
 use hex::FromHexError;
 use std::alloc::{AllocError, Global};
 
-/// Whether this isn't looked at among digits.
+/// Whether this byte is a blank, which isn't looked at where hexadecimal digits are decoded.
 pub fn is_blank(b: u8) -> bool
     ensures { result ≡ Inputs.is_blank b }
 {
     matches!(b, b' ' | b'\t' | b'\n' | b'\r')
 }
 
+// What is decoded as hexadecimal digits: these bytes without the blanks among them.
 fn digits(alloc: Global, content: &[u8]) -> Result<Vec<u8>, AllocError>
     ensures { IfOk result (λ v. v.items ≡ digits_of content.now) }
 {

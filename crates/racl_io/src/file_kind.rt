@@ -40,21 +40,21 @@ struct Marks {
 impl Marks {
     ghost use Rattle.std.specs.Prelude.{◌≡◌, ◌==◌, ◌&&◌, ◌||◌};
 
-    // Whether they are those of a modified pcap file.
+    // Whether the kind of the file is modified pcap, by the first bytes of its header.
     fn is_modified(self) -> bool
         ensures { result ≡ (self.magic == 0xa1b2cd34) }
     {
         self.magic == 0xa1b2_cd34
     }
 
-    // Whether they are those of a pcap file.
+    // Whether the kind of the file is classic pcap, by the first bytes of its header.
     fn is_pcap(self) -> bool
         ensures { result ≡ ((self.magic == 0xa1b2c3d4) || (self.magic == 0xa1b23c4d)) }
     {
         self.magic == 0xa1b2_c3d4 || self.magic == 0xa1b2_3c4d
     }
 
-    // Whether they are those of a pcap file of Linux cooked frames.
+    // Whether the kind of the file is classic pcap of Linux cooked frames, which aren't those of Ethernet.
     fn is_cooked(self) -> bool
         ensures { result ≡ (((self.magic == 0xa1b2c3d4) || (self.magic == 0xa1b23c4d)) && ((self.link == 113) || (self.link == 276))) }
     {
@@ -113,8 +113,8 @@ pub fn other_file(bytes: &[u8]) -> Option<Other>
     }
 }
 
-/// Whether a file that begins with these bytes, of which the first 24 tell, is a classic pcap file, or one of which
-/// `other_file` tells what it is.
+/// Whether the kind of a file that begins with these bytes, of which the first 24 tell, is classic pcap, or one that
+/// `other_file` tells.
 pub fn is_capture(bytes: &[u8]) -> bool
     ensures { result ≡ is_capture bytes.now }
 {

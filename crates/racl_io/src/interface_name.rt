@@ -1,7 +1,9 @@
 //! How the lines of a capture name the interface where it was taken.
 ghost use Rattle.std.specs.Prelude.{◌≡◌, ◌↔◌, ℕ, ◌+◌, ◌≤◌, ◌++◌, true, Option, None, codes, decimal, length, take};
+ghost use Rattle.racl_io.specs.Reports.{name_of};
 ghost use Rattle.racl_io.specs.inner.Names.{name_behind};
 
+use crate::number_printing::Numeral;
 use crate::report_piece::Piece;
 use std::marker::Model;
 
@@ -25,7 +27,7 @@ impl Model for Name {
     ghost invariant = { λ n. (n.len ≤ 7) × (take n.len n.text ≡ name_behind n.named) };
 }
 
-// The text, and how many bytes of it count.
+// The text that names the interface with this number in a capture's lines, and how many bytes of it count.
 fn text_of(number: u8) -> ([u8; ROOM], usize)
     ensures text { take result.1 result.0 ≡ codes " if " ++ decimal number }
     ensures short { result.1 ≤ 7 }
@@ -44,6 +46,7 @@ fn text_of(number: u8) -> ([u8; ROOM], usize)
 }
 
 impl Name {
+    /// The name of the interface with this number, or that lines name none.
     pub fn of(named: Option<u8>) -> Name
         ensures { result ≡ named }
     {
@@ -65,7 +68,7 @@ impl Name {
         self.named.is_none()
     }
 
-    /// Pushes the name as it stands behind a line's number.
+    /// Pushes the interface's name as it stands behind a line's number.
     #[inline(always)]
     pub fn push(&self, piece: &mut Piece)
         requires { length piece.old + 8 ≤ 262144 }
@@ -74,4 +77,18 @@ impl Name {
     {
         piece.push_first(&self.text, self.len);
     }
+}
+
+/// What names the interface in the line of a packet, or of a truncated capture, where lines name it.
+pub fn push_name(piece: &mut Piece, named: Option<u8>)
+    requires { length piece.old + 28 ≤ 262144 }
+    ensures text { piece.new ≡ piece.old ++ name_of named }
+    ensures short { length piece.new ≤ length piece.old + 28 }
+{
+    let Some(number) = named else {
+        return;
+    };
+    piece.push(b"if ");
+    Numeral::of(number as u64).push(piece);
+    piece.push(b" ");
 }

@@ -5,9 +5,9 @@ ghost use Rattle.racl_io.specs.Joined as told;
 ghost use Rattle.racl_io.specs.Joined.{joined_bytes, marked_bytes};
 ghost use Rattle.racl_io.specs.Writings.{front_at, joined_left, marked_left};
 
+use crate::capture_as_written::Written;
 use crate::device::{Device, DeviceFault, Source};
 use crate::marker_line::Form;
-use crate::reader_as_digits::Written;
 use crate::readers_in_turn::InTurn;
 use itoa::Buffer;
 use std::alloc::{AllocError, Global};
@@ -16,7 +16,7 @@ use std::io::{Chain, Cursor, Read};
 /// What gives a marker line, and behind it a capture in the line's form.
 pub type Marked<R> = Chain<Cursor<Vec<u8>>, Written<R>>;
 
-// The line feed that ends the line before, and a marker line.
+// The marker line that a joined source has before a capture, behind the line feed that ends the line before.
 fn marker_line(alloc: Global, form: Form) -> Result<Vec<u8>, AllocError>
     ensures { IfOk result (λ line. line.items ≡ told.marker_line form) }
 {
@@ -32,7 +32,7 @@ fn marker_line(alloc: Global, form: Form) -> Result<Vec<u8>, AllocError>
     }
 }
 
-/// A capture from a reader behind its marker line.
+/// A capture from a reader behind its marker line, as it is joined to a policy in one source.
 pub fn marked<R: Read + Drop>(
     alloc: Global,
     form: Form,

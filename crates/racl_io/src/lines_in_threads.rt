@@ -14,6 +14,12 @@ use flow_filter::Verdict;
 use std::alloc::{AllocError, Global};
 use std::thread::{Threads, join_mut};
 
+/// From how many packets on it pays to make lines in several threads.
+const FEW_LINES: usize = 262_144;
+
+/// How many lines are made by several threads at once: so many that these pay, and so few that their text is short.
+const BATCH_LINES: usize = 131_072;
+
 /// The most bytes of a line.
 const LINE_BYTES: usize = 72;
 
@@ -27,7 +33,7 @@ pub struct Lines {
 }
 
 impl Lines {
-    /// Room for so many lines, which is touched only where lines come.
+    /// Room for so many lines that a thread makes, which is touched only where lines come.
     fn new(alloc: Global, count: usize) -> Result<Lines, AllocError>
         requires { count ≤ 131072 }
         ensures { IfOk result HasRoom }
@@ -39,8 +45,9 @@ impl Lines {
         })
     }
 
-    /// Room for the last of so many lines. A part is written after those before it, so there is more time to make it:
-    /// each has two fifths of what the parts after it leave, and about a fifth of all lines come before the parts.
+    /// Room for the last of so many lines, a part for each thread. A part is written after those before it, so there is
+    /// more time to make it: each has two fifths of what the parts after it leave, and about a fifth of all lines come
+    /// before the parts.
     pub fn parts(alloc: Global, lines: usize) -> Result<[Lines; 3], AllocError>
         requires { lines ≤ 131072 }
         ensures { IfOk result (All HasRoom) }
@@ -118,4 +125,58 @@ pub fn write_beside<W: Sink, T: Threads>(
     let passed = written?;
     write_all(writer, &lines.text)?;
     Ok(passed + more)
+}
+
+// Writes the whole report's lines for a batch of packets at this place. Where there is memory, few of them are made in
+// this thread: writing takes it nearly as long as making them all would.
+fn write_batch<W: Sink, T: Threads>(
+    rt: &T,
+    alloc: Global,
+    writer: &mut W,
+    piece: &mut Piece,
+    place: Place,
+    verdicts: &[Verdict],
+) -> Result<u64, Fault>
+    requires few { length verdicts.now ≤ 131072 }
+    requires sound { W.failures writer.old < 2 ^ 64 - 1 }
+    requires fits { place.others + length verdicts.now < 2 ^ 64 }
+    ensures { HasWritten W.bytes W.failures writer.old writer.new place verdicts.now result }
+{
+    match Lines::parts(alloc, verdicts.len()) {
+        Ok(mut parts) => write_beside(rt, writer, piece, &mut parts, place, verdicts),
+        Err(_) => write_lines(writer, piece, place, verdicts),
+    }
+}
+
+/// Writes the whole report's lines for the packets at this place, by several threads where they are many and threads can
+/// be made.
+pub fn write_packets<W: Sink, T: Threads>(
+    beside: Option<&T>,
+    alloc: Global,
+    writer: &mut W,
+    piece: &mut Piece,
+    place: Place,
+    verdicts: &[Verdict],
+) -> Result<u64, Fault>
+    requires sound { W.failures writer.old < 2 ^ 64 - 1 }
+    requires fits { place.others + length verdicts.now < 2 ^ 64 }
+    ensures { HasWritten W.bytes W.failures writer.old writer.new place verdicts.now result }
+{
+    let Some(rt) = beside else {
+        return write_lines(writer, piece, place, verdicts);
+    };
+    if verdicts.len() < FEW_LINES {
+        return write_lines(writer, piece, place, verdicts);
+    }
+    let mut passed = 0;
+    let mut others = place.others;
+    let mut rest = verdicts;
+    'batches: while !rest.is_empty() {
+        let (batch, behind) = rest.split_at(rest.len().min(BATCH_LINES));
+        let next = Place { others, ..place };
+        passed += write_batch(rt, alloc, writer, piece, next, batch)?;
+        others += batch.len();
+        rest = behind;
+    }
+    Ok(passed)
 }

@@ -48,7 +48,7 @@ pub struct Digits<'a> {
     pub next: Option<Numbered<'a>>,
 }
 
-// What follows `hex` and a space.
+// What follows `hex` and a space in the word of a marker line.
 fn after_hex(word: &[u8]) -> Option<&[u8]>
     ensures some { IfSome result (λ rest. word.now ≡ codes "hex " ++ rest.now) }
     ensures none { IfNone result ((rest : List ℕ) → word.now ≡ codes "hex " ++ rest → ⊥) }
@@ -107,7 +107,7 @@ fn marker(line: &[u8], marks: Marks) -> Option<Form>
     form_of(word, marks)
 }
 
-/// The first line feed.
+/// The first line feed: what stands before it may be a marker line.
 fn line_feed(bytes: &[u8]) -> Option<usize>
     ensures within { IfSome result (λ i. i < length bytes.now) }
     ensures found { IfSome result (λ i. slice_index bytes.now i ≡ 10) }
@@ -117,7 +117,7 @@ fn line_feed(bytes: &[u8]) -> Option<usize>
     bytes.iter().position(|b| *b == b'\n')
 }
 
-/// The first line without its line feed, and what follows it; None where no line ends.
+/// The first line, which may be a marker line, without its line feed, and what follows it; None where no line ends.
 fn first_line(bytes: &[u8]) -> Option<(&[u8], &[u8])>
     ensures some { IfSome result (λ r. IsFirstLine bytes.now r.0.now r.1.now) }
     ensures none { IfNone result (HasNoFeed bytes.now) }

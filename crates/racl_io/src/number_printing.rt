@@ -1,5 +1,5 @@
 //! The digits of numbers, and of one that is counted up.
-ghost use Rattle.std.specs.Prelude.{◌≡◌, ℕ, ◌+◌, ◌-◌, ◌*◌, ◌<◌, ◌≤◌, ◌^◌, ◌++◌, decimal, drop, length};
+ghost use Rattle.std.specs.Prelude.{◌≡◌, ℕ, ◌+◌, ◌*◌, ◌<◌, ◌≤◌, ◌^◌, ◌++◌, decimal, drop, length};
 
 use crate::report_piece::Piece;
 use itoa::write_digits;
@@ -27,6 +27,7 @@ impl Model for Numeral {
 }
 
 impl Numeral {
+    /// The number with its digits, which are made once, and may be printed several times.
     pub fn of(number: u64) -> Numeral
         ensures { result ≡ number }
     {
@@ -39,12 +40,14 @@ impl Numeral {
         }
     }
 
+    /// The number whose digits are printed.
     pub fn number(&self) -> u64
         ensures { result ≡ self.now }
     {
         self.number
     }
 
+    /// Prints the digits of the number at the end of a piece.
     #[inline(always)]
     pub fn push(&self, piece: &mut Piece)
         requires { length piece.old + 24 ≤ 262144 }
@@ -72,6 +75,7 @@ impl Model for Counter {
 }
 
 impl Counter {
+    /// A number from which is counted up, with its digits for printing.
     pub fn at(number: u64) -> Counter
         ensures { result ≡ number }
     {
@@ -81,6 +85,7 @@ impl Counter {
         }
     }
 
+    /// Counts up: the digits before the last one are made anew for printing once in ten times.
     #[inline(always)]
     pub fn count(&mut self)
         requires { self.old + 1 < 2 ^ 64 }
@@ -94,6 +99,7 @@ impl Counter {
         }
     }
 
+    /// Prints the digits of the number that was counted up to, at the end of a piece.
     #[tactic(auto, using(crate::proofs::NumeralLemmas::tens_and_last, std::proofs::lemmas::Fmt::decimal_digit))]
     #[inline(always)]
     pub fn push(&self, piece: &mut Piece)

@@ -1,17 +1,17 @@
 //! The lines of packets: a number, perhaps an interface, and a verdict.
 ghost use Rattle.std.specs.Prelude.{◌≡◌, ◌+◌, ◌*◌, ◌<◌, ◌≤◌, ◌^◌, ◌++◌, [], None, codes, length, decimal};
 ghost use Rattle.racl_io.specs.Reports;
-ghost use Rattle.racl_io.specs.Reports.{line_of, lines_from, name_of, text_of};
+ghost use Rattle.racl_io.specs.Reports.{line_of, lines_from, text_of};
 
 use crate::interface_name::Name;
-use crate::number_printing::{Counter, Numeral};
+use crate::number_printing::Counter;
 use crate::report_piece::Piece;
 use flow_filter::Verdict;
 
 /// How many packets have their lines in one piece. A line has at most 72 bytes.
 pub const LINES: usize = 3600;
 
-/// A rule has few digits, which are pushed one by one.
+/// The number of the rule in a packet's line: it has few digits, which are pushed one by one.
 #[tactic(auto, using(std::proofs::lemmas::Fmt::decimal_digit, std::proofs::lemmas::Fmt::decimal_step, crate::proofs::NumeralLemmas::length_digit, crate::proofs::NumeralLemmas::length_step))]
 fn push_number(piece: &mut Piece, n: u64)
     requires { length piece.old + length (decimal n) ≤ 262144 }
@@ -25,6 +25,7 @@ fn push_number(piece: &mut Piece, n: u64)
     piece.push(&[b'0' + (n % 10) as u8]);
 }
 
+/// What a packet's line says where a rule decided: the effect, the rule's number, and the rest of the line.
 #[inline(always)]
 fn push_rule(piece: &mut Piece, effect: &[u8], n: u16, rest: &[u8])
     requires { length piece.old + length effect.now + length rest.now + 20 ≤ 262144 }
@@ -36,7 +37,7 @@ fn push_rule(piece: &mut Piece, effect: &[u8], n: u16, rest: &[u8])
     piece.push(rest);
 }
 
-/// What follows a line's number. A constant piece costs no call, and the fewer they are the better.
+/// The verdict, which ends a packet's line. A constant piece costs no call, and the fewer they are the better.
 #[inline(always)]
 fn push_verdict(piece: &mut Piece, verdict: Verdict)
     requires { length piece.old + 40 ≤ 262144 }
@@ -58,6 +59,7 @@ fn push_verdict(piece: &mut Piece, verdict: Verdict)
     }
 }
 
+/// The line of a packet that names no interface: a number and a verdict.
 fn push_line(piece: &mut Piece, number: &Counter, verdict: Verdict)
     requires fits { number.now < 2 ^ 64 }
     requires room { length piece.old + 72 ≤ 262144 }
@@ -68,6 +70,7 @@ fn push_line(piece: &mut Piece, number: &Counter, verdict: Verdict)
     push_verdict(piece, verdict);
 }
 
+/// The line of a packet: a number, the name of an interface where lines name it, and a verdict.
 pub fn push_named_line(piece: &mut Piece, number: &Counter, name: &Name, verdict: Verdict)
     requires fits { number.now < 2 ^ 64 }
     requires room { length piece.old + 72 ≤ 262144 }
@@ -109,18 +112,4 @@ pub fn push_lines(piece: &mut Piece, number: &mut Counter, name: &Name, verdicts
         }
     }
     passed
-}
-
-/// What names the interface of a capture behind a line's number, where lines name it.
-pub fn push_name(piece: &mut Piece, named: Option<u8>)
-    requires { length piece.old + 28 ≤ 262144 }
-    ensures text { piece.new ≡ piece.old ++ name_of named }
-    ensures short { length piece.new ≤ length piece.old + 28 }
-{
-    let Some(number) = named else {
-        return;
-    };
-    piece.push(b"if ");
-    Numeral::of(number as u64).push(piece);
-    piece.push(b" ");
 }

@@ -20,6 +20,7 @@ const PART_BYTES: usize = 32_768;
 /// for the most at once: so none of them are moved again, and pages are touched only where bytes come.
 const SMALL_BYTES: usize = 1_048_576;
 
+// Keeps bytes of an input, as reading gives them, behind those that were read before.
 fn keep(all: &mut Vec<u8>, bytes: &[u8]) -> Result<(), AllocError>
     requires { vec_len all.old ≤ most_bytes }
     ensures items { OnOk result (all.new.items ≡ all.old.items ++ bytes.now) }
@@ -33,8 +34,8 @@ fn keep(all: &mut Vec<u8>, bytes: &[u8]) -> Result<(), AllocError>
     Ok(())
 }
 
-/// Reads into the buffer until it has so many bytes, and answers `true` where a read gives no byte before that. No more
-/// bytes are asked for. Where there is no memory, bytes that were read are lost.
+/// Reads from a source, behind the bytes that are there, until these are so many, and answers `true` where a read gives
+/// no byte before that. No more bytes are asked for. Where there is no memory, bytes that were read are lost.
 pub fn read_until<R: Source>(reader: &mut R, all: &mut Vec<u8>, least: usize) -> Result<bool, Fault>
     requires sound { R.failures reader.old < 2 ^ 64 - 1 }
     requires few { least ≤ most_bytes + 1 }

@@ -13,9 +13,8 @@ use crate::number_printing::Counter;
 use crate::packet_lines::{LINES, push_named_line};
 use crate::reading_and_writing::write_all;
 use crate::report_piece::Piece;
-use crate::whole_report::{
-    Captured, Place, Totals, totals_on, write_report, write_totals, write_truncation,
-};
+use crate::report_totals::{Captured, Totals, totals_on, write_totals, write_truncation};
+use crate::whole_report::{Place, write_report};
 use flow_filter::Verdict;
 use std::alloc::Global;
 use std::thread::Threads;
@@ -31,7 +30,7 @@ pub enum Shown {
     Nothing,
 }
 
-/// Whether a packet with this verdict has a line.
+/// Whether a packet with this verdict has a line in a report of shown lines.
 pub fn has_line(shown: Shown, verdict: Verdict) -> bool
     ensures { result ≡ is_shown shown verdict }
 {

@@ -10,8 +10,8 @@ ghost use Rattle.racl_options.specs.Origins.{origin_facts};
 ghost use Rattle.racl_options.specs.Selections.{Explain, Hits, JsonLines, Live, Sessions, lines_by};
 ghost use Rattle.racl_options.specs.inner.Naming.{IsRefused, SpellOptions, values_in};
 
-use crate::matched_flags::{is_given, lines_named, saved_named, shown_named};
 use crate::named_files::{Refusal, origin_named};
+use crate::selected_output::{is_given, lines_named, saved_named, shown_named};
 use crate::settings::{Asked, Lines, Options, Origin, Saved, TableSize};
 use crate::table_size::size_named;
 use clap::ArgMatches;
@@ -55,14 +55,14 @@ pub fn asked_by<'a>(alloc: Global, matches: &ArgMatches<'a>) -> Result<Asked<'a>
     }
 }
 
-// Whether these are the files of a policy and a capture.
+// Whether the files of a policy and a capture are asked for, which other options need.
 fn are_files(origin: &Origin<'_>) -> bool
     ensures { result ≡ told.are_files (origin_facts origin.now) }
 {
     matches!(origin, Origin::Files(_))
 }
 
-// Whether verdicts can be written as packets come beside these options.
+// Whether `--live` goes with these other options: verdicts can be written as packets come beside them.
 fn is_simple_run(options: &Options) -> bool
     ensures { result ≡ told.is_simple_run (option_facts options.now) }
 {
@@ -72,14 +72,14 @@ fn is_simple_run(options: &Options) -> bool
         && !(options.hits || options.sessions)
 }
 
-// Whether packets are to be saved.
+// Whether the options that are asked save packets, by `--drops` or `--passes`.
 fn is_saved(saved: &Saved<'_>) -> bool
     ensures { result ≡ (is_some (text_behind saved.now.drops) || is_some (text_behind saved.now.passes)) }
 {
     saved.drops.is_some() || saved.passes.is_some()
 }
 
-// Whether one file is to get both.
+// Whether `--drops` and `--passes` ask for one file, which can't get both.
 fn is_shared(drops: Option<&str>, passes: Option<&str>) -> bool
     ensures { result ≡ told.is_shared (text_behind drops.entry) (text_behind passes.entry) }
 {
@@ -89,7 +89,7 @@ fn is_shared(drops: Option<&str>, passes: Option<&str>) -> bool
     }
 }
 
-// Whether verdicts can be written as packets come.
+// Whether `--live` goes with all else that is asked for: verdicts can be written as packets come.
 fn can_be_live(asked: &Asked<'_>) -> bool
     ensures { result ≡ told.can_be_live (asked_facts asked.now) }
 {
@@ -143,6 +143,7 @@ fn read_options(matches: &ArgMatches<'_>, tables: TableSize, shown: Shown) -> Op
     }
 }
 
+// The number that the option of this name asks for, or its default.
 fn number_at(matches: &ArgMatches<'_>, name: &str) -> u32
     requires { HoldsNumber 4294967295 (one_text (found_of matches.now) name.now) }
     ensures { (option : OptionName)

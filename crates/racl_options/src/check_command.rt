@@ -50,7 +50,7 @@ fn described_check<'a>(alloc: Global) -> Command<'a>
         .after_help(after_help())
 }
 
-// What stands below the argument.
+// The help of `racl check` below its argument.
 fn after_help() -> &'static str {
     "Exit status:
   0  the text is a policy

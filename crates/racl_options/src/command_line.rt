@@ -18,8 +18,8 @@ use clap::error::ErrorKind;
 use clap::{Arg, ArgAction, Command, Error, value_parser};
 use std::alloc::{AllocError, Global};
 
-/// Reads the words, of which the first is the program's name. An `Err` is a request for the help
-/// or the version, a mistake in the words, or that memory ran out, by its kind.
+/// Reads the words of the command line, of which the first is the program's name. An `Err` is a request for the help or
+/// the version, a mistake in the words, or that memory ran out, by its kind.
 pub fn options<'a>(alloc: Global, words: &'a [&'a str]) -> Result<Asked<'a>, Error>
     ensures ok { IfOk result (λ a. AskForRun (texts words.entry.now) (asked_facts a)) }
 
@@ -48,7 +48,7 @@ pub fn options<'a>(alloc: Global, words: &'a [&'a str]) -> Result<Asked<'a>, Err
     }
 }
 
-/// The status with which the program ends after words that `options` refuses.
+/// The status with which the program ends after words of the command line that `options` refuses.
 pub fn words_status(error: &Error) -> u8
     ensures request { IsRequest (kind_of error.now) → result ≡ 0 }
     ensures memory { kind_of error.now ≡ ErrorKind.OutOfMemory → result ≡ 4 }
@@ -71,7 +71,7 @@ const USAGE: &str = "racl [OPTIONS] POLICY CAPTURE
        racl [OPTIONS] < INPUT
        racl check POLICY";
 
-// What stands below the options. A function of its own, so that no proof of a caller has the text.
+// The help of the command line below the options. A function of its own, so that no proof of a caller has the text.
 fn after_help() -> &'static str {
     "INPUT is a policy, a line `pcap` or `hex`, and the capture in that form; POLICY and CAPTURE are such \
     a policy and a capture's bytes. Except with --live they have at most 67108864 bytes in all, in which a byte \
@@ -96,6 +96,7 @@ Exit status:
   4  memory or device"
 }
 
+// The command line as `clap` reads it, with all options, flags and files.
 fn command<'a>(alloc: Global) -> Result<Command<'a>, AllocError>
     ensures { IfOk result (λ c. app_of c ≡ racl) }
 {
@@ -227,6 +228,7 @@ fn described_command<'a>(alloc: Global) -> Command<'a>
         .after_help(after_help())
 }
 
+// An option of the command line whose value is a timeout in seconds.
 fn timeout_option<'a>(alloc: Global, name: &'a str, default: &'a str, help: &'a str) -> Arg<'a>
     ensures rule { rule_of result ≡ range_rule name.entry.now default.entry.now (most_of Established) }
     ensures local { result.global ≡ false }
@@ -234,6 +236,7 @@ fn timeout_option<'a>(alloc: Global, name: &'a str, default: &'a str, help: &'a 
     number_option(alloc, name, default, u32::MAX, "SECONDS", help)
 }
 
+// An option of the command line whose value is a number, and has a default.
 fn number_option<'a>(
     alloc: Global,
     name: &'a str,
@@ -254,6 +257,7 @@ fn number_option<'a>(
         .help(help)
 }
 
+// An option of the command line whose value is a text, and has no default.
 fn value_option<'a>(alloc: Global, name: &'a str, value: &'a str, help: &'a str) -> Arg<'a>
     ensures rule { rule_of result ≡ long_rule name.entry.now Set 1 }
     ensures local { result.global ≡ false }
@@ -265,6 +269,7 @@ fn value_option<'a>(alloc: Global, name: &'a str, value: &'a str, help: &'a str)
         .help(help)
 }
 
+// The option `--interface` of the command line, which may stand there several times.
 fn interface_option<'a>(alloc: Global) -> Arg<'a>
     ensures rule { rule_of result ≡ Commands.interface_rule }
     ensures local { result.global ≡ false }
@@ -276,6 +281,7 @@ fn interface_option<'a>(alloc: Global) -> Arg<'a>
         .help("The capture of the interface with number N, 0 to 255; once for each of them")
 }
 
+// A flag of the command line.
 fn flag<'a>(alloc: Global, name: &'a str, help: &'a str) -> Arg<'a>
     ensures rule { rule_of result ≡ long_rule name.entry.now SetTrue 0 }
     ensures local { result.global ≡ false }
@@ -286,6 +292,7 @@ fn flag<'a>(alloc: Global, name: &'a str, help: &'a str) -> Arg<'a>
         .help(help)
 }
 
+// An argument of the command line that names a file, and is known by its place.
 fn file_argument<'a>(alloc: Global, id: &'a str, help: &'a str) -> Arg<'a>
     ensures rule { rule_of result ≡ line.file_rule id.entry.now }
     ensures local { result.global ≡ false }

@@ -4,8 +4,8 @@
 mod asked_options;
 mod check_command;
 mod command_line;
-mod matched_flags;
 mod named_files;
+mod selected_output;
 mod settings;
 mod table_size;
 

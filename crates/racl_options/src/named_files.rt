@@ -68,7 +68,7 @@ fn captures_named<'a>(alloc: Global, values: &[&'a str]) -> Result<Vec<CaptureFi
     Ok(captures)
 }
 
-// How many of the captures are standard input.
+// How many of the named files of captures are standard input.
 fn streams(captures: &[CaptureFile<'_>]) -> usize
     ensures { result ≡ count_by (λ c. is_standard c.name.now) captures.now }
 {
@@ -117,7 +117,7 @@ fn files_named<'a>(policy: Option<&'a str>, capture: Option<&'a str>) -> Result<
     }
 }
 
-/// Where the input comes from that the matches name.
+/// Where the input comes from: the files that the matches name, or standard input.
 pub fn origin_named<'a>(alloc: Global, matches: &ArgMatches<'a>) -> Result<Origin<'a>, Refusal>
     ensures { let Told = Names (values_in (found_of matches.now)) in MatchResult result (λ origin. Told (origin_facts origin)) (IsRefused Told) }
 {

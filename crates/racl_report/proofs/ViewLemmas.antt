@@ -1,7 +1,7 @@
 -- The packets of captures that are gone over once more.
 use Rattle.std.proofs.Common.{◌≡◌, ◌∙◌, ◌++◌, ◌||◌, ℕ, Bool, true, false, not, List, [], ◌∷◌, Option, Some, None, Result, Ok, Err, IfOk, ap, append-nil, append_assoc, refl, sym, subst}
 use Rattle.packet_view.specs.Captures.{IsCaptureAt, PacketFacts, end_of}
-use Rattle.racl_io.specs.declared.whole_report.Captured.{Captured}
+use Rattle.racl_io.specs.declared.report_totals.Captured.{Captured}
 use Rattle.racl_io.specs.declared.marker_line.Form.{Form}
 use Rattle.racl_io.specs.declared.marker_line.Form.TheVariants.{Hexadecimal}
 use Rattle.racl_io.specs.Inputs.{AreCaptures, DigitsFacts, IsContent, AreCutDigits, NumberedFacts}
@@ -13,7 +13,7 @@ use Rattle.std.specs.Io.KnownBytes.{Appends}
 use Rattle.std.proofs.KnownBytes.{Appends-trans}
 use Rattle.acl_policy.specs.Policies.{IsPolicyText, PolicyFacts}
 use Rattle.racl_io.specs.declared.fault.Fault.{Fault}
-use Rattle.racl_io.specs.declared.whole_report.Totals.{Totals}
+use Rattle.racl_io.specs.declared.report_totals.Totals.{Totals}
 use Rattle.racl_io.specs.declared.shown_lines_report.Shown.{Shown}
 use Rattle.racl_io.specs.ShownReports.{report_shown}
 use Rattle.session_state.specs.declared.timeouts.Timeouts.{Timeouts}
@@ -27,7 +27,7 @@ use Rattle.racl_views.specs.RunEntries.{RunFacts}
 use Rattle.racl_report.proofs.CaptureLaws.{IsUnnumbered}
 use Rattle.racl_report.specs.RunReports.{AreLines, JudgedFacts, Outcome, sessions_behind, told_facts, view_behind}
 use Rattle.racl_report.specs.ReadInputs.{AreTaken, HasPackets, IsRead, IsTaken}
-use Rattle.racl_report.specs.declared.captures_read_again.Again.{Again}
+use Rattle.racl_report.specs.declared.input_read_again.Again.{Again}
 use Rattle.racl_report.specs.inner.NumberedCaptures.{AreTakenFrom}
 use Rattle.racl_report.specs.inner.InputsAgain.{AreAmid, HasLines, IsAgain}
 use Rattle.racl_report.specs.WrittenReports.{HasPlain, HasReport, needs_bytes}

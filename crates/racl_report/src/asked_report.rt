@@ -3,7 +3,7 @@ ghost use Rattle.std.specs.Prelude.{◌≡◌, ◌<◌, ◌-◌, ◌^◌, ℕ, L
 ghost use Rattle.packet_view.specs.Captures.{PacketFacts};
 ghost use Rattle.packet_view.specs.CheckedCaptures.{remaining};
 ghost use Rattle.acl_policy.specs.Policies.{IsPolicyText, PolicyFacts, policy_facts};
-ghost use Rattle.racl_io.specs.declared.whole_report.Captured as told;
+ghost use Rattle.racl_io.specs.declared.report_totals.Captured as told;
 ghost use Rattle.racl_io.specs.Reports;
 ghost use Rattle.racl_views.specs.Hits.{AreHits};
 ghost use Rattle.racl_views.specs.Stored.{stored_facts};
@@ -15,7 +15,7 @@ ghost use Rattle.racl_report.specs.WrittenReports;
 ghost use Rattle.racl_report.specs.WrittenReports.{EndsOnce, HasPlain, HasReport, MayTell};
 ghost use Rattle.racl_report.specs.inner.InputsAgain.{HasLines, IsAgain};
 
-use crate::captures_read_again::{Again, read_again};
+use crate::input_read_again::{Again, read_again};
 use crate::judged_packets::Judged;
 use acl_policy::Policy;
 use flow_filter::Verdict;
@@ -28,14 +28,14 @@ use racl_views::{
 use std::alloc::{AllocError, Global};
 use std::thread::Threads;
 
-/// Whether what is told of an input needs its bytes.
+/// Whether the report that the options ask for needs the bytes of its input.
 pub fn needs_bytes(options: &Options) -> bool
     ensures { result ≡ WrittenReports.needs_bytes options.now }
 {
     options.hits || !matches!(options.lines, Lines::Plain)
 }
 
-// Writes the lines of a run and its totals, in the form that is asked for.
+// Writes the lines and the totals of a report on a run, in the form that the options ask for.
 fn write_lines<W: Sink, T: Threads>(
     beside: Option<&T>,
     alloc: Global,
@@ -56,7 +56,7 @@ fn write_lines<W: Sink, T: Threads>(
     }
 }
 
-// What a run had, and what came of it.
+// The run of which the report that is asked for tells.
 fn run_of<'a>(
     policy: &'a Policy,
     text: &'a [u8],
@@ -78,7 +78,7 @@ fn run_of<'a>(
     }
 }
 
-// The form of what is told behind lines of this form.
+// The form of the hits and sessions behind a report's lines, where these are asked for in this form.
 fn view_behind(lines: Lines) -> View
     ensures { result ≡ RunReports.view_behind lines }
 {
@@ -88,7 +88,7 @@ fn view_behind(lines: Lines) -> View
     }
 }
 
-// What is told of hits, where it is asked for.
+// The part of a report that tells of hits, where the options ask for it.
 fn hits_of(
     alloc: Global,
     options: &Options,
@@ -111,7 +111,7 @@ fn hits_of(
     }
 }
 
-// What is told of sessions, where it is asked for.
+// The part of a report that tells of sessions, where the options ask for it.
 fn sessions_of(
     alloc: Global,
     options: &Options,
@@ -126,7 +126,7 @@ fn sessions_of(
     }
 }
 
-/// Writes plain lines, and the sessions behind them.
+/// Writes a report of plain lines, and the sessions behind them where the options ask for these.
 pub fn write_plain<W: Sink, T: Threads>(
     beside: Option<&T>,
     alloc: Global,
@@ -153,7 +153,7 @@ pub fn write_plain<W: Sink, T: Threads>(
     Ok(totals)
 }
 
-// Writes the report on what was judged of an input that was gone over once more.
+// Writes the report that the options ask for, on what was judged of an input that was gone over once more.
 fn write_again<W: Sink, T: Threads>(
     beside: Option<&T>,
     alloc: Global,
@@ -190,7 +190,8 @@ fn write_again<W: Sink, T: Threads>(
     Ok(totals)
 }
 
-/// Writes the report on what was judged of an input, whose bytes these are where they are needed.
+/// Writes the report that the options ask for, on what was judged of an input, whose bytes these are where they are
+/// needed.
 pub fn write_judged<W: Sink, T: Threads>(
     beside: Option<&T>,
     alloc: Global,

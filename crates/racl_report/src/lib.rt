@@ -3,14 +3,14 @@
 #![tactic(auto)]
 
 mod asked_report;
-mod captures_read_again;
+mod input_read_again;
 mod judged_packets;
 mod message_texts;
+mod program_ending;
 mod saved_packets;
-mod status_and_message;
 
 pub use asked_report::{needs_bytes, write_judged, write_plain};
 pub use judged_packets::Judged;
 pub use message_texts::{Ending, Hint, Message, Remark, Unopened};
+pub use program_ending::{ending, failure_ending, hint, remark, status, words_ending};
 pub use saved_packets::{Saves, save_packets};
-pub use status_and_message::{ending, failure_ending, hint, remark, status, words_ending};

@@ -5,7 +5,7 @@ ghost use Rattle.racl_options.specs.Asking.{AskForRun, asked_facts};
 ghost use Rattle.racl_options.specs.Checks.{IsCheck};
 
 use crate::file_checking::check_file;
-use crate::say_ending::refused;
+use crate::say_and_answer_status::refused;
 use racl_options::{Asked, check_name, options};
 use std::alloc::Global;
 use std::io;
@@ -16,7 +16,7 @@ pub fn words_of(rt: &HostRuntime, alloc: Global) -> io::Result<Vec<String>> {
     Ok(words)
 }
 
-/// These words as texts.
+/// The words that the program was called with as texts.
 pub fn texts_of<'a>(alloc: Global, words: &'a [String]) -> io::Result<Vec<&'a str>>
     ensures { IfOk result (λ found. texts found.items ≡ map string_bytes words.now) }
 {
@@ -27,8 +27,8 @@ pub fn texts_of<'a>(alloc: Global, words: &'a [String]) -> io::Result<Vec<&'a st
     Ok(texts)
 }
 
-/// The run that the words ask for. Where they ask for none the status is answered: a check was made, or it was told
-/// that they are refused.
+/// The run that the command's words ask for. Where they ask for none the status is answered: a check was made, or it
+/// was told that they are refused.
 pub fn asked_or_status<'a>(
     rt: &HostRuntime,
     alloc: Global,

@@ -11,6 +11,7 @@ use racl_options::Origin;
 use std::alloc::Global;
 use std::fs::metadata;
 
+// Whether a capture of these bytes has this fault.
 fn has_fault(bytes: &[u8], fault: Fault) -> bool
     ensures yes { IsTrue result → IsFaultOfCapture bytes.now fault }
     ensures no { result ≡ false → IsFaultOfCapture bytes.now fault → ⊥ }
@@ -21,7 +22,7 @@ fn has_fault(bytes: &[u8], fault: Fault) -> bool
     }
 }
 
-// The bytes of a file once more. None where that isn't to be had, as of a pipe.
+// The bytes of a capture that may be the faulty one, once more. None where they aren't to be had, as of a pipe.
 fn read_again(rt: &HostRuntime, alloc: Global, name: &str) -> Option<Vec<u8>> {
     if name == "-" || !metadata(rt, name).ok()?.is_file() {
         return None;

@@ -1,8 +1,8 @@
 //! The check of the policy in a file.
 ghost use Rattle.std.specs.Prelude.{◌≡◌, ◌⊎◌, IfOk};
 
-use crate::input_files::opened_or_told;
-use crate::say_ending::say_fault;
+use crate::named_reader::opened_or_told;
+use crate::say_and_answer_status::say_fault;
 use policy_check::check_source;
 use racl_io::Device;
 use std::alloc::Global;

@@ -5,11 +5,11 @@ ghost use Rattle.racl_options.specs.Origins.{origin_facts};
 ghost use Rattle.racl_system.specs.NamedFiles as named;
 ghost use Rattle.racl_system.specs.NamedFiles.{policy_of};
 
-use crate::named_reader::{Reader, held, opened};
-use crate::say_ending::say_fault;
+use crate::named_reader::{Reader, held, opened_or_told};
+use crate::say_and_answer_status::say_fault;
 use racl_io::{Form, Marked, marked};
 use racl_options::Origin;
-use racl_report::{Hint, Unopened};
+use racl_report::Hint;
 use std::alloc::Global;
 use std::io;
 use std::io::IsTerminal;
@@ -21,19 +21,7 @@ pub struct Parts {
     pub captures: Vec<Marked<Reader>>,
 }
 
-/// Opens a file that can be read, or standard input. Where it can't, that is told, and None is answered. No clause says
-/// what a name opens, as of `opened`.
-pub fn opened_or_told(rt: &HostRuntime, name: &str) -> io::Result<Option<Reader>> {
-    match opened(rt, name) {
-        Ok(reader) => Ok(Some(reader)),
-        Err(reason) => {
-            rt.eprintln(&Unopened { name, reason })?;
-            Ok(None)
-        }
-    }
-}
-
-// Opens a capture, and puts it behind the others. Whether it could be opened.
+// Opens the file of one capture of an input, and puts it behind the others. Whether it could be opened.
 fn pushed(
     rt: &HostRuntime,
     captures: &mut Vec<Marked<Reader>>,
@@ -47,7 +35,7 @@ fn pushed(
     Ok(true)
 }
 
-// Opens the captures of an input in their order. Whether all could be opened.
+// Opens the files of an input's captures in their order. Whether all could be opened.
 fn pushed_all(
     rt: &HostRuntime,
     captures: &mut Vec<Marked<Reader>>,
@@ -67,7 +55,7 @@ fn pushed_all(
     }
 }
 
-/// The name of what the policy comes from.
+/// The name of the input's file that the policy comes from, or `-` of standard input.
 pub fn policy_name<'a>(origin: &Origin<'a>) -> &'a str
     ensures { result.now ≡ policy_of (origin_facts origin.now) }
 {
@@ -89,7 +77,7 @@ pub fn name_at<'a>(origin: &Origin<'a>, place: usize) -> Option<&'a str>
     }
 }
 
-/// The number of the interface of the capture at this place, as of `name_at`.
+/// The number of the interface of the input's capture file at this place, as of `name_at`.
 pub fn interface_at(origin: &Origin<'_>, place: usize) -> Option<u8>
     ensures { result ≡ named.interface_at (origin_facts origin.now) place }
 {
@@ -113,7 +101,8 @@ fn opened_parts(rt: &HostRuntime, alloc: Global, origin: &Origin<'_>) -> io::Res
     Ok(Some(Parts { policy, captures }))
 }
 
-// Says that a terminal is read, where that is so. Where standard error fails, nothing is said.
+// Says that a terminal is read, where that is so, for an input of which no files are named. Where standard error fails,
+// nothing is said.
 fn say_where_terminal(rt: &HostRuntime) {
     if rt.stdin().is_terminal() {
         let _ = rt.eprintln(&Hint::Terminal);

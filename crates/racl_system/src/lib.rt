@@ -3,24 +3,24 @@
 #![tactic(auto)]
 
 mod command_words;
+mod end_of_run;
 mod faulty_capture;
 mod file_checking;
 mod input_files;
 mod live_files;
 mod named_reader;
 mod output;
-mod policy_remarks;
 mod progress;
 mod save_file;
-mod say_ending;
-mod say_notes_on_run;
+mod say_and_answer_status;
+mod say_policy_remarks;
 
 pub use command_words::{asked_or_status, texts_of, words_of};
+pub use end_of_run::{Ran, say_end_of_live, say_end_of_run};
 pub use input_files::{Parts, opened_input};
 pub use live_files::{LiveFiles, opened_live};
 pub use named_reader::Reader;
 pub use output::Output;
 pub use progress::{Progress, Watched};
 pub use save_file::{SaveFile, saves_to, say_unsaved};
-pub use say_ending::failure_status;
-pub use say_notes_on_run::{Ran, say_end_of_live, say_end_of_run};
+pub use say_and_answer_status::failure_status;

@@ -2,10 +2,9 @@
 ghost use Rattle.std.specs.Prelude.{◌≡◌, ◌≤◌, ◌⊎◌, IfErr, IfOk, length};
 ghost use Rattle.racl_io.specs.Inputs.{most_bytes};
 
-use crate::input_files::opened_or_told;
-use crate::named_reader::{Reader, bytes_of};
-use crate::policy_remarks::say_unlooked;
-use crate::say_ending::say_fault;
+use crate::named_reader::{Reader, bytes_of, opened_or_told};
+use crate::say_and_answer_status::say_fault;
+use crate::say_policy_remarks::say_unlooked;
 use racl_io::{Fault, MOST_BYTES};
 use racl_options::Files;
 use std::alloc::Global;
@@ -18,7 +17,7 @@ pub struct LiveFiles {
     pub capture: Reader,
 }
 
-// The text of a policy's file. Where it can't be had that is told, and the status is answered.
+// The text of the policy's file of a live run. Where it can't be had that is told, and the status is answered.
 fn policy_text(rt: &HostRuntime, alloc: Global, name: &str) -> io::Result<Result<Vec<u8>, u8>>
     ensures few { IfOk result (λ found. IfOk found (λ text. length text.items ≤ most_bytes)) }
     ensures status { IfOk result (λ found. IfErr found (λ status. (status ≡ 1) ⊎ (status ≡ 4))) }

@@ -4,6 +4,7 @@ ghost use Rattle.racl_io.specs.Inputs.{most_bytes};
 ghost use Rattle.racl_io.specs.declared.fault.Fault.TheVariants.{Memory, Read};
 
 use racl_io::{Device, Fault, MOST_BYTES, read_until};
+use racl_report::Unopened;
 use std::alloc::Global;
 use std::fs::File;
 use std::io;
@@ -21,6 +22,7 @@ pub enum Reader {
 }
 
 impl Read for Reader {
+    // Reads from what was named: standard input, a file, or what one of these had.
     fn read(&mut self, buf: &mut [u8]) -> io::Result<usize> {
         match self {
             Reader::Standard(stdin) => stdin.read(buf),
@@ -30,8 +32,8 @@ impl Read for Reader {
     }
 }
 
-/// Opens a file that can be read, or standard input by the name `-`. A folder is refused. No clause says what a name
-/// opens, since that is the system's: `checks/run` looks at it.
+/// Opens the reader that is named: a file that can be read, or standard input by the name `-`. A folder is refused. No
+/// clause says what a name opens, since that is the system's: `checks/run` looks at it.
 pub fn opened(rt: &HostRuntime, name: &str) -> io::Result<Reader> {
     if name == "-" {
         return Ok(Reader::Standard(rt.stdin()));
@@ -43,8 +45,20 @@ pub fn opened(rt: &HostRuntime, name: &str) -> io::Result<Reader> {
     Ok(Reader::File(file))
 }
 
-/// Reads all that an input may have, and a byte more where there is one. No clause says what a name had, as of
-/// `opened`.
+/// Opens an input file that can be read, or standard input. Where it can't, that is told, and None is answered. No
+/// clause says what a name opens, as of `opened`.
+pub fn opened_or_told(rt: &HostRuntime, name: &str) -> io::Result<Option<Reader>> {
+    match opened(rt, name) {
+        Ok(reader) => Ok(Some(reader)),
+        Err(reason) => {
+            rt.eprintln(&Unopened { name, reason })?;
+            Ok(None)
+        }
+    }
+}
+
+/// Reads from a named reader all that an input may have, and a byte more where there is one. No clause says what a name
+/// had, as of `opened`.
 pub fn bytes_of(alloc: Global, reader: Reader) -> Result<Vec<u8>, Fault>
     ensures few { IfOk result (λ bytes. length bytes.items ≤ most_bytes + 1) }
     ensures faults { IfErr result (λ fault. (fault ≡ Memory) ⊎ (fault ≡ Read)) }
@@ -56,7 +70,7 @@ pub fn bytes_of(alloc: Global, reader: Reader) -> Result<Vec<u8>, Fault>
     }
 }
 
-/// Reads that, so that it can be looked at again.
+/// Reads that from a named reader, and holds it, so that it can be looked at again.
 pub fn held(alloc: Global, reader: Reader) -> Result<Reader, Fault>
     ensures { IfErr result (λ fault. (fault ≡ Memory) ⊎ (fault ≡ Read)) }
 {

@@ -16,7 +16,7 @@ pub struct Progress<'a> {
     is_shown: bool,
 }
 
-// So many seconds from now.
+// The moment so many seconds from now, at which progress is to be shown.
 fn in_seconds(rt: &HostRuntime, seconds: u64) -> Option<Instant> {
     match Instant::now(rt) {
         Ok(now) => now.checked_add(Duration::from_secs(seconds)),
@@ -78,7 +78,7 @@ pub struct Watched<'a, S> {
 }
 
 impl<'a, S> Watched<'a, S> {
-    /// Nothing of it was read.
+    /// The source, whose progress is shown on a terminal, and of which nothing was read.
     pub fn new(rt: &'a HostRuntime, source: S) -> Watched<'a, S>
         ensures { result.source ≡ source }
     {
@@ -94,6 +94,7 @@ impl<S: Source> Source for Watched<'_, S> {
 
     ghost failures = { λ w. S.failures w.source };
 
+    // Reads from the source, and shows the progress while bytes come.
     fn read(&mut self, buf: &mut [u8]) -> Result<usize, DeviceFault> {
         let result = self.source.read(buf);
         match result {

@@ -2,19 +2,20 @@
 use std::test::Fail;
 
 mod checks;
-mod devices;
-mod files;
-mod hits;
-mod parts;
+mod command_line_words;
+mod digits;
+mod explained_packets;
+mod hits_and_sessions;
+mod input_parts;
+mod joined_readers_and_first_bytes;
+mod reads_and_drains;
 mod reports;
 mod runs;
 mod saved;
-mod views;
 mod windows;
 mod windows_of_digits;
-mod words;
 
-// A test that ends since what it begins with was refused.
+// A test of the crates of racl that ends since what it begins with was refused.
 fn refused() -> Result<(), Fail> {
     Err("what the test begins with was refused")?
 }

@@ -11,7 +11,7 @@ use packet_view::Family;
 use racl_io::{Numeral, Piece};
 use std::net::Ipv6Addr;
 
-/// A hexadecimal digit.
+/// A hexadecimal digit in the text of an address, or of TCP flags.
 pub fn digit(value: u16) -> u8
     requires { value < 16 }
     ensures { result ≡ digit_char value }
@@ -23,7 +23,7 @@ pub fn digit(value: u16) -> u8
     }
 }
 
-// How many zeros the four digits of a group begin with, the last digit apart.
+// How many zeros the four digits of a group of an IPv6 address begin with, the last digit apart.
 fn leading_zeros(group: u16) -> usize
     ensures value { result ≡ Text.leading_zero_digits group }
     ensures within { result < 4 }
@@ -36,6 +36,7 @@ fn leading_zeros(group: u16) -> usize
     }
 }
 
+// A group of an IPv6 address as text: its hexadecimal digits without leading zeros.
 #[tactic(auto, unfolding(std::specs::Net::Text::hex))]
 fn push_group(piece: &mut Piece, group: u16)
     requires { length piece.old + 4 ≤ 262144 }
@@ -51,7 +52,7 @@ fn push_group(piece: &mut Piece, group: u16)
     piece.push(&digits[leading_zeros(group)..]);
 }
 
-// Groups with colons between them.
+// Groups of an IPv6 address as text, with colons between them.
 fn push_groups(piece: &mut Piece, groups: &[u16])
     requires { length piece.old + 5 * length groups.now ≤ 262144 }
     ensures text { piece.new ≡ piece.old ++ groups_text groups.now }
@@ -66,7 +67,8 @@ fn push_groups(piece: &mut Piece, groups: &[u16])
     }
 }
 
-// Where the longest run of zeros begins, and how long it is; of two such runs the first.
+// Where the longest run of zeros among the groups of an IPv6 address begins, and how long it is; of two such runs the
+// first.
 fn longest_zero_run(groups: &[u16]) -> (usize, usize)
     ensures value { result ≡ Text.longest_zero_run groups.now }
     ensures within { result.0 + result.1 ≤ length groups.now }
@@ -84,6 +86,7 @@ fn longest_zero_run(groups: &[u16]) -> (usize, usize)
     (start, len)
 }
 
+// The groups of an IPv6 address as text, with `::` for the longest run of zeros where that has more than one.
 #[tactic(auto, unfolding(std::specs::Net::Text::hex_groups_text))]
 fn push_shortened(piece: &mut Piece, groups: &[u16])
     requires few { length groups.now ≤ 8 }

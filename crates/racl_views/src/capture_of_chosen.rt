@@ -10,13 +10,14 @@ ghost use Rattle.racl_views.specs.declared.chosen_packets.Chosen.{Chosen};
 ghost use Rattle.racl_views.specs.inner.Batches.{HasPassed};
 ghost use Rattle.racl_views.specs.inner.ChosenBytes.{HasNoRecord, chosen_in};
 
+use crate::byte_batch::{Batch, put_where};
 use crate::chosen_packets::Chosen;
-use crate::gathered_bytes::{Batch, put_where};
 use flow_filter::Verdict;
 use packet_view::{Order, Piece, capture_header, next_record};
 use racl_io::{Fault, Sink, write_all};
 
-// The bytes of the record at the front, and those behind it; None where no whole one is there.
+// The bytes of a capture's record at the front, which are written where its packet is chosen, and those behind it; None
+// where no whole one is there.
 fn first_record(bytes: &[u8], order: Order) -> Option<(&[u8], &[u8])>
     ensures some { IfSome result (λ parts. (facts : RecordFacts) × IsRecordOf order parts.0.now facts × (bytes.now ≡ parts.0.now ++ parts.1.now)) }
     ensures none { IfNone result (HasNoRecord order bytes.now) }
@@ -27,7 +28,7 @@ fn first_record(bytes: &[u8], order: Order) -> Option<(&[u8], &[u8])>
     }
 }
 
-// Puts the chosen ones among the whole records at the front of these bytes behind the bytes that wait.
+// Puts those whole records of a capture that are chosen by their verdicts behind the bytes that wait.
 fn put_chosen<W: Sink>(
     writer: &mut W,
     batch: &mut Batch,

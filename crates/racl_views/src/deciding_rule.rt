@@ -13,6 +13,7 @@ use acl_policy::Policy;
 use flow_filter::Verdict;
 use packet_view::{Frame, Mac, Packet, view};
 
+// The number of the rule that decided a packet, where a rule gave its verdict.
 fn rule_number(verdict: Verdict) -> Option<u16>
     ensures { result ≡ Deciding.rule_number verdict }
 {
@@ -29,6 +30,7 @@ fn rule_number(verdict: Verdict) -> Option<u16>
     }
 }
 
+// The own address of an interface, by which the direction of a packet, and so of its deciding rule, is seen.
 fn own_address(policy: &Policy, interface: u8) -> Option<Mac>
     ensures { result ≡ (section_of interface (policy_facts policy.now)).own }
 {
@@ -38,7 +40,7 @@ fn own_address(policy: &Policy, interface: u8) -> Option<Mac>
     }
 }
 
-/// What a packet's frame is at its interface.
+/// What a packet's frame is at its interface, by which the rule that decided it is known.
 pub fn seen(policy: &Policy, packet: Packet<'_>) -> Frame
     ensures shown { IsSeen (policy_facts policy.now) (packet_facts packet.entry) (frame_facts result) }
     ensures only { frame_facts result ≡ view_at (policy_facts policy.now) (packet_facts packet.entry) }

@@ -1,5 +1,5 @@
 //! Lines of the report that say of their packets what these are, and which rule decided.
-ghost use Rattle.std.specs.Prelude.{◌≡◌, ◌+◌, ◌-◌, ◌<◌, ◌≤◌, ◌++◌, length, map};
+ghost use Rattle.std.specs.Prelude.{◌≡◌, ◌+◌, ◌≤◌, ◌++◌, length, map};
 ghost use Rattle.racl_io.specs.Reports.{text_of};
 ghost use Rattle.racl_views.specs.Entries.{entry_facts};
 ghost use Rattle.racl_views.specs.ExplainedLines.{decided_text, explained_line, head_of};
@@ -13,6 +13,7 @@ use crate::shown_rule_text::RuleText;
 use flow_filter::Verdict;
 use racl_io::{Numeral, Piece, push_name};
 
+// The words of an explained line that say the verdict on its packet.
 fn push_verdict(piece: &mut Piece, verdict: Verdict)
     requires { length piece.old + 42 ≤ 262144 }
     ensures text { piece.new ≡ piece.old ++ text_of verdict }
@@ -36,7 +37,7 @@ fn push_verdict(piece: &mut Piece, verdict: Verdict)
     }
 }
 
-// The report's line of the packet, up to its line feed.
+// What an explained line begins with: the report's line of the packet, up to its line feed.
 fn push_head(piece: &mut Piece, named: Option<u8>, number: u64, verdict: Verdict)
     requires { length piece.old + 95 ≤ 262144 }
     ensures text { piece.new ≡ piece.old ++ head_of named number verdict }
@@ -48,7 +49,7 @@ fn push_head(piece: &mut Piece, named: Option<u8>, number: u64, verdict: Verdict
     push_verdict(piece, verdict);
 }
 
-// The line of the deciding rule and its text.
+// What an explained line ends with, where a rule decided: the line of this rule in the policy, and its text.
 fn push_decided<'a>(piece: &mut Piece, texts: &'a [RuleText<'a>], line: u64)
     requires { length piece.old + 233 ≤ 262144 }
     ensures text { piece.new ≡ piece.old ++ decided_text (map shown_of texts.now) line }

@@ -46,7 +46,7 @@ pub fn four_flow(key: [u64; 2]) -> StoredFlow
     )
 }
 
-// An address of IPv6 by its halves.
+// An address of IPv6 by its halves, which are words of a flow's key.
 fn address_of(upper: u64, lower: u64) -> u128
     ensures is { result ≡ upper * 2 ^ 64 + lower }
     ensures fits { result < 2 ^ 128 }

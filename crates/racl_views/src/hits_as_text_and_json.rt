@@ -12,25 +12,26 @@ ghost use Rattle.racl_views.specs.declared.hit.Hit.TheVariants.{Rule, Unruled};
 ghost use Rattle.racl_views.specs.declared.rule_name.RuleName.{RuleName};
 ghost use Rattle.racl_views.specs.inner.Counts.{Count};
 
-use crate::counting_reasons_and_sessions::{count_reason, count_sessions};
+use crate::counting_reasons::count_reason;
 use crate::hit::Hit;
-use crate::json_fields::{add_number, add_string, begin, end};
-use crate::json_of_packets_and_totals::add_way;
+use crate::json_fields::{add_number, add_string, add_way, begin, end};
 use crate::line_text::{pass_on, push_numbered};
+use crate::place_of_rule::number_at;
 use crate::reason_without_rule::Reason;
-use crate::rule_counts::{count_packets, number_at};
+use crate::rule_counts::count_packets;
 use crate::rule_name::RuleLine;
 use crate::rule_numbering::rule_lines;
-use crate::session_counts::SessionCounts;
+use crate::run_and_verdicts::Run;
+use crate::session_counts::{SessionCounts, count_sessions};
 use crate::stored_pairs::StoredPairs;
 use crate::text_or_json::View;
-use crate::told_run::Run;
 use flow_filter::Verdict;
 use packet_view::Direction;
 use racl_io::Piece;
 use session_state::Timeouts;
 use std::alloc::{AllocError, Global};
 
+// The words that say the direction of a rule in the line of its hits.
 fn way_word(direction: Direction) -> &'static [u8]
     ensures word { result.now ≡ Hits.way_word direction }
     ensures short { length result.now ≤ 10 }
@@ -41,6 +42,7 @@ fn way_word(direction: Direction) -> &'static [u8]
     }
 }
 
+// The word for a reason in the hits, as text and in JSON.
 fn word_of(reason: Reason) -> &'static str
     ensures word { result.now ≡ Hits.word_of reason }
     ensures short { length result.now ≤ 9 }
@@ -57,7 +59,7 @@ fn word_of(reason: Reason) -> &'static str
     }
 }
 
-// The line of how many packets a rule decided.
+// The line among the hits of how many packets a rule decided.
 fn push_rule(piece: &mut Piece, at: RuleLine, count: u64)
     requires { length piece.old + 199 ≤ 262144 }
     ensures { piece.new ≡ piece.old ++ hit_line (Rule at count) }
@@ -69,7 +71,7 @@ fn push_rule(piece: &mut Piece, at: RuleLine, count: u64)
     piece.push(b"\n");
 }
 
-// The line of how many packets a reason decided that is no rule.
+// The line among the hits of how many packets a reason decided that is no rule.
 fn push_reason(piece: &mut Piece, reason: Reason, count: u64)
     requires { length piece.old + 199 ≤ 262144 }
     ensures { piece.new ≡ piece.old ++ hit_line (Unruled reason count) }
@@ -102,6 +104,7 @@ fn push_hit(piece: &mut Piece, hit: Hit)
     }
 }
 
+// The object among the hits of how many packets a rule decided, behind a text.
 fn rule_object(text: Vec<u8>, at: RuleLine, count: u64) -> Result<Vec<u8>, AllocError>
     ensures { IfOk result (λ new. new.items ≡ text.items ++ object_line (Hits.hit_object (Rule at count))) }
 {
@@ -114,6 +117,7 @@ fn rule_object(text: Vec<u8>, at: RuleLine, count: u64) -> Result<Vec<u8>, Alloc
     end(object, text)
 }
 
+// The object among the hits of how many packets a reason decided that is no rule, behind a text.
 fn reason_object(text: Vec<u8>, reason: Reason, count: u64) -> Result<Vec<u8>, AllocError>
     ensures { IfOk result (λ new. new.items ≡ text.items ++ object_line (Hits.hit_object (Unruled reason count))) }
 {
@@ -123,6 +127,7 @@ fn reason_object(text: Vec<u8>, reason: Reason, count: u64) -> Result<Vec<u8>, A
     end(object, text)
 }
 
+// The object of a count among the hits, behind a text.
 fn count_object(text: Vec<u8>, key: &str, count: u64) -> Result<Vec<u8>, AllocError>
     ensures { IfOk result (λ new. new.items ≡ text.items ++ object_line (object_of (number key.now count ∷ []))) }
 {
@@ -170,7 +175,7 @@ fn tell_hits(alloc: Global, view: View, hits: &[Hit]) -> Result<Vec<u8>, AllocEr
     Ok(text)
 }
 
-// How many packets a rule decided, by the counts of all.
+// Puts the hits of rules behind others, by the counts of all.
 fn push_rules(hits: &mut Vec<Hit>, counts: &[u64], rules: &[RuleLine]) -> Result<(), AllocError>
     ensures { OnOk result ((deciding : List (Option RuleName)) → Count counts.now deciding
         → hits.new.items ≡ hits.old.items ++ rule_hits deciding rules.now) }
@@ -181,12 +186,14 @@ fn push_rules(hits: &mut Vec<Hit>, counts: &[u64], rules: &[RuleLine]) -> Result
     Ok(())
 }
 
+// The hit of a reason that is no rule, by the verdicts that have it.
 fn unruled(reason: Reason, verdicts: &[Verdict]) -> Hit
     ensures { result ≡ Unruled reason (count_by (has_reason reason) verdicts.now) }
 {
     Hit::Unruled(reason, count_reason(reason, verdicts))
 }
 
+// Puts the hits of the reasons that are no rules behind others.
 fn push_reasons(hits: &mut Vec<Hit>, verdicts: &[Verdict]) -> Result<(), AllocError>
     ensures { OnOk result (hits.new.items ≡ hits.old.items ++ reason_hits verdicts.now) }
 {
@@ -203,6 +210,7 @@ fn push_reasons(hits: &mut Vec<Hit>, verdicts: &[Verdict]) -> Result<(), AllocEr
     Ok(())
 }
 
+// Puts the hits of sessions, by their counts, behind others.
 fn push_sessions(hits: &mut Vec<Hit>, counts: SessionCounts) -> Result<(), AllocError>
     ensures { OnOk result (hits.new.items ≡ hits.old.items ++ session_hits counts) }
 {

@@ -4,11 +4,12 @@ ghost use Rattle.json.specs.Json.{boolean};
 ghost use Rattle.json.specs.Token.{begin_object};
 ghost use Rattle.packet_view.specs.Addresses.{address_limit};
 ghost use Rattle.racl_views.specs.Objects.{Field, number, object_line, object_of, string};
+ghost use Rattle.racl_views.specs.PacketObjects.{way_field};
 ghost use Rattle.racl_views.specs.PacketWords.{address_text};
 ghost use Rattle.racl_views.specs.inner.Fields.{HasAdded, fields_tokens};
 
 use json::Writer;
-use packet_view::Family;
+use packet_view::{Direction, Family};
 use std::alloc::AllocError;
 use std::fmt::Write;
 use std::net::{Ipv4Addr, Ipv6Addr};
@@ -16,8 +17,8 @@ use std::net::{Ipv4Addr, Ipv6Addr};
 // Most objects have fewer bytes.
 const OBJECT_BYTES: usize = 384;
 
-/// Begins an object whose line is put behind this text. It has bytes of its own: the writer fills some ahead, in proportion to what
-/// its bytes hold already. An `Err` of this and of what follows says that memory ran out.
+/// Begins an object of JSON, without a field, whose line is put behind this text. It has bytes of its own: the writer
+/// fills some ahead, in proportion to what they hold. An `Err` of this and of what follows says that memory ran out.
 pub fn begin(text: &Vec<u8>) -> Result<Writer, AllocError>
     ensures { IfOk result (λ object. (object.before ≡ []) × (object.tokens ≡ begin_object ∷ [])) }
 {
@@ -26,7 +27,7 @@ pub fn begin(text: &Vec<u8>) -> Result<Writer, AllocError>
     Ok(object)
 }
 
-/// Ends the object, and puts its line behind the text.
+/// Ends an object of JSON behind its last field, and puts its line behind the text.
 pub fn end(object: Writer, text: Vec<u8>) -> Result<Vec<u8>, AllocError>
     ensures { (fields : List Field) → object.before ≡ [] → object.tokens ≡ begin_object ∷ fields_tokens fields
         → IfOk result (λ new. new.items ≡ text.items ++ object_line (object_of fields)) }
@@ -64,7 +65,17 @@ pub fn add_true(object: &mut Writer, key: &str) -> Result<(), AllocError>
     Ok(())
 }
 
-// The text of an address.
+/// The direction in the object of a packet, or of the hits of a rule.
+pub fn add_way(object: &mut Writer, direction: Direction) -> Result<(), AllocError>
+    ensures { OnOk result (HasAdded object.old object.new (way_field direction ∷ [])) }
+{
+    match direction {
+        Direction::Inbound => add_string(object, "direction", "in"),
+        Direction::Outbound => add_string(object, "direction", "out"),
+    }
+}
+
+// The text of an address that becomes a field of an object of JSON.
 #[tactic(auto, unfolding(std::specs::Net::Addr::IsIpv4OfBits, std::specs::Net::Addr::IsIpv6OfBits))]
 fn write_address(address: &mut String, family: Family, bits: u128) -> Result<(), AllocError>
     requires { bits < address_limit family }
@@ -77,7 +88,7 @@ fn write_address(address: &mut String, family: Family, bits: u128) -> Result<(),
     }
 }
 
-/// The address of these bits, of which the text is made in the room.
+/// A field that is the address of these bits, of which the text is made in the room.
 pub fn add_address(
     object: &mut Writer,
     address: &mut String,

@@ -9,17 +9,18 @@ ghost use Rattle.racl_views.specs.PacketObjects.{IsToldInObjects};
 ghost use Rattle.racl_views.specs.RunEntries.{captures_told, run_facts, told_from};
 ghost use Rattle.racl_views.specs.inner.Tellings.{entries_by, entry_by, object_by, truncation_by};
 
-use crate::json_of_packets_and_totals::{push_packet, push_totals, push_truncation};
+use crate::json_objects::{push_packet, push_totals, push_truncation};
+use crate::packet_entry::entry_of;
 use crate::packet_telling::Telling;
 use crate::passed_count::passed;
-use crate::rule_lines_by_place::{entry_of, rule_table};
-use crate::told_run::Run;
+use crate::rule_lines_by_place::rule_table;
+use crate::run_and_verdicts::Run;
 use flow_filter::Verdict;
 use packet_view::{Packet, Packets};
 use racl_io::{Captured, Fault, Sink, Totals, has_line, totals_on, write_all};
 use std::alloc::{AllocError, Global};
 
-// The object of a packet behind a text, where it is shown.
+// The object of a packet behind the text of the report in JSON, where it is shown.
 fn tell(
     text: Vec<u8>,
     address: &mut String,
@@ -37,7 +38,7 @@ fn tell(
     push_packet(text, address, number, &entry)
 }
 
-// The objects among these packets, of which the first has this number.
+// The objects of the report in JSON on these packets, of which the first has this number.
 fn tell_packets(
     text: Vec<u8>,
     address: &mut String,
@@ -63,7 +64,7 @@ fn tell_packets(
     Ok(told)
 }
 
-// That of a truncation, where there is one.
+// The object of a truncation behind the text of the report in JSON, where the capture is truncated.
 fn tell_truncation(text: Vec<u8>, captured: &Captured) -> Result<Vec<u8>, AllocError>
     ensures { IfOk result (λ new. new.items ≡ text.items ++ truncation_by captured.now) }
 {
@@ -73,7 +74,7 @@ fn tell_truncation(text: Vec<u8>, captured: &Captured) -> Result<Vec<u8>, AllocE
     Ok(text)
 }
 
-// Those of the captures, one after the other.
+// The objects of the report in JSON on the captures, one capture after the other.
 fn tell_captures(
     alloc: Global,
     telling: Telling<'_, '_>,
@@ -107,7 +108,7 @@ fn tell_captures(
     Ok(told)
 }
 
-// Those of a run, with its totals.
+// The whole report in JSON on a run, with its totals.
 fn tell_run(alloc: Global, run: Run<'_>, totals: &Totals) -> Result<Vec<u8>, AllocError>
     requires { packets_in run.captures.now ≡ length run.verdicts.now }
     ensures { IfOk result (λ told. IsPolicyText run.entry.text.now (policy_facts run.entry.policy.now)

@@ -1,11 +1,14 @@
 //! What several lines have in pieces of their text.
-ghost use Rattle.std.specs.Prelude.{◌≡◌, ◌+◌, ◌≤◌, ◌++◌, IfOk, length};
-ghost use Rattle.racl_views.specs.PacketWords.{numbered};
+ghost use Rattle.std.specs.Prelude.{◌≡◌, ◌+◌, ◌≤◌, ◌++◌, IfOk, codes, length};
+ghost use Rattle.racl_views.specs.PacketWords.{flags_text, numbered, protocol_text};
 
+use crate::address_text::digit;
+use acl_policy::icmp_number;
+use packet_view::Family;
 use racl_io::{Numeral, Piece};
 use std::alloc::AllocError;
 
-/// A word and a number.
+/// A word and a number, as lines of several kinds have them in their text.
 pub fn push_numbered(piece: &mut Piece, word: &[u8], number: u64)
     requires { length piece.old + length word.now + 24 ≤ 262144 }
     ensures text { piece.new ≡ piece.old ++ numbered word.now number }
@@ -13,6 +16,44 @@ pub fn push_numbered(piece: &mut Piece, word: &[u8], number: u64)
 {
     piece.push(word);
     Numeral::of(number).push(piece);
+}
+
+// The protocol in the text of a packet or a session: by its name, or by its number where it has none.
+fn push_name(piece: &mut Piece, family: Family, proto: u8)
+    requires { length piece.old + 33 ≤ 262144 }
+    ensures text { piece.new ≡ piece.old ++ protocol_text family proto }
+    ensures short { length piece.new ≤ length piece.old + 33 }
+{
+    if proto == 6 {
+        piece.push(b"tcp");
+    } else if proto == 17 {
+        piece.push(b"udp");
+    } else if proto == icmp_number(family) {
+        piece.push(b"icmp");
+    } else {
+        push_numbered(piece, b"protocol ", u64::from(proto));
+    }
+}
+
+/// The protocol in the text of a packet or a session, as policies write it, behind a blank.
+pub fn push_protocol(piece: &mut Piece, family: Family, proto: u8)
+    requires { length piece.old + 34 ≤ 262144 }
+    ensures text { piece.new ≡ piece.old ++ (codes " " ++ protocol_text family proto) }
+    ensures short { length piece.new ≤ length piece.old + 34 }
+{
+    piece.push(b" ");
+    push_name(piece, family, proto);
+}
+
+/// The flags of TCP in the text of a packet or a session.
+pub fn push_flags(piece: &mut Piece, flags: u8)
+    requires { length piece.old + 9 ≤ 262144 }
+    ensures text { piece.new ≡ piece.old ++ flags_text flags }
+    ensures short { length piece.new ≤ length piece.old + 9 }
+{
+    let flags = u16::from(flags);
+    piece.push(b" flags ");
+    piece.push(&[digit(flags / 16), digit(flags % 16)]);
 }
 
 /// Puts the line that is in the piece behind the text of those before it. An `Err` says that memory ran out.

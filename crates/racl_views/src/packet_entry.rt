@@ -1,7 +1,16 @@
 //! What is told of a packet, and where.
+ghost use Rattle.std.specs.Prelude.{◌≡◌, List};
+ghost use Rattle.packet_view.specs.Captures.{packet_facts};
+ghost use Rattle.acl_policy.specs.Policies.{policy_facts};
+ghost use Rattle.racl_views.specs.declared.rule_name.RuleLine as code;
+ghost use Rattle.racl_views.specs.Entries.{entry_facts};
+ghost use Rattle.racl_views.specs.inner.EntryLists.{AreAtPlaces, entry_on};
 
+use crate::deciding_rule::{rule_on, seen};
+use crate::rule_lines_by_place::line_of;
+use acl_policy::Policy;
 use flow_filter::Verdict;
-use packet_view::Frame;
+use packet_view::{Frame, Packet};
 
 /// What is told of a packet: its verdict, the interface where it was seen, at which second, and what its frame is.
 #[derive(Clone, Copy)]
@@ -21,4 +30,20 @@ pub struct Place {
     pub named: Option<u8>,
     /// Its number among all packets.
     pub number: u64,
+}
+
+/// What is told of a packet, with the line of the rule that decided it, which is found among the lines by place.
+pub fn entry_of(policy: &Policy, lines: &[u64], packet: Packet<'_>, verdict: Verdict) -> Entry
+    ensures { (rules : List code.RuleLine) → AreAtPlaces lines.now rules
+        → entry_facts result ≡ entry_on (policy_facts policy.now) rules (packet_facts packet.entry) verdict }
+{
+    let frame = seen(policy, packet);
+    let line = line_of(lines, rule_on(packet.interface, frame, verdict));
+    Entry {
+        verdict,
+        interface: packet.interface,
+        moment: packet.moment,
+        frame,
+        line,
+    }
 }

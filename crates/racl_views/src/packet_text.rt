@@ -1,19 +1,19 @@
 //! What is told of a packet behind its verdict.
-ghost use Rattle.std.specs.Prelude.{◌≡◌, ◌+◌, ◌<◌, ◌≤◌, ◌++◌, codes, length};
+ghost use Rattle.std.specs.Prelude.{◌≡◌, ◌+◌, ◌<◌, ◌≤◌, ◌++◌, length};
 ghost use Rattle.packet_view.specs.Addresses.{address_limit};
 ghost use Rattle.packet_view.specs.Frames.{frame_facts};
 ghost use Rattle.packet_view.specs.Tuples.{tuple_facts};
 ghost use Rattle.racl_views.specs.Entries.{entry_facts};
 ghost use Rattle.racl_views.specs.ExplainedLines.{carried_told, from_told, seen_told, to_told, tuple_told, way_told};
-ghost use Rattle.racl_views.specs.PacketWords.{address_text, flags_text, protocol_text};
+ghost use Rattle.racl_views.specs.PacketWords.{address_text};
 
-use crate::address_text::{digit, push_address};
-use crate::line_text::push_numbered;
+use crate::address_text::push_address;
+use crate::line_text::{push_flags, push_numbered, push_protocol};
 use crate::packet_entry::Entry;
-use acl_policy::icmp_number;
 use packet_view::{Direction, Family, Fields, Frame, Tuple};
 use racl_io::Piece;
 
+// The direction in the text of a packet, where its frame shows one.
 fn push_way(piece: &mut Piece, frame: Frame)
     requires { length piece.old + 4 ≤ 262144 }
     ensures text { piece.new ≡ piece.old ++ way_told (frame_facts frame) }
@@ -26,7 +26,7 @@ fn push_way(piece: &mut Piece, frame: Frame)
     }
 }
 
-/// Where and when the packet was seen.
+/// The text of where and when a packet was seen.
 pub fn push_seen(piece: &mut Piece, entry: &Entry)
     requires { length piece.old + 72 ≤ 262144 }
     ensures text { piece.new ≡ piece.old ++ seen_told (entry_facts entry.now) }
@@ -37,44 +37,7 @@ pub fn push_seen(piece: &mut Piece, entry: &Entry)
     push_numbered(piece, b" time ", u64::from(entry.moment));
 }
 
-fn push_name(piece: &mut Piece, family: Family, proto: u8)
-    requires { length piece.old + 33 ≤ 262144 }
-    ensures text { piece.new ≡ piece.old ++ protocol_text family proto }
-    ensures short { length piece.new ≤ length piece.old + 33 }
-{
-    if proto == 6 {
-        piece.push(b"tcp");
-    } else if proto == 17 {
-        piece.push(b"udp");
-    } else if proto == icmp_number(family) {
-        piece.push(b"icmp");
-    } else {
-        push_numbered(piece, b"protocol ", u64::from(proto));
-    }
-}
-
-/// The protocol as policies write it, behind a blank.
-pub fn push_protocol(piece: &mut Piece, family: Family, proto: u8)
-    requires { length piece.old + 34 ≤ 262144 }
-    ensures text { piece.new ≡ piece.old ++ (codes " " ++ protocol_text family proto) }
-    ensures short { length piece.new ≤ length piece.old + 34 }
-{
-    piece.push(b" ");
-    push_name(piece, family, proto);
-}
-
-/// Flags of TCP.
-pub fn push_flags(piece: &mut Piece, flags: u8)
-    requires { length piece.old + 9 ≤ 262144 }
-    ensures text { piece.new ≡ piece.old ++ flags_text flags }
-    ensures short { length piece.new ≤ length piece.old + 9 }
-{
-    let flags = u16::from(flags);
-    piece.push(b" flags ");
-    piece.push(&[digit(flags / 16), digit(flags % 16)]);
-}
-
-// What follows the address of the source.
+// What follows the address of the source in the text of a packet.
 fn push_from(piece: &mut Piece, fields: Fields)
     requires { length piece.old + 30 ≤ 262144 }
     ensures text { piece.new ≡ piece.old ++ from_told fields }
@@ -88,7 +51,7 @@ fn push_from(piece: &mut Piece, fields: Fields)
     }
 }
 
-// What follows that of the destination.
+// What follows the address of the destination in the text of a packet.
 fn push_to(piece: &mut Piece, fields: Fields)
     requires { length piece.old + 60 ≤ 262144 }
     ensures text { piece.new ≡ piece.old ++ to_told fields }
@@ -108,7 +71,7 @@ fn push_to(piece: &mut Piece, fields: Fields)
     }
 }
 
-// A word and an address.
+// A word and the address of the source or the destination in the text of a packet.
 fn push_end(piece: &mut Piece, word: &[u8], family: Family, address: u128)
     requires fits { address < address_limit family }
     requires room { length piece.old + length word.now + 106 ≤ 262144 }
@@ -131,7 +94,7 @@ fn push_tuple(piece: &mut Piece, tuple: &Tuple)
     push_to(piece, tuple.fields);
 }
 
-/// What the packet carries, where that is seen.
+/// The text of what a packet carries, where that is seen.
 pub fn push_carried(piece: &mut Piece, frame: &Frame)
     requires { length piece.old + 341 ≤ 262144 }
     ensures text { piece.new ≡ piece.old ++ carried_told (frame_facts frame.now) }

@@ -1,24 +1,18 @@
 //! The lines of rules, each at its rule's place.
 ghost use Rattle.std.specs.Prelude.{◌≡◌, ◌<◌, ◌==◌, ◌^◌, ◌∷◌, ℕ, List, IfOk, IfSome, OnOk, get_or, if◌then◌else◌};
-ghost use Rattle.packet_view.specs.Captures.{packet_facts};
-ghost use Rattle.acl_policy.specs.Policies.{policy_facts};
 ghost use Rattle.racl_views.specs.declared.rule_name.RuleLine as code;
-ghost use Rattle.racl_views.specs.Entries.{entry_facts, line_deciding};
-ghost use Rattle.racl_views.specs.inner.EntryLists.{AreAtPlaces, entry_on};
+ghost use Rattle.racl_views.specs.Entries.{line_deciding};
+ghost use Rattle.racl_views.specs.inner.EntryLists.{AreAtPlaces};
 ghost use Rattle.racl_views.specs.inner.Tellings.{IsTableOf};
 
-use crate::deciding_rule::{rule_on, seen};
-use crate::packet_entry::Entry;
-use crate::rule_counts::{number_at, place, reach};
+use crate::place_of_rule::{number_at, place, reach};
 use crate::rule_name::{RuleLine, RuleName};
 use crate::rule_numbering::rule_lines;
 use crate::rule_table::RuleTable;
 use crate::rule_texts_in_policy::texts_of;
-use acl_policy::Policy;
-use flow_filter::Verdict;
-use packet_view::Packet;
 use std::alloc::{AllocError, Global};
 
+// Sets the line that stands at a place, which is that of a rule.
 fn set_line(lines: &mut Vec<u64>, place: usize, line: u64) -> Result<(), AllocError>
     ensures { OnOk result ((k : ℕ) → get_or lines.new.items k 0 ≡ (if place == k then line else get_or lines.old.items k 0)) }
 {
@@ -48,7 +42,7 @@ fn lines_at_places(alloc: Global, rules: &[RuleLine]) -> Result<Vec<u64>, AllocE
     Ok(lines)
 }
 
-/// What is looked up of the rules of a policy's text. An `Err` says that memory ran out.
+/// The rules of a policy's text, their lines by place, and what is shown of these. An `Err` says that memory ran out.
 pub fn rule_table(alloc: Global, text: &[u8]) -> Result<RuleTable<'_>, AllocError>
     ensures { IfOk result (IsTableOf text.now) }
 {
@@ -62,8 +56,8 @@ pub fn rule_table(alloc: Global, text: &[u8]) -> Result<RuleTable<'_>, AllocErro
     })
 }
 
-// The line of a rule that decided, and 0 where none did.
-fn line_of(lines: &[u64], rule: Option<RuleName>) -> u64
+/// The line of a rule that decided, among the lines by place, and 0 where none did.
+pub fn line_of(lines: &[u64], rule: Option<RuleName>) -> u64
     requires interface { IfSome rule (λ r. r.interface < 2 ^ 8) }
     requires number { IfSome rule (λ r. r.number < 2 ^ 16) }
     ensures { (rules : List code.RuleLine) → AreAtPlaces lines.now rules → result ≡ line_deciding rules rule }
@@ -71,21 +65,5 @@ fn line_of(lines: &[u64], rule: Option<RuleName>) -> u64
     match rule {
         Some(rule) => number_at(lines, &rule),
         None => 0,
-    }
-}
-
-/// What is told of a packet.
-pub fn entry_of(policy: &Policy, lines: &[u64], packet: Packet<'_>, verdict: Verdict) -> Entry
-    ensures { (rules : List code.RuleLine) → AreAtPlaces lines.now rules
-        → entry_facts result ≡ entry_on (policy_facts policy.now) rules (packet_facts packet.entry) verdict }
-{
-    let frame = seen(policy, packet);
-    let line = line_of(lines, rule_on(packet.interface, frame, verdict));
-    Entry {
-        verdict,
-        interface: packet.interface,
-        moment: packet.moment,
-        frame,
-        line,
     }
 }

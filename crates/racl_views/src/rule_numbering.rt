@@ -7,8 +7,8 @@ ghost use Rattle.acl_policy.specs.inner.Reading.Lines.{line_facts};
 ghost use Rattle.racl_views.specs.RuleLines.{AreRules, rule_here, rules_from};
 ghost use Rattle.racl_views.specs.inner.Spots.{IsBehind, IsShort, listed, said};
 
-use crate::numbering_spot::Spot;
 use crate::rule_name::{RuleLine, RuleName};
+use crate::spot_between_rules::Spot;
 use acl_policy::{Line, line_of};
 use packet_view::Direction;
 use std::alloc::{AllocError, Global};
@@ -100,6 +100,7 @@ fn pass(rules: &mut Vec<RuleLine>, spot: &mut Spot, line: u64, said: Line) -> Re
     Ok(())
 }
 
+// The rules of a policy's text that is UTF-8, with their numbers and lines.
 fn rules_in(alloc: Global, text: &str) -> Result<Vec<RuleLine>, AllocError>
     ensures { IfOk result (λ rules. rules.items ≡ rules_from [] (map said (lines text.now))) }
 {
@@ -117,7 +118,7 @@ fn rules_in(alloc: Global, text: &str) -> Result<Vec<RuleLine>, AllocError>
     Ok(rules)
 }
 
-/// The rules of a policy's text in the order of their lines. An `Err` says that memory ran out.
+/// The rules of a policy's text in the order of their lines, with their numbers. An `Err` says that memory ran out.
 pub fn rule_lines(alloc: Global, text: &[u8]) -> Result<Vec<RuleLine>, AllocError>
     ensures { IfOk result (λ rules. (policy : PolicyFacts) → IsPolicyText text.now policy → AreRules text.now rules.items) }
 {

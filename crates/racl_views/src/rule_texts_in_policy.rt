@@ -12,7 +12,7 @@ use std::alloc::{AllocError, Global};
 /// How many bytes of a rule are shown at most.
 const MOST_SHOWN: usize = 200;
 
-// The text of a policy's line from its first word on.
+// The text of a policy's line from its first word on, where what is shown of a rule begins.
 fn after_blanks(text: &[u8]) -> &[u8]
     ensures { result.now ≡ from_word text.now }
 {
@@ -22,7 +22,7 @@ fn after_blanks(text: &[u8]) -> &[u8]
     }
 }
 
-// The text of a policy's line without the blanks at its end.
+// The text of a policy's line without the blanks at its end, which aren't shown of a rule.
 fn before_blanks(text: &[u8]) -> &[u8]
     ensures { result.now ≡ without_end text.now }
 {
@@ -36,7 +36,7 @@ fn before_blanks(text: &[u8]) -> &[u8]
     kept
 }
 
-// As many bytes of a text as are shown at most.
+// As many bytes of a rule's text as are shown at most.
 fn front(text: &[u8]) -> &[u8]
     ensures text { result.now ≡ take 200 text.now }
     ensures short { length result.now ≤ 200 }

@@ -14,8 +14,7 @@ use crate::address_text::push_address;
 use crate::flow_key::{four_flow, six_flow};
 use crate::json_fields::{add_address, add_number, begin, end};
 use crate::line_room::Room;
-use crate::line_text::{pass_on, push_numbered};
-use crate::packet_text::{push_flags, push_protocol};
+use crate::line_text::{pass_on, push_flags, push_numbered, push_protocol};
 use crate::stored_flow::StoredFlow;
 use crate::stored_flow_end::FlowEnd;
 use crate::stored_pairs::StoredPairs;
@@ -25,7 +24,7 @@ use racl_io::Piece;
 use session_state::{Session, Timeouts};
 use std::alloc::{AllocError, Global};
 
-// The port of an end, where the protocol has ports.
+// The port of an end in the text of a session, where the protocol has ports.
 fn push_port(piece: &mut Piece, proto: u8, port: u16)
     requires { length piece.old + 30 ≤ 262144 }
     ensures text { piece.new ≡ piece.old ++ line.port_told proto port }
@@ -36,7 +35,7 @@ fn push_port(piece: &mut Piece, proto: u8, port: u16)
     }
 }
 
-// The flags that are kept of an end, where the protocol has flags.
+// The flags that are kept of an end in the text of a session, where the protocol has flags.
 fn push_end_flags(piece: &mut Piece, proto: u8, flags: u8)
     requires { length piece.old + 9 ≤ 262144 }
     ensures text { piece.new ≡ piece.old ++ line.end_flags proto flags }
@@ -47,6 +46,7 @@ fn push_end_flags(piece: &mut Piece, proto: u8, flags: u8)
     }
 }
 
+// The address, port and flags of an end in the text of a session.
 fn push_flow_end(piece: &mut Piece, flow: &StoredFlow, end: FlowEnd, flags: u8)
     requires fits { end.address < address_limit flow.now.family }
     requires room { length piece.old + 145 ≤ 262144 }
@@ -58,6 +58,7 @@ fn push_flow_end(piece: &mut Piece, flow: &StoredFlow, end: FlowEnd, flags: u8)
     push_end_flags(piece, flow.proto, flags);
 }
 
+// The interface and the protocol of a flow in the text of its session.
 fn push_flow(piece: &mut Piece, flow: &StoredFlow)
     requires { length piece.old + 76 ≤ 262144 }
     ensures text { piece.new ≡ piece.old ++ line.flow_told (flow_facts flow.now) }
@@ -67,14 +68,14 @@ fn push_flow(piece: &mut Piece, flow: &StoredFlow)
     push_protocol(piece, flow.family, flow.proto);
 }
 
-// The last second in which the session is live.
+// The last second in which a session is live, as it is told in lines and objects.
 fn live_until(times: &Timeouts, session: &Session) -> u64
     ensures { result ≡ Sessions.live_until session.now times.now }
 {
     u64::from(session.last()) + u64::from(session.timeout(times))
 }
 
-// The latest second of its packets, and the last second in which the session is live.
+// What the text of a session ends with: the latest second of its packets, and the last second in which it is live.
 fn push_seconds(piece: &mut Piece, times: &Timeouts, session: &Session)
     requires { length piece.old + 62 ≤ 262144 }
     ensures text { piece.new ≡ piece.old ++ line.seconds_told times.now session.now }
@@ -97,7 +98,7 @@ fn push_session(piece: &mut Piece, times: &Timeouts, flow: &StoredFlow, session:
     push_seconds(piece, times, session);
 }
 
-// The port of an end, and the flags that are kept of it, where the protocol has them.
+// The port of an end and the flags that are kept of it in the object of a session, where the protocol has them.
 fn add_end_fields(object: &mut Writer, proto: u8, end: FlowEnd, flags: u8) -> Result<(), AllocError>
     ensures { OnOk result (HasAdded object.old object.new (line.end_fields proto (end_facts end) flags)) }
 {
@@ -110,6 +111,7 @@ fn add_end_fields(object: &mut Writer, proto: u8, end: FlowEnd, flags: u8) -> Re
     Ok(())
 }
 
+// The address, port and flags of an end in the object of a session.
 fn write_end(
     object: &mut Writer,
     address: &mut String,
@@ -128,6 +130,7 @@ fn write_end(
     Ok(())
 }
 
+// Both ends of a flow in the object of its session.
 fn add_ends(
     object: &mut Writer,
     address: &mut String,
@@ -201,6 +204,7 @@ fn tell_pair(
     }
 }
 
+// What is told of the sessions of IPv4 behind a text.
 fn tell_four(
     text: Vec<u8>,
     room: &mut Room,
@@ -217,6 +221,7 @@ fn tell_four(
     Ok(told)
 }
 
+// What is told of the sessions of IPv6 behind a text.
 fn tell_six(
     text: Vec<u8>,
     room: &mut Room,

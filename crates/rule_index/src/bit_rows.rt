@@ -2,7 +2,7 @@
 ghost use Rattle.std.specs.Prelude.{◌≡◌, ◌≢◌, ◌<◌, ◌≤◌, ◌*◌, ◌+◌, ◌-◌, ◌/◌, ◌⊎◌, ℕ, length, slice_index, bit_xor};
 ghost use Rattle.rule_index.specs.Rows.{bit_in, row_words};
 
-/// The words of a row for this many rules.
+/// How many words a row of bits for this many rules has.
 pub fn words_for(rules: usize) -> usize
     ensures { result ≡ row_words rules }
 {

@@ -2,7 +2,7 @@
 ghost use Rattle.std.specs.Prelude.{◌≡◌, ◌*◌, length};
 ghost use Rattle.rule_index.specs.Rows.{AreStarts};
 
-mod build;
+mod building_and_reading;
 mod interval_rows;
 mod interval_starts;
 

@@ -10,7 +10,7 @@ use crate::candidate_rows::Candidates;
 use acl_policy::{Action, Rule, is_match};
 use packet_view::Tuple;
 
-/// What the rule at a place does, where it matches.
+/// What the candidate at a place of the rules does, where it matches.
 fn match_at(rules: &[Rule], tuple: &Tuple, place: usize) -> Option<Action>
     ensures { MatchOption result (NotAt (map rule_facts rules.now) (tuple_facts tuple.now) place)
         (MatchesAt (map rule_facts rules.now) (tuple_facts tuple.now) place) }
@@ -25,7 +25,7 @@ fn match_at(rules: &[Rule], tuple: &Tuple, place: usize) -> Option<Action>
     None
 }
 
-/// The first rule that matches among the 64 from a place on, where a word has the bit of each that does.
+/// The first candidate that matches among the 64 rules from a place on, where a word has the bit of each that does.
 fn first_in(rules: &[Rule], tuple: &Tuple, from: usize, word: u64) -> Option<(usize, Action)>
     requires from { from ≤ length rules.now }
     requires before { NoneBefore (map rule_facts rules.now) (tuple_facts tuple.now) from }
@@ -44,7 +44,7 @@ fn first_in(rules: &[Rule], tuple: &Tuple, from: usize, word: u64) -> Option<(us
     None
 }
 
-/// The word of the intersection of the rows. The addresses, which rules differ in most, come first.
+/// The candidates that all rows leave among 64 rules, as a word. The addresses, which rules differ in most, come first.
 fn word_of(rows: &Candidates<'_>, i: usize) -> u64
     requires { AreLong rows.now (i + 1) }
     ensures { (rules : List RuleFacts) (tuple : TupleFacts) → AllSift rules tuple rows.now → KeepsMatches rules tuple (i * 64) result }

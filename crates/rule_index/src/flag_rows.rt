@@ -1,7 +1,7 @@
 //! For each value of the flags of TCP, the rules that may match it.
 ghost use Rattle.std.specs.Prelude.{◌≡◌, ◌*◌, length};
 
-mod build;
+mod building_and_reading;
 
 /// A row of bits for each value of the flags.
 #[derive(Drop)]

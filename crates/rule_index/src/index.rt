@@ -1,15 +1,25 @@
-//! Rules prepared for many packets.
-ghost use Rattle.std.specs.Prelude.{map};
+//! Rules prepared for many packets, and the rule of a packet found by them.
+ghost use Rattle.std.specs.Prelude.{◌≡◌, ◌<◌, ℕ, IfOk, IfSome, Option, length, map};
+ghost use Rattle.acl_policy.specs.declared.rule.Action.{Action};
+ghost use Rattle.acl_policy.specs.Matching.{IsRuling};
 ghost use Rattle.acl_policy.specs.Rules.{rule_facts};
+ghost use Rattle.packet_view.specs.Tuples.{tuple_facts};
+ghost use Rattle.rule_index.specs.inner.Candidates.{AllSift};
 ghost use Rattle.rule_index.specs.declared.dimension.Dimension.TheVariants.{Dest, First, Protocol, Second, Source};
+ghost use Rattle.rule_index.specs.Dimensions.{IsAt, IsFirst, IsSecond};
 ghost use Rattle.rule_index.specs.FlagBits.{SievesFlags};
+ghost use Rattle.rule_index.specs.Flagged.{IsFlagsOf};
 ghost use Rattle.rule_index.specs.Indexes.{Sieves};
 
+use crate::candidate_rows::Candidates;
 use crate::column::Column;
+use crate::dimension::Dimension;
+use crate::first_candidate::first_of;
 use crate::flag_rows::FlagRows;
-use acl_policy::Rule;
-
-mod lookup;
+use crate::ranges_of_rules::base_of;
+use acl_policy::{Action, Rule};
+use packet_view::{Fields, Tuple};
+use std::alloc::{AllocError, Global};
 
 /// Rules in their order, and for each number of a packet which of them may match it.
 #[derive(Drop)]
@@ -27,4 +37,93 @@ pub struct RuleIndex {
     pub ghost first_sieves: { Sieves First (map rule_facts rules.items) first },
     pub ghost second_sieves: { Sieves Second (map rule_facts rules.items) second },
     pub ghost flags_sieves: { SievesFlags (map rule_facts rules.items) flags },
+}
+
+// The source port of a packet, or its type, by which the index of rules is searched.
+fn first_number(fields: &Fields) -> Option<u128>
+    ensures { IfSome result (IsFirst fields.now) }
+{
+    match fields {
+        Fields::Absent => None,
+        Fields::Ports { from, .. } | Fields::Tcp { from, .. } => Some(u128::from(*from)),
+        Fields::Icmp { kind, .. } => Some(u128::from(*kind)),
+    }
+}
+
+// The destination port of a packet, or its code, by which the index of rules is searched.
+fn second_number(fields: &Fields) -> Option<u128>
+    ensures { IfSome result (IsSecond fields.now) }
+{
+    match fields {
+        Fields::Absent => None,
+        Fields::Ports { to, .. } | Fields::Tcp { to, .. } => Some(u128::from(*to)),
+        Fields::Icmp { code, .. } => Some(u128::from(*code)),
+    }
+}
+
+// The flags of a packet of TCP, by which the index of rules is searched.
+fn tcp_flags(fields: &Fields) -> Option<u8>
+    ensures { IfSome result (IsFlagsOf fields.now) }
+{
+    match fields {
+        Fields::Tcp { flags, .. } => Some(*flags),
+        Fields::Absent | Fields::Ports { .. } | Fields::Icmp { .. } => None,
+    }
+}
+
+// The protocol of a packet and its family, as the one number by which the index of rules is searched.
+fn protocol_number(tuple: &Tuple) -> u128
+    ensures { IsAt Protocol (tuple_facts tuple.now) result }
+{
+    base_of(tuple.family) + u128::from(tuple.proto)
+}
+
+impl RuleIndex {
+    /// The index of some rules. It takes memory, and no lookup in it does.
+    pub fn new(alloc: Global, rules: &[Rule]) -> Result<RuleIndex, AllocError>
+        ensures { IfOk result (λ index. index.rules.items ≡ rules.now) }
+    {
+        let source = Column::of_rules(alloc, rules, Dimension::Source)?;
+        let dest = Column::of_rules(alloc, rules, Dimension::Dest)?;
+        let protocol = Column::of_rules(alloc, rules, Dimension::Protocol)?;
+        let first = Column::of_rules(alloc, rules, Dimension::First)?;
+        let second = Column::of_rules(alloc, rules, Dimension::Second)?;
+        let flags = FlagRows::of_rules(alloc, rules)?;
+        let rules = Vec::from_slice(alloc, rules)?;
+        Ok(RuleIndex {
+            rules,
+            source,
+            dest,
+            protocol,
+            first,
+            second,
+            flags,
+        })
+    }
+
+    /// The rows that are looked up for a packet. Where it has no ports, no type or no flags, none of these leaves a
+    /// rule out.
+    fn candidates(&self, tuple: &Tuple) -> Candidates<'_>
+        ensures { AllSift (map rule_facts self.now.rules.items) (tuple_facts tuple.now) result }
+    {
+        let protocol = self.protocol.row(protocol_number(tuple));
+        Candidates {
+            source: self.source.row(tuple.source),
+            dest: self.dest.row(tuple.dest),
+            protocol,
+            first: self.first.row_or(first_number(&tuple.fields), protocol),
+            second: self.second.row_or(second_number(&tuple.fields), protocol),
+            flags: self.flags.row_or(tcp_flags(&tuple.fields), protocol),
+        }
+    }
+
+    /// Looks up the first rule that matches, by its place from 0, and says what it does. `None`: no rule matches.
+    pub fn first_match(&self, tuple: &Tuple) -> Option<(usize, Action)>
+        ensures decided { IsRuling (map rule_facts self.now.rules.items) (tuple_facts tuple.now) result }
+        ensures only { (other : Option (ℕ × Action))
+            → IsRuling (map rule_facts self.now.rules.items) (tuple_facts tuple.now) other → other ≡ result }
+        ensures place { IfSome result (λ d. d.0 < length self.now.rules.items) }
+    {
+        first_of(&self.rules, tuple, &self.candidates(tuple))
+    }
 }

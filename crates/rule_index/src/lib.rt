@@ -13,7 +13,7 @@ mod dimension;
 mod first_candidate;
 mod flag_rows;
 mod index;
-mod ranges;
+mod ranges_of_rules;
 mod when_to_prepare;
 
 pub use index::RuleIndex;

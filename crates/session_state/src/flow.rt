@@ -30,6 +30,7 @@ pub struct Flow {
     pub starts: bool,
 }
 
+// The ICMP type of the echo requests of a flow.
 fn request_type(family: Family) -> u8
     ensures { result ≡ Flows.request_type family }
 {
@@ -39,6 +40,7 @@ fn request_type(family: Family) -> u8
     }
 }
 
+// The ICMP type of the echo replies of a flow.
 fn reply_type(family: Family) -> u8
     ensures { result ≡ Flows.reply_type family }
 {
@@ -48,7 +50,7 @@ fn reply_type(family: Family) -> u8
     }
 }
 
-// The last word of a key.
+// The last word of a flow's key.
 fn ports_word(first: u64, second: u64, proto: u8, interface: u8) -> u64
     requires first { first < 2 ^ 16 }
     requires second { second < 2 ^ 16 }
@@ -81,6 +83,7 @@ fn key(tuple: &Tuple, first: End, second: End) -> FlowKey
     }
 }
 
+// The flow of a packet whose ends stand in this order in the key.
 fn oriented(tuple: &Tuple, first: End, second: End, starts: bool) -> Flow
     requires first { first.address < address_limit tuple.now.family }
     requires second { second.address < address_limit tuple.now.family }
@@ -93,7 +96,7 @@ fn oriented(tuple: &Tuple, first: End, second: End, starts: bool) -> Flow
     }
 }
 
-// An end of IPv4 as a number, so that the order of ends is that of their numbers.
+// An end of an IPv4 flow as a number, so that the order of ends is that of their numbers.
 fn number(end: End) -> u64
     requires { end.address < 2 ^ 32 }
     ensures is { end_of_number result ≡ end }
@@ -102,6 +105,7 @@ fn number(end: End) -> u64
     ((end.address as u64) << 16) + u64::from(end.port)
 }
 
+// The key of an IPv4 flow whose ends, as numbers, stand in this order.
 fn key_by_number(first: u64, second: u64, proto: u8, interface: u8) -> FlowKey
     requires first { first < 2 ^ 48 }
     requires second { second < 2 ^ 48 }
@@ -111,7 +115,8 @@ fn key_by_number(first: u64, second: u64, proto: u8, interface: u8) -> FlowKey
     FlowKey::Four([((first >> 16) << 32) + (second >> 16), ports])
 }
 
-// Which end stands first is as good as random, so no branch depends on it.
+// The flow of an IPv4 packet between ends as numbers. Which of them stands first is as good as random, so no branch
+// depends on it.
 fn flow_by_number(from: u64, to: u64, proto: u8, interface: u8) -> Flow
     requires from { from < 2 ^ 48 }
     requires to { to < 2 ^ 48 }
@@ -124,6 +129,7 @@ fn flow_by_number(from: u64, to: u64, proto: u8, interface: u8) -> Flow
     }
 }
 
+// The flow of a TCP or UDP packet, in whose key the lesser end stands first.
 #[inline(always)]
 fn by_order(tuple: &Tuple) -> Flow
     ensures { result ≡ flow_by_order (tuple_facts tuple.now) }
@@ -139,6 +145,7 @@ fn by_order(tuple: &Tuple) -> Flow
     }
 }
 
+// The flow of a TCP or UDP packet of IPv6, which is found by comparing its ends.
 fn by_ends(tuple: &Tuple) -> Flow
     ensures { result ≡ flow_by_order (tuple_facts tuple.now) }
 {
@@ -151,6 +158,7 @@ fn by_ends(tuple: &Tuple) -> Flow
     }
 }
 
+// The flow of an ICMP packet of this type, where it is an echo request or reply.
 fn echo(tuple: &Tuple, kind: u8) -> Option<Flow>
     ensures { result ≡ echo_flow (tuple_facts tuple.now) kind }
 {

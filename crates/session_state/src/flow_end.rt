@@ -12,14 +12,14 @@ pub struct End {
     pub port: u16,
 }
 
-/// Whether an end stands before another, or is the same: by address, and then by port.
+/// Whether an end of a flow stands before another, or is the same: by address, and then by port.
 pub fn is_first(one: End, other: End) -> bool
     ensures { result ≡ stands_first one other }
 {
     one.address < other.address || one.address == other.address && one.port <= other.port
 }
 
-/// The end that a packet comes from. Without ports its port is 0.
+/// The end of its flow that a packet comes from. Without ports its port is 0.
 pub fn sender(tuple: &Tuple) -> End
     ensures { result ≡ sender_of (tuple_facts tuple.now) }
 {
@@ -33,7 +33,7 @@ pub fn sender(tuple: &Tuple) -> End
     }
 }
 
-/// The end that a packet goes to.
+/// The end of its flow that a packet goes to.
 pub fn receiver(tuple: &Tuple) -> End
     ensures { result ≡ receiver_of (tuple_facts tuple.now) }
 {

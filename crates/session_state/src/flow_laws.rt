@@ -7,7 +7,7 @@ ghost use Rattle.session_state.specs.declared.flow.Flow.{Flow};
 
 use packet_view::Tuple;
 
-/// Every five-tuple is within the ranges that the laws ask for.
+/// Every five-tuple is within the ranges that the laws of flows ask for.
 pub fn tuples_are_in_range(tuple: Tuple)
     ensures { IsTuple (tuple_facts tuple) }
 {}
@@ -31,7 +31,7 @@ pub fn sides_tell_senders()
     ensures tie { (a : TupleFacts) (f : Flow) → IsFlow a f → sender_of a ≡ receiver_of a → f.side ≡ 0 }
 {}
 
-/// A packet and its answer have one key, and opposite sides where the ends differ.
+/// A packet and its answer have one flow key, and opposite sides where the ends differ.
 pub fn both_directions_share_a_key()
     ensures one_key { (a b : TupleFacts) (f g : Flow) → AreFlows a b f g → IsAnswer a b → f.key ≡ g.key }
     ensures opposite { (a b : TupleFacts) (f g : Flow) → AreFlows a b f g → IsAnswer a b

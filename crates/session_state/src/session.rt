@@ -1,5 +1,5 @@
 //! What is kept of a flow, and its form as the value of a table.
-ghost use Rattle.std.specs.Prelude.{◌≡◌, ◌<◌, ◌↔◌, IsTrue, Option, Some, IfSome};
+ghost use Rattle.std.specs.Prelude.{◌≡◌, ◌<◌, ◌↔◌, IsTrue, Some, IfSome};
 ghost use Rattle.session_state.specs.Flags.{IsKept};
 ghost use Rattle.session_state.specs.Sessions.{SessionFacts, IsSession, IsLive, flags_seen, new_session, session_of, session_word, timeout_of, touched_session, with_flags};
 

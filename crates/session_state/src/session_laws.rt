@@ -9,7 +9,8 @@ ghost use Rattle.session_state.specs.Sessions.{IsLive, IsSession, SessionFacts, 
 ghost use Rattle.session_state.specs.declared.flow.Flow.{Flow};
 ghost use Rattle.session_state.specs.declared.timeouts.Timeouts.{Timeouts};
 
-/// The flow and the decision that are computed are those that the definitions name, and no other is, for all facts.
+/// The flow and the decision on a session that are computed are those that the definitions name, and no other is, for
+/// all facts.
 pub fn computations_meet_definitions()
     ensures flow { (packet : TupleFacts) (flow : Flow) → (flow_of packet ≡ Some flow) ↔ IsFlow packet flow }
     ensures decision { (packet : PatchFacts) (old : Option ℕ) (change : Change)
@@ -38,7 +39,7 @@ pub fn last_second_counts()
     ensures next { (s : SessionFacts) (times : Timeouts) → IsLive s times (s.last + timeout_of s times + 1) → ⊥ }
 {}
 
-/// The last moment never falls: a packet of an earlier moment leaves it.
+/// The last moment of a session never falls: a packet of an earlier moment leaves it.
 pub fn last_never_falls()
     ensures earlier { (s : SessionFacts) (moment side flags : ℕ) → moment ≤ s.last
         → (touched_session s moment side flags).last ≡ s.last }

@@ -23,8 +23,8 @@ fn main(rt: HostRuntime) -> ExitCode {
     }
 }
 
-// Whether a table was made, filled, and renewed and closed once its callers were joined: memory was refused to no call
-// twice.
+// Whether the probe's table was made, filled, and renewed and closed once its callers were joined: memory was refused
+// to no call twice.
 fn made_and_closed(rt: &HostRuntime) -> io::Result<bool> {
     let Some((table, caller)) = make(rt)? else {
         return Ok(false);
@@ -46,7 +46,7 @@ fn made_and_closed(rt: &HostRuntime) -> io::Result<bool> {
     }
 }
 
-// A new table and its caller, at the second attempt where memory was refused to the first.
+// The probe's new table and its caller, at the second attempt where memory was refused to the first.
 fn make(rt: &HostRuntime) -> io::Result<Option<(Sessions<Small>, Caller<Small>)>>
     ensures own { IfOk result (λ r. IfSome r (λ t. t.1.seat.row ≡ t.0.row)) }
     ensures free { IfOk result (λ r. IfSome r (λ t. t.1.seat.view.holds ≡ nothing_held)) }
@@ -61,7 +61,7 @@ fn make(rt: &HostRuntime) -> io::Result<Option<(Sessions<Small>, Caller<Small>)>
     Ok(None)
 }
 
-// The caller, which added what is to be added.
+// The probe's caller, which added the pairs that are to be added, after a line on each reply.
 fn fill(
     rt: &HostRuntime,
     table: &Sessions<Small>,
@@ -79,7 +79,7 @@ fn fill(
     show_caller(rt, table, caller)
 }
 
-// Two callers of the one, at the second attempt where memory was refused to the first.
+// Two callers of the probe's table for its one, at the second attempt where memory was refused to the first.
 fn split_twice(
     rt: &HostRuntime,
     table: &Sessions<Small>,
@@ -96,7 +96,7 @@ fn split_twice(
     }
 }
 
-// The caller, and a new one; or the caller, as it is where its split was refused.
+// The probe's caller, and a new one; or the caller, as it is where its split was refused. A line says which.
 fn split(
     rt: &HostRuntime,
     table: &Sessions<Small>,
@@ -122,7 +122,7 @@ fn split(
     }
 }
 
-// The renewed table and its caller, at the second attempt where memory was refused to the first.
+// The probe's renewed table and its caller, at the second attempt where memory was refused to the first.
 fn open_again(
     rt: &HostRuntime,
     table: Sessions<Small>,
@@ -139,7 +139,8 @@ fn open_again(
     }
 }
 
-// The renewed table and its caller, which added a value; or the table and its caller, as they are where that was refused.
+// The probe's renewed table and its caller, which added a value; or the table and its caller, as they are where that
+// was refused.
 fn renew(
     rt: &HostRuntime,
     table: Sessions<Small>,
@@ -170,7 +171,8 @@ fn renew(
     }
 }
 
-// Nothing, where the table is closed and its pairs are printed; or the table and its caller, as they are where that was refused.
+// Nothing, where the probe's table is closed and its pairs are printed; or the table and its caller, as they are where
+// that was refused.
 fn close(
     rt: &HostRuntime,
     table: Sessions<Small>,
@@ -198,7 +200,8 @@ fn close(
     }
 }
 
-// The caller, after a line on its last stamp, its numbers, whether it is lone, and what it finds under the last added key.
+// The probe's caller, after a line on its last stamp, its numbers, whether it is lone, and what it finds under the last
+// added key.
 fn show_caller(
     rt: &HostRuntime,
     table: &Sessions<Small>,

@@ -4,7 +4,7 @@ use Rattle.std.specs.Cmp.Lexicographic.{slice_cmp}
 use Rattle.std.specs.Ordering.{nat_cmp}
 use Rattle.std.specs.declared.cmp.Ordering.TheVariants.{Greater}
 use Rattle.bihash_plan.specs.Blocks.{HasPairAt}
-use Rattle.bihash_plan.specs.declared.recycling_plan.Least.{Least}
+use Rattle.bihash_plan.specs.declared.least_expired_pair.Least.{Least}
 
 -- it is at place i
 pub record IsLeastTo {K : Type 0} (words_of : K → List ℕ) (is_expired : ℕ → Bool) (places : List (K × ℕ)) (to i : ℕ) : Type 0 where

@@ -290,7 +290,7 @@ const FOUND: [(&[Place], BlockSize, u64, Option<usize>); 19] = [
     (&LAID_LINEAR, LINEAR_FOUR, 32, Some(6)),
 ];
 
-// How many places a block of this size has. A small table has blocks of at most four pages.
+// For tests of plans: how many places a block of this size has. A small table has blocks of at most four pages.
 fn place_count(size: BlockSize) -> Option<usize>
     ensures size { IfSome result (λ _. size.log2 ≤ 2) }
     ensures count { IfSome result (λ count. count ≡ 4 * 2 ^ size.log2) }
@@ -304,7 +304,8 @@ fn place_count(size: BlockSize) -> Option<usize>
     }
 }
 
-// What is planned for the key of this number. `None`: a block of this size doesn't have so many places.
+// For tests of plans: what is planned for the key of this number. `None`: a block of this size doesn't have so many
+// places.
 fn planned(places: &[Place], size: BlockSize, key: u64) -> Option<Plan> {
     let count = place_count(size)?;
     if !places.is_empty() && places.len() != count {
@@ -313,7 +314,7 @@ fn planned(places: &[Place], size: BlockSize, key: u64) -> Option<Plan> {
     Some(plan::<Small>(places, size, &[key, 0]))
 }
 
-// What a block grows to for a new key without a place.
+// For tests of plans: what a block grows to for a new key without a place.
 fn grown(places: &[Place], size: BlockSize, key: u64) -> Option<Plan> {
     let count = place_count(size)?;
     if !places.is_empty() && places.len() != count {
@@ -322,7 +323,7 @@ fn grown(places: &[Place], size: BlockSize, key: u64) -> Option<Plan> {
     Some(larger::<Small>(places, size, &[key, 0]))
 }
 
-// Where the key is. `None`: nowhere.
+// For tests of plans: where the key is in a block. `None`: nowhere.
 fn place_of(places: &[Place], size: BlockSize, key: u64) -> Option<usize> {
     let count = place_count(size)?;
     if places.len() != count {
@@ -331,7 +332,7 @@ fn place_of(places: &[Place], size: BlockSize, key: u64) -> Option<usize> {
     find::<Small>(places, size, &[key, 0])
 }
 
-// Whether these places and a new pair are laid out so in a block of this size.
+// For tests of plans: whether these places and a new pair are laid out so in a block of this size.
 fn lays(places: &[Place], new: &Place, size: BlockSize, wanted: &[Place]) -> bool {
     let Some(count) = place_count(size) else {
         return false;
@@ -341,6 +342,7 @@ fn lays(places: &[Place], new: &Place, size: BlockSize, wanted: &[Place]) -> boo
     &all[..count] == wanted
 }
 
+// Plans of `bihash_plan` for a key in a worked block: its place, a free one, a larger block, or Full.
 #[test]
 fn plans(rt: HostRuntime) {
     for (places, size, key, wanted) in PLANS {
@@ -348,6 +350,7 @@ fn plans(rt: HostRuntime) {
     }
 }
 
+// Plans of `bihash_plan` for a new key that has no place in its block.
 #[test]
 fn larger_blocks(rt: HostRuntime) {
     for (places, size, key, wanted) in LARGER {
@@ -355,6 +358,7 @@ fn larger_blocks(rt: HostRuntime) {
     }
 }
 
+// Plans carried out: the pairs of a worked block and a new one are laid out in a block of the planned size.
 #[test]
 fn layouts(rt: HostRuntime) {
     for (places, new, size, wanted) in LAYOUTS {
@@ -362,6 +366,7 @@ fn layouts(rt: HostRuntime) {
     }
 }
 
+// What `bihash_plan` finds in a worked block: the place of a key, or none.
 #[test]
 fn places(rt: HostRuntime) {
     for (places, size, key, wanted) in FOUND {

@@ -10,12 +10,12 @@ use std::test::Fail;
 // Four pages, and eight writes to a bucket. A table of this shape may have 64 callers.
 type Small = Tiny<4, 8>;
 
-// A test that ends since a row or a split was refused.
+// A test of steps that ends since a row or a split was refused.
 fn refused() -> Result<(), Fail> {
     Err("a row or a caller was refused")?
 }
 
-// A caller and a new one.
+// For tests of steps: the caller of a row, and a new one.
 fn split(
     alloc: Global,
     row: &Row<Small>,
@@ -31,6 +31,7 @@ fn split(
     }
 }
 
+// Steps on new rows: one caller is counted.
 #[test]
 fn rows_of_both_flow_shapes_open(rt: HostRuntime) -> Result<(), Fail> {
     let Ok((four, mut first)) = open_row::<ShapeV4>(rt.alloc()) else {
@@ -44,7 +45,7 @@ fn rows_of_both_flow_shapes_open(rt: HostRuntime) -> Result<(), Fail> {
     Ok(())
 }
 
-// How many callers were made, as this one sees it, and how many numbers it has.
+// For tests of steps: how many callers of a row were made, as this one sees it, and how many numbers it has.
 fn counts(row: &Row<Small>, caller: &mut Caller<Small>) -> (u64, u64)
     requires { (caller.old.seat.row ≡ row.now) × (caller.old.seat.view.holds ≡ nothing_held) }
     ensures { (caller.new.seat.row ≡ row.now) × (caller.new.seat.view.holds ≡ nothing_held) }
@@ -53,6 +54,7 @@ fn counts(row: &Row<Small>, caller: &mut Caller<Small>) -> (u64, u64)
     (made, caller.seat.numbers())
 }
 
+// Steps on callers of a row: after a split both count two, and each has one number.
 #[test]
 fn a_split_makes_a_caller(rt: HostRuntime) -> Result<(), Fail> {
     let Ok((row, mut first)) = open_row::<Small>(rt.alloc()) else {
@@ -67,6 +69,7 @@ fn a_split_makes_a_caller(rt: HostRuntime) -> Result<(), Fail> {
     Ok(())
 }
 
+// Steps on callers of a row: two that meet before they made a call have no stamp.
 #[test]
 fn callers_that_meet_keep_their_numbers(rt: HostRuntime) -> Result<(), Fail> {
     let Ok((row, first)) = open_row::<Small>(rt.alloc()) else {
@@ -81,7 +84,8 @@ fn callers_that_meet_keep_their_numbers(rt: HostRuntime) -> Result<(), Fail> {
     Ok(())
 }
 
-// A caller that takes in another has the numbers of both, and keeps them where it splits and meets.
+// Steps on callers of a row: one that takes in another has the numbers of both, and keeps them where it splits and
+// meets.
 #[test]
 fn a_caller_takes_in_another(rt: HostRuntime) -> Result<(), Fail> {
     let Ok((row, first)) = open_row::<Small>(rt.alloc()) else {
@@ -102,6 +106,7 @@ fn a_caller_takes_in_another(rt: HostRuntime) -> Result<(), Fail> {
     Ok(())
 }
 
+// Steps on the locks of a bucket and of the page store in a new row: no page is used, and no call is answered.
 #[test]
 fn lone_caller_takes_both_locks_and_opens_them(rt: HostRuntime) -> Result<(), Fail> {
     let Ok((row, mut first)) = open_row::<Small>(rt.alloc()) else {
@@ -122,6 +127,7 @@ fn lone_caller_takes_both_locks_and_opens_them(rt: HostRuntime) -> Result<(), Fa
     Ok(())
 }
 
+// Steps on callers of a row: each new one counts one more, until there are as many as there may be.
 #[test]
 fn sixty_third_split_makes_the_last_caller(rt: HostRuntime) -> Result<(), Fail> {
     let Ok((row, mut caller)) = open_row::<Small>(rt.alloc()) else {

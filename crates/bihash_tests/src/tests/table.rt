@@ -4,7 +4,6 @@ ghost use Rattle.std.specs.Prelude.{◌≡◌, ◌<◌, IfSome};
 ghost use Rattle.bihash_words.specs.Sizes.{sizes_of, IsSound};
 ghost use Rattle.bihash_rule.specs.Views.{nothing_held};
 
-use bihash_steps::PoolWord;
 use bihash_table::{Caller, CloseFault, Contended, Sessions, create, stamp};
 use bihash_words::{Add, AddIfAbsent, Delete, Reply, Shape, Tiny, Touch};
 use std::alloc::Global;
@@ -36,12 +35,12 @@ enum Call {
 // A call on a key, its answer, and the bucket and stamp of its caller after it. A search answers `Kept`.
 type Row = (Call, [u64; 2], Reply, (u64, u64));
 
-// A test that ends since a table, a split or a renewal was refused.
+// Shared by tests of the table: the end of one in which a table, a split or a renewal was refused.
 fn refused() -> Result<(), Fail> {
     Err("a table or a caller was refused")?
 }
 
-// A new table and two callers.
+// Shared by tests of the table: a new table and two callers.
 fn two_callers<S: Shape>(alloc: Global) -> Option<(Sessions<S>, Caller<S>, Caller<S>)>
     requires sound { IsSound (sizes_of S.Shape) }
     ensures own { IfSome result (λ r. (r.1.seat.row ≡ r.0.row) × (r.2.seat.row ≡ r.0.row)) }
@@ -56,7 +55,7 @@ fn two_callers<S: Shape>(alloc: Global) -> Option<(Sessions<S>, Caller<S>, Calle
     }
 }
 
-// What one try of a call answers.
+// Shared by tests of the table: what one try of a call answers.
 fn answer<const P: u64, const L: u64>(
     table: &Sessions<Tiny<P, L>>,
     caller: &mut Caller<Tiny<P, L>>,
@@ -86,7 +85,7 @@ fn answer<const P: u64, const L: u64>(
     }
 }
 
-// The number of the first row whose call is answered otherwise at its one try, if one is.
+// Shared by tests of the table: the number of the first row whose call is answered otherwise at its one try, if one is.
 fn first_wrong<const P: u64, const L: u64>(
     table: &Sessions<Tiny<P, L>>,
     caller: &mut Caller<Tiny<P, L>>,
@@ -106,7 +105,7 @@ fn first_wrong<const P: u64, const L: u64>(
     None
 }
 
-// Adds keys of these numbers, each with its number as value. Each is a new pair.
+// Shared by tests of the table: adds keys of these numbers, each with its number as value. Each is a new pair.
 fn fill<const P: u64, const L: u64>(
     table: &Sessions<Tiny<P, L>>,
     caller: &mut Caller<Tiny<P, L>>,
@@ -125,7 +124,7 @@ fn fill<const P: u64, const L: u64>(
     all_new
 }
 
-// Whether each key of these numbers is found with its number as value.
+// Shared by tests of the table: whether each key of these numbers is found with its number as value.
 fn has<const P: u64, const L: u64>(
     table: &Sessions<Tiny<P, L>>,
     caller: &mut Caller<Tiny<P, L>>,
@@ -144,7 +143,7 @@ fn has<const P: u64, const L: u64>(
     all_found
 }
 
-// The first page of a bucket's block, its log2, and whether it is linear.
+// Shared by tests of the table: the first page of a bucket's block, its log2, and whether it is linear.
 fn block<const P: u64, const L: u64>(
     table: &Sessions<Tiny<P, L>>,
     caller: &mut Caller<Tiny<P, L>>,
@@ -160,43 +159,8 @@ fn block<const P: u64, const L: u64>(
     (word.page(), word.log2(), word.linear())
 }
 
-// The table opened again, with its caller 1.
-fn renew<S: Shape>(
-    alloc: Global,
-    table: Sessions<S>,
-    caller: Caller<S>,
-) -> Option<(Sessions<S>, Caller<S>)>
-    requires own { caller.seat.row ≡ table.row }
-    requires free { caller.seat.view.holds ≡ nothing_held }
-    ensures own { IfSome result (λ r. r.1.seat.row ≡ r.0.row) }
-    ensures free { IfSome result (λ r. r.1.seat.view.holds ≡ nothing_held) }
-{
-    match table.renew(alloc, caller) {
-        Ok((table, caller)) => Some((table, caller)),
-        Err(_) => None,
-    }
-}
-
-// How many returned pages there are, and how many pages were ever handed out. `None`: the allocation lock is held.
-fn pages<S: Shape>(table: &Sessions<S>, caller: &mut Caller<S>) -> Option<(u64, u64)>
-    requires own { caller.old.seat.row ≡ table.now.row }
-    requires free { caller.old.seat.view.holds ≡ nothing_held }
-    ensures own { caller.new.seat.row ≡ table.now.row }
-    ensures free { caller.new.seat.view.holds ≡ nothing_held }
-{
-    let row = &table.row;
-    let seat = &mut caller.seat;
-    if !row.pool_lock(seat) {
-        return None;
-    }
-    let returned = row.pool_load(seat, PoolWord::Count(0));
-    let used = row.pool_load(seat, PoolWord::Used);
-    row.pool_unlock(seat);
-    Some((returned, used))
-}
-
-// Drops a caller that has the lock of bucket 0, and the allocation lock where that is asked for. False: it did not get
-// one of them.
+// Shared by tests of the table: drops a caller that has the lock of bucket 0, and the allocation lock where that is
+// asked for. False: it did not get one of them.
 fn drop_with_locks(table: &Sessions<Eight>, mut caller: Caller<Eight>, and_pool: bool) -> bool
     requires own { caller.seat.row ≡ table.now.row }
     requires free { caller.seat.view.holds ≡ nothing_held }
@@ -210,7 +174,7 @@ fn drop_with_locks(table: &Sessions<Eight>, mut caller: Caller<Eight>, and_pool:
     row.lock_from(seat, 0, word) && (!and_pool || row.pool_lock(seat))
 }
 
-// Whether the table ends with these pairs.
+// Shared by tests of the table: whether it ends with these pairs.
 fn ends_with<const P: u64, const L: u64>(
     alloc: Global,
     table: Sessions<Tiny<P, L>>,
@@ -226,7 +190,8 @@ fn ends_with<const P: u64, const L: u64>(
     }
 }
 
-// The table, which can't be closed while there is the second caller, and both callers joined. `None`: it was closed.
+// Shared by tests of the table: the table, which can't be closed while there is the second caller, and both callers
+// joined. `None`: it was closed.
 fn stays_open<S: Shape>(
     alloc: Global,
     table: Sessions<S>,

@@ -4,7 +4,7 @@ use Rattle.packet_view.specs.Captures.{AreRecords}
 use Rattle.packet_view.specs.Fronts.{Stops}
 use Rattle.packet_view.specs.RecordLists.{bytes_of, records_from}
 use Rattle.packet_view.specs.declared.capture.Order.{Order}
-use Rattle.capture_stream.specs.declared.judge_window.Found.{Found}
+use Rattle.capture_stream.specs.declared.windows_of_records.Found.{Found}
 
 -- the bytes behind the records
 abbrev pub behind_of : List ℕ → Found → List ℕ

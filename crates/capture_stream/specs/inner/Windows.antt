@@ -9,9 +9,9 @@ use Rattle.racl_io.specs.Inputs.{most_bytes}
 use Rattle.racl_io.specs.Transfers.{HasRead, HasReadWithin}
 use Rattle.capture_stream.specs.Judging.{CanFollow, HaveFollowed}
 use Rattle.capture_stream.specs.inner.Found.{HaveFound}
-use Rattle.capture_stream.specs.declared.judge_window.NextWindow.{NextWindow}
-use Rattle.capture_stream.specs.declared.judge_window.WindowJudges.{WindowJudges}
-use Rattle.capture_stream.specs.declared.judge_window.WindowJudges.TheVariants.{Ahead, Over, Under}
+use Rattle.capture_stream.specs.declared.windows_of_records.NextWindow.{NextWindow}
+use Rattle.capture_stream.specs.declared.windows_of_records.WindowJudges.{WindowJudges}
+use Rattle.capture_stream.specs.declared.windows_of_records.WindowJudges.TheVariants.{Ahead, Over, Under}
 
 -- they are ahead of these packets
 abbrev pub CanJudge : {J : Type 0} → (J → List PacketFacts → J → Type 0) → WindowJudges J → Packets → Type 0

@@ -33,12 +33,14 @@ const BIG: [u8; 82] = [
     0x03, 0xe8, 0, 0x35, 0, 0x08, 0, 0, //
 ];
 
+/// Headers of captures: the order of bytes that each magic number says.
 #[test]
 fn reads_both_orders(rt: HostRuntime) {
     assert_eq!(rt; capture_header(&LITTLE), Ok(Order::Little));
     assert_eq!(rt; capture_header(&BIG), Ok(Order::Big));
 }
 
+/// The first record behind a capture's header, and the bytes after it.
 #[test]
 fn finds_the_next_record(rt: HostRuntime) {
     let Piece::Whole {
@@ -54,7 +56,7 @@ fn finds_the_next_record(rt: HostRuntime) {
     assert_eq!(rt; frame, UDP.as_slice());
 }
 
-/// The third record begins at 140.
+/// A capture that is cut: two of its records are whole, and the third begins at 140.
 #[test]
 fn finds_the_whole_records_at_the_front(rt: HostRuntime) {
     let front = front_records(&LITTLE[24..145], Order::Little, 0);
@@ -66,6 +68,7 @@ fn finds_the_whole_records_at_the_front(rt: HostRuntime) {
     );
 }
 
+/// A whole capture in big-endian order: the list of its packets.
 #[test]
 fn reads_the_packets_of_a_capture(rt: HostRuntime) -> Result<(), Fail> {
     let Ok(capture) = read_capture(rt.alloc(), &BIG, 0) else {
@@ -76,6 +79,7 @@ fn reads_the_packets_of_a_capture(rt: HostRuntime) -> Result<(), Fail> {
     Ok(())
 }
 
+/// A capture that is cut in its last record: its packets are taken from its bytes, without a list.
 #[test]
 fn takes_the_packets_of_a_capture_where_they_stand(rt: HostRuntime) -> Result<(), Fail> {
     let Ok(checked) = check_capture(&LITTLE[..197], 0) else {
@@ -87,23 +91,25 @@ fn takes_the_packets_of_a_capture_where_they_stand(rt: HostRuntime) -> Result<()
     Ok(())
 }
 
-// How many packets there are, the moment of the first, and how many are left after it.
+// What tests of captures compare of packets: how many there are, the moment of the first, and how many are left.
 fn front_of(mut packets: Packets<'_>) -> (usize, Option<u32>, usize) {
     let count = packets.count();
     let moment = packets.next().map(|packet| packet.moment);
     (count, moment, packets.count())
 }
 
+// What tests of captures compare of a list of packets.
 fn front_of_list<'a>(packets: &'a [Packet<'a>]) -> (usize, Option<u32>, usize) {
     front_of(Packets::Slice(packets))
 }
 
-// How many bytes the frame of this number has: every tenth is longer than the others.
+// How many bytes of a frame the record of this number keeps in a test's capture: every tenth keeps more.
 fn frame_length(number: u8) -> u8 {
     if number % 10 == 9 { 9 } else { 4 }
 }
 
-// Whether these are the packets of the frames 0 to 149, each at the second of its number, with bytes of its number.
+// Whether these are the packets of a test's capture with the records 0 to 149, each at the second of its number, with
+// bytes of its number.
 fn are_numbered(mut packets: PacketBursts<'_>) -> bool {
     for number in 0..150u8 {
         let Some(packet) = packets.next() else {
@@ -120,10 +126,12 @@ fn are_numbered(mut packets: PacketBursts<'_>) -> bool {
     packets.next().is_none() && packets.next().is_none()
 }
 
+// Whether a list has the packets of a test's capture with the records 0 to 149.
 fn are_listed_by_number<'a>(packets: &'a [Packet<'a>]) -> bool {
     are_numbered(PacketBursts::new(Packets::Slice(packets)))
 }
 
+/// A capture of 150 records: its packets are found ahead, and so are those of a list.
 #[test]
 fn takes_packets_that_are_found_ahead(rt: HostRuntime) -> Result<(), Fail> {
     let mut bytes = Vec::new(rt.alloc());

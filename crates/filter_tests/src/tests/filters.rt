@@ -10,7 +10,7 @@ use packet_view::{Direction, Family, Fields, Mac, Tuple};
 use std::alloc::{AllocError, Global};
 use std::test::Fail;
 
-/// From 10.0.0.2 to 10.0.0.1.
+/// A packet from 10.0.0.2 to 10.0.0.1, for which tests ask a filter's rules.
 fn tuple(proto: u8, fields: Fields) -> Tuple
     requires fits { IsTrue (fields_suit Family.V4 proto fields) }
 {
@@ -24,7 +24,7 @@ fn tuple(proto: u8, fields: Fields) -> Tuple
     }
 }
 
-// The filter of this policy. `None`: it is no policy, or memory was refused.
+// The filter of this policy, whose rules a test asks. `None`: it is no policy, or memory was refused.
 fn filter_of(alloc: Global, text: &[u8]) -> Option<Filter> {
     match read_policy(alloc, text) {
         Ok(policy) => Some(Filter {
@@ -35,6 +35,7 @@ fn filter_of(alloc: Global, text: &[u8]) -> Option<Filter> {
     }
 }
 
+/// A filter that is ready has the own address of the policy's section, and the timeouts.
 #[test]
 fn a_filter_is_ready(rt: HostRuntime) -> Result<(), Fail> {
     let Some(filter) = filter_of(rt.alloc(), b"mac 02:00:00:0a:0b:ff\n") else {
@@ -46,7 +47,7 @@ fn a_filter_is_ready(rt: HostRuntime) -> Result<(), Fail> {
     Ok(())
 }
 
-/// 70 times `in deny ipv4 any any tcp`, and then a rule for UDP.
+/// The policy of a test's filter: 70 times `in deny ipv4 any any tcp`, and then a rule for UDP.
 fn many_rules(alloc: Global) -> Result<Vec<u8>, AllocError> {
     let mut text = Vec::new(alloc);
     for _ in 0..70 {
@@ -56,6 +57,7 @@ fn many_rules(alloc: Global) -> Result<Vec<u8>, AllocError> {
     Ok(text)
 }
 
+/// A filter's inbound rules, searched one by one and by their index.
 #[test]
 fn prepared_rules_decide_as_the_listed_ones(rt: HostRuntime) -> Result<(), Fail> {
     let Ok(text) = many_rules(rt.alloc()) else {
@@ -82,7 +84,7 @@ fn prepared_rules_decide_as_the_listed_ones(rt: HostRuntime) -> Result<(), Fail>
     Ok(())
 }
 
-/// Each interface has the rules of its section, and one without a section neither an own address nor rules.
+/// A filter has at each interface the rules of its section, and without a section neither an own address nor rules.
 #[test]
 fn rules_of_two_interfaces(rt: HostRuntime) -> Result<(), Fail> {
     let text = b"mac 02:00:00:00:00:01\nin deny ipv4 any any tcp\n\
@@ -110,6 +112,7 @@ fn rules_of_two_interfaces(rt: HostRuntime) -> Result<(), Fail> {
     Ok(())
 }
 
+/// The verdicts that a filter's rules alone give, by the place of the rule that decides.
 #[test]
 fn rules_are_numbered_from_1(rt: HostRuntime) {
     assert_eq!(rt; verdict_of_rules(None), Verdict::ByDefault);
@@ -122,6 +125,7 @@ fn rules_are_numbered_from_1(rt: HostRuntime) {
     }
 }
 
+/// Each verdict of a filter: whether its packet passes or is dropped.
 #[test]
 fn which_verdicts_pass(rt: HostRuntime) {
     let passing = [

@@ -29,6 +29,7 @@ const TCP: [u8; 54] = [
     0x03, 0xe8, 0x00, 0x50, 0, 0, 0, 0, 0, 0, 0, 0, 0x50, 0x02, 0, 0, 0, 0, 0, 0, // TCP
 ];
 
+/// The view of a frame by the interface's own address and number.
 #[test]
 fn sees_a_packet_by_its_way(rt: HostRuntime) {
     let other = Some(Mac([2, 0, 0, 0, 0, 2]));

@@ -5,11 +5,12 @@ use acl_policy::Action;
 use rule_index::{RuleIndex, worth_preparing};
 use std::test::Fail;
 
-/// Asks nothing but that threads may share a value.
+/// Asks of an index of rules, which a test made, nothing but that threads may share it.
 fn shared<T: Sync>(value: &T) -> &T {
     value
 }
 
+/// The index of no rules finds none, and threads may share it.
 #[test]
 fn no_rules(rt: HostRuntime) -> Result<(), Fail> {
     let Ok(none) = RuleIndex::new(rt.alloc(), &[]) else {
@@ -19,7 +20,7 @@ fn no_rules(rt: HostRuntime) -> Result<(), Fail> {
     Ok(())
 }
 
-/// The first of several equal rules, in the second word of the rows too.
+/// An index finds the first of several equal rules, in the second word of the rows too.
 #[test]
 fn first_of_equal_rules(rt: HostRuntime) -> Result<(), Fail> {
     let mut rules = Vec::new(rt.alloc());
@@ -45,6 +46,7 @@ fn first_of_equal_rules(rt: HostRuntime) -> Result<(), Fail> {
     Ok(())
 }
 
+/// How many packets make an index of so many rules worth preparing.
 #[test]
 fn worth(rt: HostRuntime) {
     assert!(rt; !worth_preparing(64, 1_000_000));

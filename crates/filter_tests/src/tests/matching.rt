@@ -3,7 +3,7 @@ use super::EVERY;
 use acl_policy::{Action, Rule, first_match};
 use packet_view::{Family, Fields, Tuple};
 
-/// A rule for every IPv4 address.
+/// A rule for every IPv4 address, for tests of matching.
 pub fn rule(
     action: Action,
     proto: u8,
@@ -24,6 +24,7 @@ pub fn rule(
     }
 }
 
+/// A packet from 10.0.0.2:80 to 10.0.0.1:1000 by TCP, for tests of matching.
 fn tcp(flags: u8) -> Tuple {
     Tuple {
         interface: 0,
@@ -39,6 +40,7 @@ fn tcp(flags: u8) -> Tuple {
     }
 }
 
+/// A packet from 10.0.0.2 to 10.0.0.1 by UDP, for tests of matching.
 pub fn udp(from: u16, to: u16) -> Tuple {
     Tuple {
         interface: 0,
@@ -50,6 +52,7 @@ pub fn udp(from: u16, to: u16) -> Tuple {
     }
 }
 
+/// A later fragment from 10.0.0.2 to 10.0.0.1, which has no ports, for tests of matching.
 pub fn later_fragment(proto: u8) -> Tuple {
     Tuple {
         interface: 0,
@@ -61,7 +64,7 @@ pub fn later_fragment(proto: u8) -> Tuple {
     }
 }
 
-/// Every protocol, whatever the ranges and flags of the rule are, which no policy's text sets.
+/// Matching by a rule for every protocol, whatever its ranges and flags are, which no policy's text sets.
 #[test]
 fn every_protocol(rt: HostRuntime) {
     let all = [rule(Action::Permit, 0, (7, 7), (7, 7), (1, 1))];
@@ -70,7 +73,7 @@ fn every_protocol(rt: HostRuntime) {
     }
 }
 
-/// The first of the rules that match decides.
+/// Matching by rules one after the other: the first that matches decides.
 #[test]
 fn first_of_several(rt: HostRuntime) {
     let rules = [

@@ -5,6 +5,7 @@ use acl_policy::{Action, PolicyFault, Rule, add_line, empty_draft, read_policy};
 use packet_view::{Family, Mac};
 use std::test::Fail;
 
+/// The text of a policy with a comment, blanks, an own address and rules of both directions.
 #[test]
 fn whole_policy(rt: HostRuntime) -> Result<(), Fail> {
     let text = b"# a host\n\n mac 02:00:00:0a:0B:ff # here\r\n\
@@ -34,7 +35,7 @@ fn whole_policy(rt: HostRuntime) -> Result<(), Fail> {
     Ok(())
 }
 
-/// Each section has an own address and rules of its own.
+/// A policy's text for two interfaces: each section has an own address and rules of its own.
 #[test]
 fn sections_of_two_interfaces(rt: HostRuntime) -> Result<(), Fail> {
     let text = b"mac 02:00:00:00:00:01\n\
@@ -58,14 +59,14 @@ fn sections_of_two_interfaces(rt: HostRuntime) -> Result<(), Fail> {
     Ok(())
 }
 
-/// A carriage return before no line feed, as no line of an input ends.
+/// A policy's text with a carriage return before no line feed, as no line of an input ends.
 #[test]
 fn carriage_return_at_the_end(rt: HostRuntime) {
     let policy = read_policy(rt.alloc(), b"in deny ipv4 any any\r");
     assert_eq!(rt; policy.err(), Some(PolicyFault::BadLine(1)));
 }
 
-/// Bits of addresses beyond their lengths, which no packet shows.
+/// Prefixes in a policy's text whose addresses have bits beyond their lengths, which no packet shows.
 #[test]
 fn bits_beyond_a_length(rt: HostRuntime) -> Result<(), Fail> {
     let text = b"in deny ipv4 255.255.255.255/0 any\n\
@@ -90,6 +91,7 @@ fn bits_beyond_a_length(rt: HostRuntime) -> Result<(), Fail> {
     Ok(())
 }
 
+/// A policy's draft keeps what the lines before one at fault said, and takes the lines after it.
 #[test]
 fn a_line_at_fault_leaves_the_policy(rt: HostRuntime) -> Result<(), Fail> {
     let mut draft = empty_draft(rt.alloc());
@@ -102,6 +104,7 @@ fn a_line_at_fault_leaves_the_policy(rt: HostRuntime) -> Result<(), Fail> {
     Ok(())
 }
 
+/// The message for each fault of reading a policy.
 #[test]
 fn texts_of_faults(rt: HostRuntime) -> Result<(), Fail> {
     let (memory, text) = (PolicyFault::Memory, PolicyFault::NotUtf8);

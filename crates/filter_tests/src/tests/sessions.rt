@@ -19,6 +19,7 @@ const PUSH: u8 = 8;
 
 const ACK: u8 = 16;
 
+// A packet between these ends by UDP, for tests of flow keys and sessions.
 fn udp(source: u32, from: u16, dest: u32, to: u16) -> Tuple {
     Tuple {
         interface: 0,
@@ -30,6 +31,7 @@ fn udp(source: u32, from: u16, dest: u32, to: u16) -> Tuple {
     }
 }
 
+// A packet between these ends by TCP, for tests of flow keys and sessions.
 fn tcp(source: u32, from: u16, dest: u32, to: u16, flags: u8) -> Tuple {
     Tuple {
         interface: 0,
@@ -41,6 +43,7 @@ fn tcp(source: u32, from: u16, dest: u32, to: u16, flags: u8) -> Tuple {
     }
 }
 
+// A packet of ICMP with this type and code 0, for tests of flow keys and sessions.
 fn icmp(source: u32, dest: u32, kind: u8) -> Tuple {
     Tuple {
         interface: 0,
@@ -52,6 +55,7 @@ fn icmp(source: u32, dest: u32, kind: u8) -> Tuple {
     }
 }
 
+// The flow of IPv4 that a test of sessions expects, by the words of its key.
 fn four(first: u64, last: u64, side: u8, starts: bool) -> Option<Flow> {
     Some(Flow {
         key: FlowKey::Four([first, last]),
@@ -60,6 +64,7 @@ fn four(first: u64, last: u64, side: u8, starts: bool) -> Option<Flow> {
     })
 }
 
+// A UDP packet whose decision on its session is tested.
 fn of_udp(moment: u32, side: u8, reflects: bool) -> PacketPatch
     requires { side < 2 }
 {
@@ -73,6 +78,7 @@ fn of_udp(moment: u32, side: u8, reflects: bool) -> PacketPatch
     }
 }
 
+// A TCP packet whose decision on its session is tested.
 fn of_tcp(moment: u32, side: u8, flags: u8, reflects: bool) -> PacketPatch
     requires { side < 2 }
 {
@@ -86,6 +92,7 @@ fn of_tcp(moment: u32, side: u8, flags: u8, reflects: bool) -> PacketPatch
     }
 }
 
+// The flow of IPv6 that a test of sessions expects, by its ends in one network and the last word of its key.
 fn six(first: u64, last: u64, ports: u64, starts: bool) -> Option<Flow> {
     // the network 2001:db8::
     let net = 0x2001_0db8_0000_0000;
@@ -96,6 +103,7 @@ fn six(first: u64, last: u64, ports: u64, starts: bool) -> Option<Flow> {
     })
 }
 
+/// Keys of sessions over IPv4: of a request by UDP, of its answer, and of a packet of TCP.
 #[test]
 fn keys_of_udp_and_tcp(rt: HostRuntime) {
     let key = 0x0a00_0001_0a00_0002;
@@ -107,7 +115,7 @@ fn keys_of_udp_and_tcp(rt: HostRuntime) {
     assert_eq!(rt; sent, four(key, 0x03e8_0050_0600_0000, 1, true));
 }
 
-// Of one address the lesser port stands first.
+// Keys of sessions: of one address the lesser port stands first.
 #[test]
 fn keys_of_one_address(rt: HostRuntime) {
     let both = 0x0a00_0001_0a00_0001;
@@ -119,6 +127,7 @@ fn keys_of_one_address(rt: HostRuntime) {
     assert_eq!(rt; reply, four(both, 0x0000_0000_0100_0000, 0, false));
 }
 
+/// Keys of sessions, and the senders' sides, of plain packets by UDP and TCP.
 #[test]
 fn flows_of_plain_packets(rt: HostRuntime) {
     let key = 0x0a00_0001_0a00_0002;
@@ -148,7 +157,7 @@ fn flows_of_plain_packets(rt: HostRuntime) {
     assert_eq!(rt; Some(sent), four(key, 0x03e8_0050_0600_0000, 1, true));
 }
 
-// The same flow at another interface has another key, and both its directions have that one.
+// Keys of sessions: a flow at another interface has another key, and both its directions have that one.
 #[test]
 fn interface_in_the_key(rt: HostRuntime) {
     let key = 0x0a00_0001_0a00_0002;
@@ -162,6 +171,7 @@ fn interface_in_the_key(rt: HostRuntime) {
     assert_eq!(rt; answered, four(key, 0x03e8_0035_1100_0002, 1, true));
 }
 
+/// Keys of sessions of ICMP: an echo reply has the key of its request, and starts no session.
 #[test]
 fn echo_both_ways(rt: HostRuntime) {
     let asked = four(0x0a00_0001_0a00_0002, 0x0000_0000_0100_0000, 0, true);
@@ -172,6 +182,7 @@ fn echo_both_ways(rt: HostRuntime) {
     assert_eq!(rt; orient(&icmp(NET + 2, NET + 1, 0)), replied);
 }
 
+/// Keys of sessions over IPv6: of a packet of UDP, and of an echo reply.
 #[test]
 fn keys_of_ipv6(rt: HostRuntime) {
     // 2001:db8::1 and 2001:db8::2
@@ -230,7 +241,7 @@ fn tcp_session(rt: HostRuntime) {
     assert_eq!(rt; first, Change::Set(0x0001_0002_0000_03e8));
 }
 
-/// Packets of UDP and of an echo: the last second, and seconds that go back and near their end.
+/// Sessions of UDP and of an echo: the last second, and seconds that go back and near their end.
 #[test]
 fn boundary_second(rt: HostRuntime) {
     for (moment, is_answer, reflects, found, change) in [
@@ -256,6 +267,7 @@ fn boundary_second(rt: HostRuntime) {
     }
 }
 
+/// The word of a session that is half open, the flags seen of its sides, and its last second.
 #[test]
 fn words_of_sessions(rt: HostRuntime) {
     let session = Session::new(1000, 1, SYN | PUSH, true);
@@ -275,6 +287,7 @@ fn words_of_sessions(rt: HostRuntime) {
     assert_eq!(rt; (session.timeout(&TIMES), ends), (120, (true, false)));
 }
 
+/// Stored words that stand for no session.
 #[test]
 fn words_of_no_session(rt: HostRuntime) {
     // A bit above the kind, and a flag that isn't kept on either side.

@@ -2,7 +2,7 @@
 ghost use Rattle.std.specs.Prelude.{◌≤◌, ◌+◌, length};
 
 use super::refused;
-use super::tables::{NAMES, answer, filter_of, request};
+use super::session_tables::{NAMES, answer, filter_of, request};
 use bihash_words::{ShapeV4, ShapeV6, flow_shapes_are_sound};
 use flow_workers::{
     Dealing, Filter, Gate, RunFault, Setup, Verdict, Workers, close_tables, create_tables,
@@ -26,6 +26,7 @@ struct Meeting {
 }
 
 impl Meeting {
+    // A gate for tests of workers, to which no packet came yet.
     fn new(in_turn: bool) -> Meeting {
         Meeting {
             first: AtomicBool::new(false),
@@ -35,6 +36,7 @@ impl Meeting {
         }
     }
 
+    // Holds a worker of a test at the gate until this flag is set, or for 100 million looks at it.
     fn wait_for(&self, flag: &AtomicBool) {
         for _ in 0..100_000_000u64 {
             if flag.load(Ordering::SeqCst) {
@@ -46,6 +48,7 @@ impl Meeting {
 }
 
 impl Gate for Meeting {
+    // Holds a worker of a test at the gate with its first packet, where it is to wait for the other worker.
     fn before(&self, worker: usize, packet: usize) {
         if worker == 0 && packet == 0 {
             self.first.store(true, Ordering::SeqCst);
@@ -57,6 +60,7 @@ impl Gate for Meeting {
         }
     }
 
+    // Lets worker 0 of a test go on once worker 1 judged its first packet, where they come in turn.
     fn after(&self, worker: usize, packet: usize) {
         if worker == 1 && packet == 1 && self.in_turn {
             self.second.store(true, Ordering::SeqCst);
@@ -71,7 +75,7 @@ struct Counts {
     after: AtomicU64,
 }
 
-// A one in the packet's byte.
+// A one in the packet's byte of what tests of workers count at the gate.
 fn one_of(packet: usize) -> u64 {
     match packet {
         0 => 0x1,
@@ -83,17 +87,20 @@ fn one_of(packet: usize) -> u64 {
 }
 
 impl Gate for Counts {
+    // Counts, in a test of workers, that the packet came to the gate.
     fn before(&self, worker: usize, packet: usize) {
         let _ = worker;
         self.before.fetch_add(one_of(packet), Ordering::SeqCst);
     }
 
+    // Counts, in a test of workers, that the packet left the gate.
     fn after(&self, worker: usize, packet: usize) {
         let _ = worker;
         self.after.fetch_add(one_of(packet), Ordering::SeqCst);
     }
 }
 
+// The verdicts of a test's workers, which run at once over new session tables.
 fn verdicts<'a, R: Threads + Wait + Sync, G: Gate + Sync>(
     rt: &R,
     alloc: Global,
@@ -124,8 +131,8 @@ fn verdicts<'a, R: Threads + Wait + Sync, G: Gate + Sync>(
 /// Pairs of a table of IPv4 flows.
 type Pairs = Vec<([u64; 2], u64)>;
 
-// The verdicts of two workers on two parts, one after the other; then the pairs of the table of IPv4 flows, and how many the
-// other one has.
+// The verdicts of a test's two workers on two parts, one after the other; then the pairs of the table of IPv4 flows,
+// and how many the other one has.
 fn verdicts_on_parts<R: Threads + Wait + Sync, G: Gate + Sync>(
     rt: &R,
     alloc: Global,
@@ -243,8 +250,8 @@ fn both_before(rt: HostRuntime) -> Result<(), Fail> {
     Ok(())
 }
 
-// A part's packets have the numbers after those of the part before, and sessions last from part to part. Both sessions stand
-// in the table at the end, with the second of their last packet; the lesser end is 10.0.0.1, whose port is 1000.
+// Workers that judge two parts: packets are numbered on, and sessions last from part to part. Both sessions stand in
+// the table at the end, with the second of their last packet; the lesser end is 10.0.0.1, whose port is 1000.
 #[test]
 fn packets_of_parts_are_numbered_on(rt: HostRuntime) -> Result<(), Fail> {
     let alloc = rt.alloc();

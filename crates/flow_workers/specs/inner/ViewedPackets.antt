@@ -7,9 +7,8 @@ use Rattle.acl_policy.specs.Policies.{PolicyFacts, section_of}
 use Rattle.bihash_words.specs.declared.patch.Reply.{Reply}
 use Rattle.bihash_words.specs.declared.shape.Shape.{Ghosts}
 use Rattle.bihash_rule.specs.declared.view.View.{View}
-use Rattle.bihash_table.specs.declared.contended.Contended.{Contended}
 use Rattle.flow_filter.specs.Filters.{section_in}
-use Rattle.flow_filter.specs.declared.filter.InterfaceFilter.{InterfaceFilter}
+use Rattle.flow_filter.specs.declared.interface_filters.InterfaceFilter.{InterfaceFilter}
 use Rattle.flow_filter.specs.declared.verdict.Verdict.{Verdict}
 use Rattle.flow_filter.specs.OneThread.{layout_of}
 use Rattle.flow_filter.specs.Readings.{IsSeenAt}
@@ -18,7 +17,6 @@ use Rattle.flow_workers.specs.declared.session_tables.Callers.{Callers}
 use Rattle.flow_workers.specs.declared.session_tables.Tables.{Tables}
 use Rattle.flow_workers.specs.declared.viewed_packet.ViewedPacket.{ViewedPacket}
 use Rattle.flow_workers.specs.Callers.{AreIdle, AreSame, views_of}
-use Rattle.flow_workers.specs.Judging.{TookByOneTry}
 use Rattle.flow_workers.specs.Verdicts.{HasNoVerdict, HasVerdict, ShowsOutOfPages}
 use Rattle.flow_workers.specs.inner.Wanted.{KeepWanted}
 
@@ -32,29 +30,18 @@ pub record IsViewedBy (policy : PolicyFacts) (filter : InterfaceFilter) (packet 
   pub section : section_in filter ≡ section_of packet.interface policy
   pub seen : IsViewed filter.own packet v
 
--- the verdict on each packet that was viewed so (`TellsVerdict` says it of one), by a call that took locks as
--- `took` says
-pub record TellsViewed {A B K L : Type 0} {ga : Ghosts A K} {gb : Ghosts B L} (took : View → View → Reply → Type 0)
+-- The verdict on each packet that was viewed so (`TellsVerdict` says it of one), by locks as `took` says. Lone callers
+-- are answered, and all of a packet without a flow.
+pub record TellsViewed {A B K L E : Type 0} {ga : Ghosts A K} {gb : Ghosts B L} (took : View → View → Reply → Type 0)
     (filter : InterfaceFilter) (packet : ViewedPacket) (tables : Tables A B K L) (old new : Callers A B K L ga gb)
-    (verdict : Verdict) : Type 0 where
-  pub same : AreSame ga gb old new
-  pub idle : AreIdle ga gb tables new
-  pub judged : (policy : PolicyFacts) (s : PacketFacts) → IsViewedBy policy filter s packet
-      → HasVerdict ga gb took filter.times policy s old new verdict
-  pub no_pages : (policy : PolicyFacts) (s : PacketFacts) → IsViewedBy policy filter s packet
-      → ShowsOutOfPages ga gb policy s new verdict
-  pub wanted : KeepWanted (layout_of ga gb) (views_of ga gb old) (views_of ga gb new)
-
--- one try (`TellsVerdictTry` says it of one packet)
-pub record TellsViewedTry {A B K L : Type 0} {ga : Ghosts A K} {gb : Ghosts B L} (filter : InterfaceFilter)
-    (packet : ViewedPacket) (tables : Tables A B K L) (old new : Callers A B K L ga gb) (r : Result Verdict Contended)
-    : Type 0 where
+    (r : Result Verdict E) : Type 0 where
   pub same : AreSame ga gb old new
   pub idle : AreIdle ga gb tables new
   pub judged : IfOk r (λ verdict. (policy : PolicyFacts) (s : PacketFacts) → IsViewedBy policy filter s packet
-      → HasVerdict ga gb TookByOneTry filter.times policy s old new verdict)
+      → HasVerdict ga gb took filter.times policy s old new verdict)
   pub no_pages : IfOk r (λ verdict. (policy : PolicyFacts) (s : PacketFacts) → IsViewedBy policy filter s packet
       → ShowsOutOfPages ga gb policy s new verdict)
+  pub wanted : IfOk r (λ _. KeepWanted (layout_of ga gb) (views_of ga gb old) (views_of ga gb new))
   pub refused : IfErr r (λ _. (policy : PolicyFacts) (s : PacketFacts) → IsViewedBy policy filter s packet
       → HasNoVerdict ga gb filter.times policy s old new)
   pub lone : old.four.seat.view.lone ≡ true → old.six.seat.view.lone ≡ true → is_ok r ≡ true

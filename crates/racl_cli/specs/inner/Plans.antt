@@ -7,7 +7,7 @@ use Rattle.racl_io.specs.declared.marker_line.Form.{Form}
 use Rattle.racl_io.specs.declared.marker_line.Form.TheVariants.{Binary}
 use Rattle.racl_io.specs.Inputs.{most_bytes}
 use Rattle.capture_stream.specs.declared.stream_judging.Opening.{Opening}
-use Rattle.racl_cli.specs.declared.judge_by_plan.Plan.{Plan}
+use Rattle.racl_cli.specs.declared.run_plan.Plan.{Plan}
 use Rattle.racl_cli.specs.Reads.{IsReached, MayJudge}
 use Rattle.racl_report.specs.ReadInputs.{HasPackets}
 use Rattle.racl_report.specs.RunReports.{JudgedFacts}

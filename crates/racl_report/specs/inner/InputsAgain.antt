@@ -3,8 +3,8 @@ use Rattle.std.specs.Prelude.{◌≡◌, ◌++◌, ℕ, List, Option}
 use Rattle.std.specs.Io.KnownBytes.{Appends}
 use Rattle.packet_view.specs.Captures.{PacketFacts}
 use Rattle.acl_policy.specs.Policies.{IsPolicyText, PolicyFacts, policy_facts}
-use Rattle.racl_io.specs.declared.whole_report.Captured.{Captured}
-use Rattle.racl_io.specs.declared.whole_report.Totals.{Totals}
+use Rattle.racl_io.specs.declared.report_totals.Captured.{Captured}
+use Rattle.racl_io.specs.declared.report_totals.Totals.{Totals}
 use Rattle.racl_io.specs.Inputs.{InputFacts, IsInput, NumberedFacts}
 use Rattle.racl_io.specs.Reports.{totals_of}
 use Rattle.racl_options.specs.declared.settings.Lines.{Lines}
@@ -12,7 +12,7 @@ use Rattle.racl_views.specs.CapturePackets.{HavePackets}
 use Rattle.racl_views.specs.RunEntries.{RunFacts}
 use Rattle.racl_views.specs.declared.capture_bytes.CaptureBytes.{CaptureBytes}
 use Rattle.racl_report.specs.RunReports.{AreLines}
-use Rattle.racl_report.specs.declared.captures_read_again.Again.{Again}
+use Rattle.racl_report.specs.declared.input_read_again.Again.{Again}
 use Rattle.racl_report.specs.inner.NumberedCaptures.{AreTakenFrom}
 
 -- an input that is right, gone over once more

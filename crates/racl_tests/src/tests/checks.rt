@@ -2,10 +2,9 @@
 use packet_view::Direction;
 use policy_check::{Complaint, Reason, Remark, check_policy, check_source, remarks_on, tell};
 use racl_io::Device;
-use racl_options::check_name;
 use std::test::Fail;
 
-// A policy whose lines 2, 4 and 5 are wrong.
+// For tests of checks: a policy whose lines 2, 4 and 5 are wrong.
 fn wrong_policy() -> &'static [u8] {
     b"in deny ipv4 any any\n\
     mac 02:00:00:00:00\n\
@@ -14,11 +13,12 @@ fn wrong_policy() -> &'static [u8] {
     mac 02:00:00:00:00:02"
 }
 
-// The line, the reason and the word of a complaint.
+// For tests of checks: the line, the reason and the word of a complaint.
 fn parts_of<'a>(complaint: &Complaint<'a>) -> (u64, Reason, &'a [u8]) {
     (complaint.line, complaint.reason, complaint.word)
 }
 
+/// Checks of a policy: what is complained of, and what is read all the same.
 #[test]
 fn wrong_lines_among_right_ones(rt: HostRuntime) -> Result<(), Fail> {
     const WANTED: [(u64, Reason, &[u8]); 3] = [
@@ -36,6 +36,7 @@ fn wrong_lines_among_right_ones(rt: HostRuntime) -> Result<(), Fail> {
     Ok(())
 }
 
+/// Checks of a policy: remarks on a section without an own address and on a shadowed rule.
 #[test]
 fn rule_behind_one_that_takes_its_packets(rt: HostRuntime) -> Result<(), Fail> {
     let text = b"interface 9\nout deny ipv4 any any\nout permit ipv4 any 10.0.0.1 tcp\n";
@@ -68,18 +69,4 @@ fn what_a_check_of_a_source_tells(rt: HostRuntime) -> Result<(), Fail> {
         b"line 1 ends too early\nno policy: wrong lines 1\n".as_slice()
     );
     Ok(())
-}
-
-#[test]
-fn words_name_a_policy_to_check(rt: HostRuntime) {
-    const CASES: [(&[&str], Option<Option<&str>>); 5] = [
-        (&["racl", "check", "p"], Some(Some("p"))),
-        (&["racl", "p", "check"], Some(None)),
-        (&["racl"], Some(None)),
-        (&["racl", "check"], None),
-        (&["racl", "check", "p", "q"], None),
-    ];
-    for (words, named) in CASES {
-        assert_eq!(rt; check_name(rt.alloc(), words).ok(), named);
-    }
 }

@@ -5,7 +5,7 @@ use flow_filter::Verdict;
 use racl_io::{Captured, Device, DeviceFault, Fault, Shown, Sink, write_report, write_shown};
 use std::test::Fail;
 
-// A line for each verdict.
+// For tests of reports: one with a line for each verdict.
 fn lines_of_verdicts() -> &'static [u8] {
     b"\
 1 pass session
@@ -24,6 +24,7 @@ packets 11 pass 4 drop 7
 "
 }
 
+/// Reports on a capture without a number, which ends within a record.
 #[test]
 fn a_line_for_each_verdict(rt: HostRuntime) -> Result<(), Fail> {
     const VERDICTS: [Verdict; 11] = [
@@ -52,7 +53,7 @@ fn a_line_for_each_verdict(rt: HostRuntime) -> Result<(), Fail> {
     Ok(())
 }
 
-// A part for each capture.
+// For tests of reports: one with a part for each capture.
 fn lines_of_captures() -> &'static [u8] {
     b"\
 1 if 0 pass rule 1 reflect
@@ -63,7 +64,7 @@ packets 3 pass 2 drop 1
 "
 }
 
-/// Captures of two interfaces, of which the first ends within a record.
+/// Reports on captures of two interfaces, of which the first ends within a record.
 #[test]
 fn a_part_for_each_capture(rt: HostRuntime) -> Result<(), Fail> {
     const VERDICTS: [Verdict; 3] = [Verdict::Reflect(1), Verdict::ByDefault, Verdict::Session];
@@ -86,7 +87,7 @@ fn a_part_for_each_capture(rt: HostRuntime) -> Result<(), Fail> {
     Ok(())
 }
 
-/// Packets have the numbers that they have among all, and the totals count all.
+/// Reports that leave out packets: the others keep the numbers that they have among all, and the totals count all.
 #[test]
 fn lines_of_some_packets(rt: HostRuntime) -> Result<(), Fail> {
     const VERDICTS: [Verdict; 3] = [Verdict::Session, Verdict::ByDefault, Verdict::NotIp];
@@ -151,6 +152,7 @@ impl Sink for Counted {
 
     ghost failures = { λ c. c.failures };
 
+    // For tests of reports: a write, which fails once the device has made its writes.
     fn write(&mut self, buf: &[u8]) -> Result<usize, DeviceFault> {
         if self.writes == 0 {
             self.failures += 1;
@@ -170,6 +172,7 @@ impl Sink for Counted {
     }
 }
 
+/// Reports that are written in several pieces, to a device that fails after some of them.
 #[test]
 fn pieces(rt: HostRuntime) -> Result<(), Fail> {
     let alloc = rt.alloc();

@@ -6,7 +6,7 @@ use session_state::Timeouts;
 mod live;
 mod transfers;
 
-// A whole input: a request, its answer, and an answer that nobody asked for.
+// For tests of runs: a whole input with a request, its answer, and an answer that nobody asked for.
 fn whole_input() -> &'static [u8] {
     b"\
 mac 02:00:00:00:00:01
@@ -28,7 +28,7 @@ d4c3b2a102000400000000000000000000000400 01000000
 "
 }
 
-// The report on it.
+// For tests of runs: the report on the whole input.
 fn whole_report() -> &'static [u8] {
     b"\
 1 pass rule 1 reflect

@@ -17,6 +17,7 @@ const THREE: &[u8] = b"\0\0\0\x66\0\0\0\x03\0\0\0\x03\0\0\0\x40cde";
 
 const CUT: &[u8] = b"\0\0\0\x67\0\0\0\x04\0\0\0\x03\0\0\0\x40cd";
 
+// For tests of saved packets: these parts of a capture, one behind the other.
 fn joined(alloc: Global, parts: [&'static [u8]; 5]) -> Result<Vec<u8>, AllocError> {
     let mut bytes = Vec::new(alloc);
     for part in parts {
@@ -25,6 +26,7 @@ fn joined(alloc: Global, parts: [&'static [u8]; 5]) -> Result<Vec<u8>, AllocErro
     Ok(bytes)
 }
 
+/// Saved packets: which records are chosen by their verdicts, and that a cut one is left out.
 #[test]
 fn chosen_records_behind_their_header(rt: HostRuntime) -> Result<(), Fail> {
     const VERDICTS: [Verdict; 3] = [Verdict::Reflect(1), Verdict::Deny(2), Verdict::NotIp];
@@ -65,6 +67,7 @@ const LONG: [u8; 16] = [0, 0, 0, 1, 0, 0, 0, 0, 0, 0, 0xea, 0x60, 0, 0, 0xea, 0x
 
 const LONGER: [u8; 16] = [0, 0, 0, 2, 0, 0, 0, 0, 0, 1, 0x11, 0x70, 0, 1, 0x11, 0x70];
 
+/// Saved packets: one that has more bytes than the room where they are gathered, between two that fit.
 #[test]
 fn records_longer_than_what_is_gathered(rt: HostRuntime) -> Result<(), Fail> {
     let mut bytes = Vec::from_slice(rt.alloc(), HEADER)?;

@@ -19,6 +19,7 @@ pub struct Counter {
 impl Judges for Counter {
     ghost became = { λ _ packets counter. length packets ≡ counter.count };
 
+    // For tests of windows: the packets of one are counted.
     fn judge(self, packets: Packets<'_>) -> Result<Counter, AllocError> {
         Ok(Counter {
             count: self.count + packets.count(),
@@ -38,6 +39,7 @@ impl Source for Zeros {
 
     ghost failures = { λ z. z.failures };
 
+    // For tests of windows: a read of zeros, which fails where none are left.
     fn read(&mut self, buf: &mut [u8]) -> Result<usize, DeviceFault> {
         if self.left == 0 {
             self.failures += 1;
@@ -56,7 +58,7 @@ const GROWING: WindowSize = WindowSize {
     most: 16_777_216,
 };
 
-/// Each window gets so many bytes.
+/// For tests of windows: each gets so many bytes.
 pub fn windows_of(bytes: usize) -> WindowSize
     ensures { IsSize result }
 {
@@ -67,7 +69,8 @@ pub fn windows_of(bytes: usize) -> WindowSize
     }
 }
 
-// What a source of so many zeros has left and how often it failed, and what was answered, after 54 bytes that were read.
+// For tests of windows: what a source of so many zeros has left and how often it failed, and what was answered, after
+// 54 bytes that were read.
 fn read_zeros<T: Threads>(rt: &T, alloc: Global, left: usize) -> (Zeros, Option<Fault>) {
     let mut reader = Zeros { left, failures: 0 };
     match count_behind(Some(rt), alloc, &[0; 54], &mut reader, GROWING) {
@@ -76,13 +79,13 @@ fn read_zeros<T: Threads>(rt: &T, alloc: Global, left: usize) -> (Zeros, Option<
     }
 }
 
-/// A record with a frame of so many bytes, of which four follow.
+/// For tests of windows: a record with a frame of so many bytes, of which four follow.
 pub fn record(kept: [u8; 4]) -> [u8; 20] {
     let [a, b, c, d] = kept;
     [7, 0, 0, 0, 0, 0, 0, 0, a, b, c, d, 4, 0, 0, 0, 1, 2, 3, 4]
 }
 
-// A capture of which this was read. `None`: memory was refused.
+// For tests of windows: a capture of which this was read. `None`: memory was refused.
 fn opened(alloc: Global, front: &[u8]) -> Option<Opening>
     requires long { 24 ≤ length front.now }
     requires few { length front.now ≤ most_bytes }
@@ -103,7 +106,7 @@ fn opened(alloc: Global, front: &[u8]) -> Option<Opening>
     })
 }
 
-/// What comes of a capture of which this was read, and the other bytes come from a source.
+/// For tests of windows: what comes of a capture of which this was read, and the other bytes come from a source.
 pub fn count_behind<T: Threads, R: Source + Send>(
     beside: Option<&T>,
     alloc: Global,
@@ -122,8 +125,8 @@ pub fn count_behind<T: Threads, R: Source + Send>(
     judge_stream(beside, alloc, reader, Counter { count: 0 }, opening, size)
 }
 
-// How many packets were judged, and whether the capture was cut. The first 54 bytes are read before all others, and then
-// windows of this size.
+// For tests of windows: how many packets were judged, and whether the capture was cut. The first 54 bytes are read
+// before all others, and then windows of this size.
 fn count_in<T: Threads>(
     beside: Option<&T>,
     alloc: Global,
@@ -142,11 +145,13 @@ fn count_in<T: Threads>(
     }
 }
 
+// For tests of windows: how many packets were judged in growing ones, and whether the capture was cut.
 fn count<T: Threads>(rt: &T, alloc: Global, capture: &[u8]) -> Result<(usize, bool), Fault> {
     count_in(Some(rt), alloc, capture, GROWING)
 }
 
-// Windows of so many bytes, each of which is read beside the one before, or after it.
+// For tests of windows: how many packets were judged in windows of so many bytes, each read beside the one before or
+// after it, and whether the capture was cut.
 fn count_small<T: Threads>(
     rt: &T,
     alloc: Global,
@@ -158,6 +163,7 @@ fn count_small<T: Threads>(
     count_in(beside, alloc, capture, windows_of(bytes))
 }
 
+// Windows: the second of the records lies in the opening and in the window behind it.
 #[test]
 fn a_record_is_read_in_two_parts(rt: HostRuntime) -> Result<(), Fail> {
     let alloc = rt.alloc();
@@ -176,6 +182,7 @@ fn a_record_is_read_in_two_parts(rt: HostRuntime) -> Result<(), Fail> {
     Ok(())
 }
 
+// Windows are read until an input would be too long.
 #[test]
 fn an_open_source_is_read_to_the_limit_and_no_further(rt: HostRuntime) {
     let most = MOST_BYTES + 1 - 54;
@@ -184,6 +191,7 @@ fn an_open_source_is_read_to_the_limit_and_no_further(rt: HostRuntime) {
     assert_eq!(rt; reader.left, 2 * MOST_BYTES - most);
 }
 
+// Windows are read until an input would be too long, or a read fails before that.
 #[test]
 fn a_source_that_fails_past_the_limit_is_too_large(rt: HostRuntime) {
     let most = MOST_BYTES + 1 - 54;

@@ -1,7 +1,7 @@
 //! Captures as digits, which are decoded while they are read.
 
 use crate::tests::windows::{count_behind, record, windows_of};
-use capture_stream::{HexDigits, are_digits};
+use capture_stream::HexDigits;
 use racl_io::{Fault, Source};
 use std::alloc::{AllocError, Global};
 use std::test::Fail;
@@ -10,7 +10,7 @@ use std::thread::Threads;
 // What a capture comes to: how many packets it has by its count and by those who judge, and whether it is cut.
 type Counted = Result<(usize, usize, bool), Fault>;
 
-// What the digits of a capture come to in windows of so many bytes.
+// For tests of windows of digits: what a capture comes to that is decoded in windows of so many bytes.
 fn count_digits<T: Threads>(
     beside: Option<&T>,
     alloc: Global,
@@ -28,7 +28,8 @@ fn count_digits<T: Threads>(
     }
 }
 
-// A blank stands behind the header's digits, and then behind those of so many bytes each.
+// For tests of windows of digits: the digits of a capture, with a blank behind those of the header, and then behind
+// those of so many bytes each.
 fn spelt(alloc: Global, capture: &[u8], bytes: usize, blank: u8) -> Result<Vec<u8>, AllocError> {
     let mut text = Vec::new(alloc);
     for (place, byte) in capture.iter().enumerate() {
@@ -48,7 +49,7 @@ fn spelt(alloc: Global, capture: &[u8], bytes: usize, blank: u8) -> Result<Vec<u
     Ok(text)
 }
 
-// Six whole records behind a header.
+// For tests of windows of digits: six whole records behind a header.
 fn six_records(alloc: Global) -> Result<Vec<u8>, AllocError> {
     let mut bytes = vec![in alloc; 0xa9u8; 24]?;
     for _ in 0..6 {
@@ -57,6 +58,7 @@ fn six_records(alloc: Global) -> Result<Vec<u8>, AllocError> {
     Ok(bytes)
 }
 
+/// Windows of digits: captures that are whole, are cut, or have a record that is too long.
 #[test]
 fn a_blank_stands_at_each_edge_of_a_window(rt: HostRuntime) -> Result<(), Fail> {
     let alloc = rt.alloc();
@@ -86,21 +88,4 @@ fn a_blank_stands_at_each_edge_of_a_window(rt: HostRuntime) -> Result<(), Fail> 
         }
     }
     Ok(())
-}
-
-#[test]
-fn digits_are_two_for_each_byte_and_blanks(rt: HostRuntime) {
-    for right in [b"".as_slice(), b" \t\r\n", b"d4", b"D 4c\n3", b"\n09aFAf"] {
-        assert!(rt; are_digits(right), "{right:?}");
-    }
-    for wrong in [
-        b"d".as_slice(),
-        b"d4 c",
-        b"d4 g3",
-        b"0x00",
-        b"d4c3:",
-        b"d4\x0bc3",
-    ] {
-        assert!(rt; !are_digits(wrong), "{wrong:?}");
-    }
 }

@@ -5,7 +5,7 @@ ghost use Rattle.rule_index.specs.Rows.{AreStarts, bit_in, HasTurns, IsPlace, Is
 use super::interval_starts::place;
 use crate::bit_rows::{accumulate, set_bit};
 
-/// Sets the bit of a rule where its range begins, and after its end.
+/// Sets the bit of a rule in the row of the interval in which its range begins, and in that after its end.
 fn mark(rows: &mut [u64], starts: &[u128], width: usize, rule: usize, range: (u128, u128))
     requires starts { AreStarts starts.now }
     requires rows { length rows.now ≡ length starts.now * width }
@@ -22,7 +22,7 @@ fn mark(rows: &mut [u64], starts: &[u128], width: usize, rule: usize, range: (u1
     }
 }
 
-/// Sets the bits at which each range turns, in rows without any.
+/// Sets the bits at which each range turns in the rows of intervals, which have none yet.
 fn mark_all(rows: &mut [u64], starts: &[u128], width: usize, ranges: &[(u128, u128)])
     requires starts { AreStarts starts.now }
     requires rows { length rows.now ≡ length starts.now * width }
@@ -36,7 +36,7 @@ fn mark_all(rows: &mut [u64], starts: &[u128], width: usize, ranges: &[(u128, u1
     }
 }
 
-/// Gives rows without any bit the bit of each range in each row that it may be in.
+/// Gives the row of each interval, which has no bit yet, the bit of each range that may have a number in it.
 pub fn fill(rows: &mut [u64], starts: &[u128], width: usize, ranges: &[(u128, u128)])
     requires starts { AreStarts starts.now }
     requires rows { length rows.now ≡ length starts.now * width }

@@ -36,7 +36,7 @@ pub fn starts_of(alloc: Global, ranges: &[(u128, u128)]) -> Result<Vec<u128>, Al
     distinct(alloc, &bounds)
 }
 
-/// 0, and then each number that is above all before it.
+/// The starts of intervals: 0, and then each number that is above all before it.
 fn distinct(alloc: Global, bounds: &[u128]) -> Result<Vec<u128>, AllocError>
     ensures { IfOk result (λ starts. AreStarts starts.items) }
 {

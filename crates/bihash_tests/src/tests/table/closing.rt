@@ -9,6 +9,7 @@ use std::test::Fail;
 // Eight pages, and 64 writes to a bucket.
 type Small = Tiny<8, 64>;
 
+// Closing: a table in which nothing was ever written.
 #[test]
 fn an_empty_table_closes_without_pairs(rt: HostRuntime) -> Result<(), Fail> {
     let Ok((table, caller)) = create::<Small>(rt.alloc()) else {
@@ -18,6 +19,7 @@ fn an_empty_table_closes_without_pairs(rt: HostRuntime) -> Result<(), Fail> {
     Ok(())
 }
 
+// Closing: the pairs of both buckets are sorted by their keys, whichever was written first.
 #[test]
 fn pairs_come_in_the_order_of_their_words(rt: HostRuntime) -> Result<(), Fail> {
     let Ok((table, mut caller)) = create::<Small>(rt.alloc()) else {
@@ -50,6 +52,7 @@ fn pairs_come_in_the_order_of_their_words(rt: HostRuntime) -> Result<(), Fail> {
     Ok(())
 }
 
+// Closing: refused while there is a second caller, and answered once that is joined.
 #[test]
 fn a_stranger_keeps_the_table_open(rt: HostRuntime) -> Result<(), Fail> {
     let Some((table, first, second)) = two_callers::<Small>(rt.alloc()) else {

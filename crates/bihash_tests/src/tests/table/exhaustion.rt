@@ -1,12 +1,13 @@
-//! Tables that run out of writes and pages, and a caller that is dropped with both of its locks.
-use super::Call::{Add, Remove, Search};
-use super::{Eight, Row, answer, drop_with_locks, first_wrong, refused, two_callers};
-use bihash_table::{Contended, create, stamp};
+//! Tables that run out of writes and pages.
+use super::Call::{Add, AddIfAbsent, Remove, Search, Touch};
+use super::{Eight, Row, block, fill, first_wrong, has, refused};
+use bihash_table::create;
 use bihash_words::Reply::{Changed, Kept, NoPages, Worn};
 use bihash_words::Tiny;
 use std::test::Fail;
 
-// The one page of a table goes and comes with its bucket's writes, and stays with the bucket whose writes are used up.
+// Exhaustion of pages and writes: the one page of a table goes and comes with its bucket's writes, and stays with the
+// bucket whose writes are used up.
 #[test]
 fn one_page_worn(rt: HostRuntime) -> Result<(), Fail> {
     let Ok((table, mut caller)) = create::<Tiny<1, 5>>(rt.alloc()) else {
@@ -25,7 +26,7 @@ fn one_page_worn(rt: HostRuntime) -> Result<(), Fail> {
     Ok(())
 }
 
-// A bucket whose writes are used up while it is empty leaves its page to the other.
+// Exhaustion of writes: a bucket whose writes are used up while it is empty leaves its page to the other.
 #[test]
 fn worn_then_page_free(rt: HostRuntime) -> Result<(), Fail> {
     let Ok((table, mut caller)) = create::<Tiny<1, 4>>(rt.alloc()) else {
@@ -43,17 +44,57 @@ fn worn_then_page_free(rt: HostRuntime) -> Result<(), Fail> {
     Ok(())
 }
 
-// A caller that is dropped with a bucket's lock and the allocation lock holds up whoever needs another block; searches of
-// other buckets are answered.
+// One caller of a table: a bucket whose writes are used up refuses changes alone, and the other one is written.
 #[test]
-fn dropped_pool_holder(rt: HostRuntime) -> Result<(), Fail> {
-    let Some((table, mut first, second)) = two_callers::<Eight>(rt.alloc()) else {
+fn worn(rt: HostRuntime) -> Result<(), Fail> {
+    let Ok((table, mut caller)) = create::<Tiny<8, 3>>(rt.alloc()) else {
         return refused();
     };
-    assert!(rt; drop_with_locks(&table, second, true));
-    assert_eq!(rt; answer(&table, &mut first, Add(3), &[1, 0]), Err(Contended));
-    assert_eq!(rt; stamp(&first), None);
-    const FOUND: [Row; 1] = [(Search, [1, 0], Kept(None), (1, 0))];
-    assert_eq!(rt; first_wrong(&table, &mut first, &FOUND), None);
+    const ROWS: [Row; 10] = [
+        (Add(7), [0, 0], Changed(None), (0, 1)),
+        (Add(8), [0, 0], Changed(Some(7)), (0, 2)),
+        (Touch(9), [0, 0], Changed(Some(8)), (0, 3)),
+        (Add(10), [0, 0], Worn(Some(9)), (0, 3)),
+        (Add(1), [2, 0], Worn(None), (0, 3)),
+        (Add(9), [0, 0], Kept(Some(9)), (0, 3)),
+        (AddIfAbsent(6), [0, 0], Kept(Some(9)), (0, 3)),
+        (Remove, [4, 0], Kept(None), (0, 3)),
+        (Search, [0, 0], Kept(Some(9)), (0, 3)),
+        (Add(5), [1, 0], Changed(None), (1, 1)),
+    ];
+    assert_eq!(rt; first_wrong(&table, &mut caller, &ROWS), None);
+    Ok(())
+}
+
+// One caller of a table: no larger block is to be had, but the page that a removed pair left is taken again.
+#[test]
+fn pages_used_up(rt: HostRuntime) -> Result<(), Fail> {
+    let Ok((table, mut caller)) = create::<Tiny<2, 1000>>(rt.alloc()) else {
+        return refused();
+    };
+    assert!(rt; fill(&table, &mut caller, &[0, 2, 4, 6, 1]));
+    assert_eq!(rt; block(&table, &mut caller, 1), (2, 0, false));
+    const REMOVED: [Row; 1] = [(Remove, [1, 0], Changed(Some(1)), (1, 2))];
+    assert_eq!(rt; first_wrong(&table, &mut caller, &REMOVED), None);
+    assert_eq!(rt; block(&table, &mut caller, 1), (0, 0, false));
+    const ROWS: [Row; 2] = [
+        (Add(8), [8, 0], NoPages { log2: 1, left: 0 }, (0, 4)),
+        (Add(9), [1, 0], Changed(None), (1, 3)),
+    ];
+    assert_eq!(rt; first_wrong(&table, &mut caller, &ROWS), None);
+    assert_eq!(rt; block(&table, &mut caller, 1), (2, 0, false));
+    Ok(())
+}
+
+// One caller of a table: a block of four pages is refused where three are left, and all pairs stay.
+#[test]
+fn no_pages_at_the_limit(rt: HostRuntime) -> Result<(), Fail> {
+    let Ok((table, mut caller)) = create::<Eight>(rt.alloc()) else {
+        return refused();
+    };
+    assert!(rt; fill(&table, &mut caller, &[0, 4, 8, 12, 16, 24]));
+    const REFUSED: [Row; 1] = [(Add(32), [32, 0], NoPages { log2: 2, left: 3 }, (0, 6))];
+    assert_eq!(rt; first_wrong(&table, &mut caller, &REFUSED), None);
+    assert!(rt; has(&table, &mut caller, &[0, 4, 8, 12, 16, 24]));
     Ok(())
 }

@@ -1,11 +1,35 @@
-//! The worked rows of one caller: blocks that grow, are full, go, and a bucket whose versions are used up.
-use super::Call::{Add, AddIfAbsent, Remove, Search, Touch};
-use super::{Eight, Row, block, fill, first_wrong, has, pages, refused};
-use bihash_table::create;
-use bihash_words::Reply::{Changed, Full, Kept, NoPages, Worn};
-use bihash_words::Tiny;
+//! The worked rows of one caller: blocks that grow, and are full.
+ghost use Rattle.std.specs.Prelude.{◌≡◌};
+ghost use Rattle.bihash_rule.specs.Views.{nothing_held};
+
+use super::Call::{Add, Remove, Search};
+use super::{Eight, Row, block, fill, first_wrong, has, refused};
+use bihash_steps::PoolWord;
+use bihash_table::{Caller, Sessions, create};
+use bihash_words::Reply::{Changed, Full, Kept};
+use bihash_words::{Shape, Tiny};
 use std::test::Fail;
 
+// For tests of one caller: how many returned pages there are, and how many pages were ever handed out. `None`: the
+// allocation lock is held.
+fn pages<S: Shape>(table: &Sessions<S>, caller: &mut Caller<S>) -> Option<(u64, u64)>
+    requires own { caller.old.seat.row ≡ table.now.row }
+    requires free { caller.old.seat.view.holds ≡ nothing_held }
+    ensures own { caller.new.seat.row ≡ table.now.row }
+    ensures free { caller.new.seat.view.holds ≡ nothing_held }
+{
+    let row = &table.row;
+    let seat = &mut caller.seat;
+    if !row.pool_lock(seat) {
+        return None;
+    }
+    let returned = row.pool_load(seat, PoolWord::Count(0));
+    let used = row.pool_load(seat, PoolWord::Used);
+    row.pool_unlock(seat);
+    Some((returned, used))
+}
+
+// One caller of a table: the block of a bucket grows from one page to two, and the old page is returned.
 #[test]
 fn first_split(rt: HostRuntime) -> Result<(), Fail> {
     let Ok((table, mut caller)) = create::<Eight>(rt.alloc()) else {
@@ -33,6 +57,7 @@ fn first_split(rt: HostRuntime) -> Result<(), Fail> {
     Ok(())
 }
 
+// One caller of a table: the block of a bucket grows from one page to four, since its keys don't fit two.
 #[test]
 fn second_split(rt: HostRuntime) -> Result<(), Fail> {
     let Ok((table, mut caller)) = create::<Eight>(rt.alloc()) else {
@@ -45,6 +70,8 @@ fn second_split(rt: HostRuntime) -> Result<(), Fail> {
     Ok(())
 }
 
+// One caller of a table: keys that all name one page get a linear block, where the others are found once one is
+// removed.
 #[test]
 fn linear(rt: HostRuntime) -> Result<(), Fail> {
     let Ok((table, mut caller)) = create::<Eight>(rt.alloc()) else {
@@ -62,6 +89,7 @@ fn linear(rt: HostRuntime) -> Result<(), Fail> {
     Ok(())
 }
 
+// One caller of a table: a bucket with as many pairs as it may have refuses one more, and keeps them.
 #[test]
 fn full(rt: HostRuntime) -> Result<(), Fail> {
     let Ok((table, mut caller)) = create::<Eight>(rt.alloc()) else {
@@ -80,6 +108,8 @@ fn full(rt: HostRuntime) -> Result<(), Fail> {
     Ok(())
 }
 
+// One caller of a table: a block of four pages is laid out anew as a linear one, in the last four pages that were never
+// used.
 #[test]
 fn linear_at_the_limit(rt: HostRuntime) -> Result<(), Fail> {
     let Ok((table, mut caller)) = create::<Tiny<9, 1000>>(rt.alloc()) else {
@@ -88,57 +118,5 @@ fn linear_at_the_limit(rt: HostRuntime) -> Result<(), Fail> {
     assert!(rt; fill(&table, &mut caller, &[0, 4, 8, 12, 16, 24, 32]));
     assert_eq!(rt; block(&table, &mut caller, 0), (6, 2, true));
     assert!(rt; has(&table, &mut caller, &[0, 4, 8, 12, 16, 24, 32]));
-    Ok(())
-}
-
-#[test]
-fn no_pages_at_the_limit(rt: HostRuntime) -> Result<(), Fail> {
-    let Ok((table, mut caller)) = create::<Eight>(rt.alloc()) else {
-        return refused();
-    };
-    assert!(rt; fill(&table, &mut caller, &[0, 4, 8, 12, 16, 24]));
-    const REFUSED: [Row; 1] = [(Add(32), [32, 0], NoPages { log2: 2, left: 3 }, (0, 6))];
-    assert_eq!(rt; first_wrong(&table, &mut caller, &REFUSED), None);
-    assert!(rt; has(&table, &mut caller, &[0, 4, 8, 12, 16, 24]));
-    Ok(())
-}
-
-#[test]
-fn pages_used_up(rt: HostRuntime) -> Result<(), Fail> {
-    let Ok((table, mut caller)) = create::<Tiny<2, 1000>>(rt.alloc()) else {
-        return refused();
-    };
-    assert!(rt; fill(&table, &mut caller, &[0, 2, 4, 6, 1]));
-    assert_eq!(rt; block(&table, &mut caller, 1), (2, 0, false));
-    const REMOVED: [Row; 1] = [(Remove, [1, 0], Changed(Some(1)), (1, 2))];
-    assert_eq!(rt; first_wrong(&table, &mut caller, &REMOVED), None);
-    assert_eq!(rt; block(&table, &mut caller, 1), (0, 0, false));
-    const ROWS: [Row; 2] = [
-        (Add(8), [8, 0], NoPages { log2: 1, left: 0 }, (0, 4)),
-        (Add(9), [1, 0], Changed(None), (1, 3)),
-    ];
-    assert_eq!(rt; first_wrong(&table, &mut caller, &ROWS), None);
-    assert_eq!(rt; block(&table, &mut caller, 1), (2, 0, false));
-    Ok(())
-}
-
-#[test]
-fn worn(rt: HostRuntime) -> Result<(), Fail> {
-    let Ok((table, mut caller)) = create::<Tiny<8, 3>>(rt.alloc()) else {
-        return refused();
-    };
-    const ROWS: [Row; 10] = [
-        (Add(7), [0, 0], Changed(None), (0, 1)),
-        (Add(8), [0, 0], Changed(Some(7)), (0, 2)),
-        (Touch(9), [0, 0], Changed(Some(8)), (0, 3)),
-        (Add(10), [0, 0], Worn(Some(9)), (0, 3)),
-        (Add(1), [2, 0], Worn(None), (0, 3)),
-        (Add(9), [0, 0], Kept(Some(9)), (0, 3)),
-        (AddIfAbsent(6), [0, 0], Kept(Some(9)), (0, 3)),
-        (Remove, [4, 0], Kept(None), (0, 3)),
-        (Search, [0, 0], Kept(Some(9)), (0, 3)),
-        (Add(5), [1, 0], Changed(None), (1, 1)),
-    ];
-    assert_eq!(rt; first_wrong(&table, &mut caller, &ROWS), None);
     Ok(())
 }

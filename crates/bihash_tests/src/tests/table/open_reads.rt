@@ -11,7 +11,7 @@ use bihash_words::{Change, Reply};
 use std::marker::Brand;
 use std::test::Fail;
 
-// Whether the page of key 0 in bucket 0 goes to key 1 in bucket 1.
+// For the test of an open read: whether the page of key 0 in bucket 0 goes to key 1 in bucket 1.
 fn gives_page_away(table: &Sessions<Eight>, caller: &mut Caller<Eight>) -> bool
     requires own { caller.old.seat.row ≡ table.now.row }
     requires free { caller.old.seat.view.holds ≡ nothing_held }
@@ -25,8 +25,8 @@ fn gives_page_away(table: &Sessions<Eight>, caller: &mut Caller<Eight>) -> bool
     first_wrong(table, caller, &ROWS).is_none() && block(table, caller, 1).0 == 1
 }
 
-// The second caller reads the key in page 1, which is bucket 0's, and the value when the first one gave the page away.
-// Whether that is refused as an answer. `None`: bucket 0 doesn't have the key in page 1, or the page stays where it is.
+// Whether an open read is refused that finds the key in page 1, and the value once the first caller gave the page away.
+// `None`: bucket 0 doesn't have the key in page 1, or the page stays where it is.
 fn refuses_moved_page(
     table: &Sessions<Eight>,
     first: &mut Caller<Eight>,
@@ -71,8 +71,8 @@ fn refuses_moved_page(
     Some(!row.validate::<Brand, Event<'_, Eight>>(seat, 0, word, &event) && seat.stamp().is_none())
 }
 
-// Bucket 0 has page 1. The second caller reads the key there, the first one removes the pair and adds one to
-// bucket 1, which takes page 1, and the second caller reads the value that is there then. It is no answer.
+// An open read: the second caller reads the key in page 1 of bucket 0, the first one removes the pair and adds one to
+// bucket 1, which takes that page, and the value that the second one reads there then is no answer.
 #[test]
 fn read_across_a_moved_page(rt: HostRuntime) -> Result<(), Fail> {
     let Some((table, mut first, mut second)) = two_callers::<Eight>(rt.alloc()) else {

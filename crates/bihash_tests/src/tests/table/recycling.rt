@@ -18,6 +18,7 @@ struct TwoAndFour;
 impl Expiry for TwoAndFour {
     ghost is_expired = { λ _ value. (value == 2) || (value == 4) };
 
+    // For tests of recycling: two of the values that fill the bucket are expired.
     fn expired(&self, value: u64) -> bool {
         value == 2 || value == 4
     }
@@ -29,12 +30,14 @@ struct Nothing;
 impl Expiry for Nothing {
     ghost is_expired = { λ _ _. false };
 
+    // For tests of recycling: no value is expired.
     fn expired(&self, _value: u64) -> bool {
         false
     }
 }
 
-// Enters 99 under the key of this number, in the place of an expired pair where there is no other.
+// For tests of recycling: enters 99 under the key of this number, in the place of an expired pair where there is no
+// other.
 fn enter<E: Expiry>(
     table: &Sessions<Eight>,
     caller: &mut Caller<Eight>,
@@ -52,6 +55,8 @@ fn enter<E: Expiry>(
 // The keys that fill bucket 0.
 const KEYS: [u32; 16] = [0, 2, 4, 6, 8, 10, 12, 14, 16, 18, 20, 22, 24, 26, 28, 30];
 
+// Recycling: the expired pair with the least key goes for a new one, and a full bucket in which none is expired
+// refuses.
 #[test]
 fn recycled_pair(rt: HostRuntime) -> Result<(), Fail> {
     let Ok((table, mut caller)) = create::<Eight>(rt.alloc()) else {
@@ -79,13 +84,14 @@ struct BelowHundred;
 impl Expiry for BelowHundred {
     ghost is_expired = { λ _ value. nat_lt value 100 };
 
+    // For the test of recycling by two threads: the values that the bucket is filled with are expired.
     fn expired(&self, value: u64) -> bool {
         value < 100
     }
 }
 
-// Each of two threads enters six keys in a bucket that is full of expired pairs: whatever their order, the twelve least
-// of these go, and nothing else does.
+// Recycling by two threads: each enters six keys in a bucket that is full of expired pairs. Whatever their order, the
+// twelve least of these go, and nothing else does.
 #[test]
 fn two_recyclers(rt: HostRuntime) -> Result<(), Fail> {
     let Some((table, mut first, second)) = two_callers::<Eight>(rt.alloc()) else {
@@ -103,7 +109,7 @@ fn two_recyclers(rt: HostRuntime) -> Result<(), Fail> {
     Ok(())
 }
 
-// Two callers at once, joined after their calls, and whether each key found room.
+// For the test of recycling by two threads: both callers, joined after their calls, and whether each key found room.
 fn recycle_both<R: Threads + Wait + Sync>(
     rt: &R,
     table: &Sessions<Eight>,
@@ -129,7 +135,8 @@ fn recycle_both<R: Threads + Wait + Sync>(
     (table.join(one.0, two.0), one.1 && two.1)
 }
 
-// The caller, and whether each of the six even keys from this one on found room. A key is its own value.
+// For the test of recycling by two threads: the caller, and whether each of the six even keys from this one on found
+// room. A key is its own value.
 fn recycle_six<R: Wait>(
     table: &Sessions<Eight>,
     rt: &R,

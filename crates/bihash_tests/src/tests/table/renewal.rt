@@ -3,14 +3,31 @@ ghost use Rattle.std.specs.Prelude.{◌≡◌, IfSome};
 ghost use Rattle.bihash_rule.specs.Views.{nothing_held};
 
 use super::Call::{Add, Search, Touch};
-use super::{Eight, Row, ends_with, first_wrong, refused, renew, two_callers};
+use super::{Eight, Row, ends_with, first_wrong, refused, two_callers};
 use bihash_table::{Caller, RenewFault, Sessions, create, stamp};
 use bihash_words::Reply::{Changed, Kept, Worn};
-use bihash_words::Tiny;
+use bihash_words::{Shape, Tiny};
 use std::alloc::Global;
 use std::test::Fail;
 
-// A bucket whose writes are used up takes writes again, and its pairs are there.
+// For tests of renewal: the table opened again, with its caller 1.
+fn renew<S: Shape>(
+    alloc: Global,
+    table: Sessions<S>,
+    caller: Caller<S>,
+) -> Option<(Sessions<S>, Caller<S>)>
+    requires own { caller.seat.row ≡ table.row }
+    requires free { caller.seat.view.holds ≡ nothing_held }
+    ensures own { IfSome result (λ r. r.1.seat.row ≡ r.0.row) }
+    ensures free { IfSome result (λ r. r.1.seat.view.holds ≡ nothing_held) }
+{
+    match table.renew(alloc, caller) {
+        Ok((table, caller)) => Some((table, caller)),
+        Err(_) => None,
+    }
+}
+
+// Renewal: a bucket whose writes are used up takes writes again, and its pairs are there.
 #[test]
 fn renewed_worn_table(rt: HostRuntime) -> Result<(), Fail> {
     let Ok((table, mut caller)) = create::<Tiny<8, 3>>(rt.alloc()) else {
@@ -44,7 +61,8 @@ fn renewed_worn_table(rt: HostRuntime) -> Result<(), Fail> {
     Ok(())
 }
 
-// The table, which can't be renewed while there is the second caller, and both callers joined. `None`: it was renewed.
+// For the test of a refused renewal: the table, which can't be renewed while there is the second caller, and both
+// callers joined. `None`: it was renewed.
 fn stays_worn(
     alloc: Global,
     table: Sessions<Eight>,
@@ -65,6 +83,7 @@ fn stays_worn(
     }
 }
 
+// Renewal: refused while there is a second caller, and made once that is joined.
 #[test]
 fn renew_strangers(rt: HostRuntime) -> Result<(), Fail> {
     let Some((table, mut first, second)) = two_callers::<Eight>(rt.alloc()) else {
@@ -82,7 +101,7 @@ fn renew_strangers(rt: HostRuntime) -> Result<(), Fail> {
     Ok(())
 }
 
-// As many callers as a table may have are joined, and the renewed table has as many numbers left.
+// Renewal: as many callers as a table may have are joined, and the renewed table has as many numbers left.
 #[test]
 fn renew_after_many_callers(rt: HostRuntime) -> Result<(), Fail> {
     let Ok((table, mut caller)) = create::<Eight>(rt.alloc()) else {

@@ -1,12 +1,14 @@
 //! The worked rows of several callers.
 use super::Call::{Add, Remove, Search, Touch};
 use super::{
-    Eight, Row, answer, drop_with_locks, ends_with, first_wrong, refused, stays_open, two_callers,
+    Call, Eight, Row, answer, drop_with_locks, ends_with, first_wrong, refused, stays_open,
+    two_callers,
 };
 use bihash_table::{CloseFault, Contended, SplitFault, create, stamp};
 use bihash_words::Reply::{Changed, Kept};
 use std::test::Fail;
 
+// Several callers: each finds what the other one wrote.
 #[test]
 fn two_callers_without_a_meeting(rt: HostRuntime) -> Result<(), Fail> {
     let Some((table, mut first, mut second)) = two_callers::<Eight>(rt.alloc()) else {
@@ -27,7 +29,7 @@ fn two_callers_without_a_meeting(rt: HostRuntime) -> Result<(), Fail> {
     Ok(())
 }
 
-// As many splits as a table may have succeed at once, each after the other, and no further one.
+// Several callers: as many splits as a table may have succeed at once, each after the other, and no further one.
 #[test]
 fn all_callers_split(rt: HostRuntime) -> Result<(), Fail> {
     let Ok((table, mut caller)) = create::<Eight>(rt.alloc()) else {
@@ -46,6 +48,7 @@ fn all_callers_split(rt: HostRuntime) -> Result<(), Fail> {
     Ok(())
 }
 
+// Several callers: one is lone, and may end the table, once the other is joined into it.
 #[test]
 fn close(rt: HostRuntime) -> Result<(), Fail> {
     let Some((table, mut first, second)) = two_callers::<Eight>(rt.alloc()) else {
@@ -62,7 +65,7 @@ fn close(rt: HostRuntime) -> Result<(), Fail> {
     Ok(())
 }
 
-// A caller that has a bucket's lock and is dropped holds up that bucket alone.
+// Several callers: one that has a bucket's lock and is dropped holds up that bucket alone.
 #[test]
 fn dropped_lock_holder(rt: HostRuntime) -> Result<(), Fail> {
     let Some((table, mut first, second)) = two_callers::<Eight>(rt.alloc()) else {
@@ -78,5 +81,45 @@ fn dropped_lock_holder(rt: HostRuntime) -> Result<(), Fail> {
         return Err("the table was closed under a stranger")?;
     };
     assert_eq!(rt; fault, CloseFault::Strangers);
+    Ok(())
+}
+
+// Several callers: one that has both locks and is dropped holds up who needs a block, but no search of other buckets.
+#[test]
+fn dropped_pool_holder(rt: HostRuntime) -> Result<(), Fail> {
+    let Some((table, mut first, second)) = two_callers::<Eight>(rt.alloc()) else {
+        return refused();
+    };
+    assert!(rt; drop_with_locks(&table, second, true));
+    assert_eq!(rt; answer(&table, &mut first, Add(3), &[1, 0]), Err(Contended));
+    assert_eq!(rt; stamp(&first), None);
+    const FOUND: [Row; 1] = [(Search, [1, 0], Kept(None), (1, 0))];
+    assert_eq!(rt; first_wrong(&table, &mut first, &FOUND), None);
+    Ok(())
+}
+
+// Several callers: two that met keep their stamps and numbers, and each finds what the other one wrote.
+#[test]
+fn callers_that_met_keep_their_stamps(rt: HostRuntime) -> Result<(), Fail> {
+    let Some((table, mut first, mut second)) = two_callers::<Eight>(rt.alloc()) else {
+        return refused();
+    };
+    const BY_FIRST: [Row; 1] = [(Call::Add(7), [0, 0], Changed(None), (0, 1))];
+    assert_eq!(rt; first_wrong(&table, &mut first, &BY_FIRST), None);
+    const BY_SECOND: [Row; 2] = [
+        (Call::Add(9), [1, 0], Changed(None), (1, 1)),
+        (Call::Add(8), [1, 0], Changed(Some(9)), (1, 2)),
+    ];
+    assert_eq!(rt; first_wrong(&table, &mut second, &BY_SECOND), None);
+    let (mut first, mut second) = table.meet(first, second);
+    assert_eq!(rt;
+        (stamp(&first), stamp(&second)),
+        (Some((0, 1)), Some((1, 2)))
+    );
+    assert_eq!(rt; (first.seat.numbers(), second.seat.numbers()), (1, 1));
+    const FOUND_BY_FIRST: [Row; 1] = [(Call::Search, [1, 0], Kept(Some(8)), (1, 2))];
+    assert_eq!(rt; first_wrong(&table, &mut first, &FOUND_BY_FIRST), None);
+    const FOUND_BY_SECOND: [Row; 1] = [(Call::Search, [0, 0], Kept(Some(7)), (0, 1))];
+    assert_eq!(rt; first_wrong(&table, &mut second, &FOUND_BY_SECOND), None);
     Ok(())
 }

@@ -36,7 +36,7 @@ fn two_writers(rt: HostRuntime) -> Result<(), Fail> {
     Ok(())
 }
 
-// Two callers at once, joined after their writes, and whether each write changed the table.
+// For a test of two threads: two callers, joined after their writes, and whether each write changed the table.
 fn write_both<R: Threads + Wait + Sync>(
     rt: &R,
     table: &Sessions<Deep>,
@@ -62,7 +62,7 @@ fn write_both<R: Threads + Wait + Sync>(
     (table.join(one.0, two.0), one.1 && two.1)
 }
 
-// The caller, and whether each of a thousand writes changed the table.
+// For a test of two threads: the caller, and whether each of a thousand writes changed the table.
 fn write_thousand<R: Wait>(
     table: &Sessions<Deep>,
     rt: &R,
@@ -91,7 +91,8 @@ struct KeepsLate {
 }
 
 impl KeepsLate {
-    // Turns until this flag is raised, or for so long that the other thread can't be running.
+    // For a test of two threads: turns until this flag is raised, or for so long that the other thread can't be
+    // running.
     fn wait_for(&self, flag: &AtomicBool) {
         for _ in 0..100_000_000u64 {
             if flag.load(Ordering::SeqCst) {
@@ -105,6 +106,7 @@ impl KeepsLate {
 impl Patch for KeepsLate {
     ghost decision = { λ patch old. Keep };
 
+    // For a test of two threads: tells the other one that it decides, and keeps what it found once that one passed.
     fn decide(&self, _old: Option<u64>) -> Change {
         self.entered.store(true, Ordering::SeqCst);
         self.wait_for(&self.passed);
@@ -112,7 +114,8 @@ impl Patch for KeepsLate {
     }
 }
 
-// While an update decides to keep what it found, a search of the same key is answered: neither has a lock.
+// While one thread decides to keep what its update found, the search of another for the same key is answered: neither
+// has a lock.
 #[test]
 fn kept_beside_read(rt: HostRuntime) -> Result<(), Fail> {
     let Some((table, mut first, second)) = two_callers::<Eight>(rt.alloc()) else {
@@ -158,7 +161,7 @@ fn keep_and_search<R: Threads + Sync>(
 // How often each thread goes round in the test below.
 const ROUNDS: u32 = 10_000;
 
-// The only page of a table goes from bucket to bucket while a third caller searches both.
+// Three threads: the only page of a table goes from bucket to bucket while a third caller searches both.
 #[test]
 fn page_given_away_under_readers(rt: HostRuntime) -> Result<(), Fail> {
     let Some((table, first, second)) = two_callers::<OnePage>(rt.alloc()) else {
@@ -175,7 +178,8 @@ fn page_given_away_under_readers(rt: HostRuntime) -> Result<(), Fail> {
     Ok(())
 }
 
-// Two writers and a reader at once, joined after their rounds, and whether each met what is lawful.
+// For a test of three threads: two writers and a reader, joined after their rounds, and whether each met what is
+// lawful.
 fn write_and_read<R: Threads + Wait + Sync>(
     rt: &R,
     table: &Sessions<OnePage>,
@@ -205,7 +209,7 @@ fn write_and_read<R: Threads + Wait + Sync>(
     (table.join(written.0, read.0), written.1 && read.1)
 }
 
-// Two writers at once: one of the key 0, and one of the key 1.
+// For a test of three threads: two writers at once, one of the key 0, and one of the key 1.
 fn write_in_turn<R: Threads + Wait + Sync>(
     rt: &R,
     table: &Sessions<OnePage>,
@@ -231,7 +235,8 @@ fn write_in_turn<R: Threads + Wait + Sync>(
     (table.join(one.0, two.0), one.1 && two.1)
 }
 
-// The caller, and whether each round added the key's only pair, or found no page, and removed what it added.
+// For a test of three threads: the caller, and whether each round added the key's only pair, or found no page, and
+// removed what it added.
 fn add_and_remove<R: Wait>(
     table: &Sessions<OnePage>,
     rt: &R,
@@ -258,7 +263,7 @@ fn add_and_remove<R: Wait>(
     (caller, as_written)
 }
 
-// The caller, and whether each search of a key found its one value or none.
+// For a test of three threads: the caller, and whether each search of a key found its one value or none.
 fn read_both<R: Wait>(
     table: &Sessions<OnePage>,
     rt: &R,

@@ -1,15 +1,15 @@
-//! Calls that wait for their turn, and callers that meet. What they answer is worked out by hand.
+//! Calls that wait for their turn. What they answer is worked out by hand.
 ghost use Rattle.std.specs.Prelude.{◌≡◌};
 ghost use Rattle.bihash_rule.specs.Views.{nothing_held};
 
-use super::{Call, Eight, Row, first_wrong, refused, two_callers};
+use super::{Call, Eight, Row, refused};
 use bihash_table::{Caller, Sessions, create, stamp};
 use bihash_words::Reply::{Changed, Kept};
 use bihash_words::{Add, AddIfAbsent, Delete, Reply, Touch};
 use std::sync::Wait;
 use std::test::Fail;
 
-// What a call answers that waits for its turn.
+// For tests of waiting: what a call answers that waits for its turn.
 fn named<R: Wait>(
     rt: &R,
     table: &Sessions<Eight>,
@@ -31,7 +31,8 @@ fn named<R: Wait>(
     }
 }
 
-// The same, made as an update by its patch, where it isn't a search.
+// For tests of waiting: what a call answers that waits for its turn, made as an update by its patch, where it isn't a
+// search.
 fn patched<R: Wait>(
     rt: &R,
     table: &Sessions<Eight>,
@@ -62,7 +63,8 @@ fn patched<R: Wait>(
     }
 }
 
-// The number of the first row whose call is answered otherwise when it waits, by its name or as an update, if one is.
+// For tests of waiting: the number of the first row whose call is answered otherwise when it waits, by its name or as
+// an update, if one is.
 fn first_wrong_waiting<R: Wait>(
     rt: &R,
     table: &Sessions<Eight>,
@@ -88,6 +90,7 @@ fn first_wrong_waiting<R: Wait>(
     None
 }
 
+// Waiting: each of the four fixed updates, and a search, called by its name.
 #[test]
 fn fixed_calls(rt: HostRuntime) -> Result<(), Fail> {
     let Ok((table, mut caller)) = create::<Eight>(rt.alloc()) else {
@@ -113,6 +116,7 @@ fn fixed_calls(rt: HostRuntime) -> Result<(), Fail> {
     Ok(())
 }
 
+// Waiting: updates that are given one of the four fixed decisions, and a search.
 #[test]
 fn updates_by_each_fixed_patch(rt: HostRuntime) -> Result<(), Fail> {
     let Ok((table, mut caller)) = create::<Eight>(rt.alloc()) else {
@@ -134,30 +138,5 @@ fn updates_by_each_fixed_patch(rt: HostRuntime) -> Result<(), Fail> {
         first_wrong_waiting(&rt, &table, &mut caller, false, &ROWS),
         None
     );
-    Ok(())
-}
-
-#[test]
-fn callers_that_met_keep_their_stamps(rt: HostRuntime) -> Result<(), Fail> {
-    let Some((table, mut first, mut second)) = two_callers::<Eight>(rt.alloc()) else {
-        return refused();
-    };
-    const BY_FIRST: [Row; 1] = [(Call::Add(7), [0, 0], Changed(None), (0, 1))];
-    assert_eq!(rt; first_wrong(&table, &mut first, &BY_FIRST), None);
-    const BY_SECOND: [Row; 2] = [
-        (Call::Add(9), [1, 0], Changed(None), (1, 1)),
-        (Call::Add(8), [1, 0], Changed(Some(9)), (1, 2)),
-    ];
-    assert_eq!(rt; first_wrong(&table, &mut second, &BY_SECOND), None);
-    let (mut first, mut second) = table.meet(first, second);
-    assert_eq!(rt;
-        (stamp(&first), stamp(&second)),
-        (Some((0, 1)), Some((1, 2)))
-    );
-    assert_eq!(rt; (first.seat.numbers(), second.seat.numbers()), (1, 1));
-    const FOUND_BY_FIRST: [Row; 1] = [(Call::Search, [1, 0], Kept(Some(8)), (1, 2))];
-    assert_eq!(rt; first_wrong(&table, &mut first, &FOUND_BY_FIRST), None);
-    const FOUND_BY_SECOND: [Row; 1] = [(Call::Search, [0, 0], Kept(Some(7)), (0, 1))];
-    assert_eq!(rt; first_wrong(&table, &mut second, &FOUND_BY_SECOND), None);
     Ok(())
 }

@@ -1,5 +1,5 @@
 -- The packet is the one that was viewed, and the filter at hand is that of the call.
-use Rattle.std.proofs.Common.{subst}
+use Rattle.std.proofs.Common.{refl, subst}
 use Rattle.packet_view.specs.Captures.{packet_facts}
 use Rattle.packet_view.specs.Frames.{frame_facts}
 use Rattle.acl_policy.specs.Policies.{policy_facts}
@@ -16,12 +16,12 @@ judge_as-requires-clause-ruling g c =
 
 pub returns : goal.returns
 returns g c =
-    let tells = c.judge_as.ensures in
+    let tells = c.in-Ok.ensures in
     let seen = c.new-packet.ensures.seen _ c.view-frame.ensures.shown in
     let packet = packet_facts c.args.packet.now in
     let old = c.args.callers.now in
     let new = c.judge_as.new.callers in
-    let verdict = c.judge_as.result in
+    let verdict = c.in-Ok.verdict in
     let policy = policy_facts c.args.filter.now.policy in
     let by : IsViewedBy policy c.ready-filter.result packet c.new-packet.result =
     record { section = c.ready-filter.ensures.section; seen = seen } in
@@ -31,4 +31,7 @@ returns g c =
       judged = subst (λ times. HasVerdict g.A.Shape g.B.Shape TookByTries times policy packet old new verdict)
           c.ready-filter.ensures.times (tells.judged policy packet by);
       no_pages = tells.no_pages policy packet by;
+      refused = tt;
+      lone = λ four six. refl;
+      settled = λ none. refl;
     }

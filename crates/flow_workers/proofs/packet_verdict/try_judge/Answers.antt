@@ -13,14 +13,14 @@ use Rattle.flow_workers.proofs.AnsweredUpdates.{if_err, if_ok}
 use Rattle.flow_workers.proofs.JudgedPackets.{is_ruling}
 use Rattle.flow_workers.proofs.packet_verdict.try_judge.Goals as goal
 
-pub try_judge_as-requires-clause-ruling : goal.try_judge_as-requires-clause-ruling
-try_judge_as-requires-clause-ruling g c =
+pub judge_as-requires-clause-ruling : goal.judge_as-requires-clause-ruling
+judge_as-requires-clause-ruling g c =
     is_ruling (section_in c.ready-filter.result) (frame_facts c.new-packet.result.frame.now)
 
 pub returns : goal.returns
 returns g c =
-    let tells = c.try_judge_as.ensures in
-    let new = c.try_judge_as.new.callers in
+    let tells = c.judge_as.ensures in
+    let new = c.judge_as.new.callers in
     let seen = c.new-packet.ensures.seen _ c.view-frame.ensures.shown in
     let packet = packet_facts c.args.packet.now in
     let old = c.args.callers.now in
@@ -30,12 +30,12 @@ returns g c =
     record {
       same = tells.same;
       idle = tells.idle;
-      judged = if_ok _ _ c.try_judge_as.result
+      judged = if_ok _ _ c.judge_as.result
           (λ verdict judged. subst
           (λ times. HasVerdict g.A.Shape g.B.Shape TookByOneTry times policy packet old new verdict)
           c.ready-filter.ensures.times (judged policy packet by)) tells.judged;
-      no_pages = if_ok _ _ c.try_judge_as.result (λ verdict short. short policy packet by) tells.no_pages;
-      refused = if_err _ _ c.try_judge_as.result
+      no_pages = if_ok _ _ c.judge_as.result (λ verdict short. short policy packet by) tells.no_pages;
+      refused = if_err _ _ c.judge_as.result
           (λ contended refused. subst (λ times. HasNoVerdict g.A.Shape g.B.Shape times policy packet old new)
           c.ready-filter.ensures.times (refused policy packet by)) tells.refused;
       lone = tells.lone;

@@ -6,8 +6,8 @@ use Rattle.flow_filter.specs.Liveness.{packet_at}
 use Rattle.flow_workers.proofs.JudgedPackets.{ruling_on}
 use Rattle.flow_workers.proofs.packet_verdict.try_judge.Given as goal
 
-abbrev pub ghosts-try_judge_as : goal.ghosts-try_judge_as
-ghosts-try_judge_as g a = record {
+abbrev pub ghosts-judge_as : goal.ghosts-judge_as
+ghosts-judge_as g a = record {
   ruling = ruling_on (section_in a.filter.now) (frame_facts a.packet.now.frame.now);
   is_live = is_live_for (packet_at a.filter.now.times a.packet.now.moment);
 }

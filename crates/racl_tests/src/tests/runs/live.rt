@@ -49,6 +49,7 @@ const CUTS: [(usize, &str, &str); 6] = [
     ),
 ];
 
+/// Live runs on a capture of which a read fails, or which ends, within a record or behind one.
 #[test]
 fn lines_are_written_as_soon_as_their_records_are_there(rt: HostRuntime) -> Result<(), Fail> {
     let alloc = rt.alloc();

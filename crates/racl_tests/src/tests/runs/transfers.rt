@@ -18,6 +18,7 @@ impl Source for Drip<'_> {
 
     ghost failures = { λ d. d.failures };
 
+    // For tests of transfers: a read of one byte, or a failing one.
     fn read(&mut self, buf: &mut [u8]) -> Result<usize, DeviceFault> {
         if self.reads == 0 {
             self.failures += 1;
@@ -45,6 +46,7 @@ impl Sink for Trickle {
 
     ghost failures = { λ t. t.failures };
 
+    // For tests of transfers: a write of one byte, or a failing one.
     fn write(&mut self, buf: &[u8]) -> Result<usize, DeviceFault> {
         let Some(first) = buf.first() else {
             self.failures += 1;
@@ -71,13 +73,14 @@ impl Sink for Stopped {
 
     ghost failures = { λ s. s.failures };
 
+    // For tests of transfers: a write that takes no byte.
     fn write(&mut self, _buf: &[u8]) -> Result<usize, DeviceFault> {
         self.failures += 1;
         Ok(0)
     }
 }
 
-/// One that makes so many writes.
+/// For tests of transfers: a device that takes one byte a write, and makes so many writes.
 pub fn trickling(alloc: Global, writes: usize) -> Trickle
     ensures { result.failures ≡ 0 }
 {
@@ -88,6 +91,7 @@ pub fn trickling(alloc: Global, writes: usize) -> Trickle
     }
 }
 
+/// A run whose transfers are neither slow nor failing.
 #[test]
 fn first_path(rt: HostRuntime) {
     let alloc = rt.alloc();
@@ -105,6 +109,7 @@ fn first_path(rt: HostRuntime) {
     assert_eq!(rt; writer.inner.as_slice(), whole_report());
 }
 
+/// A run with slow transfers: a read and a write for each byte.
 #[test]
 fn one_byte_at_a_time(rt: HostRuntime) {
     let alloc = rt.alloc();
@@ -119,6 +124,7 @@ fn one_byte_at_a_time(rt: HostRuntime) {
     assert_eq!(rt; writer.taken.as_slice(), whole_report());
 }
 
+/// Transfers of runs: wherever a read fails, nothing is written.
 #[test]
 fn failing_reads(rt: HostRuntime) {
     let alloc = rt.alloc();
@@ -137,6 +143,7 @@ fn failing_reads(rt: HostRuntime) {
     }
 }
 
+/// Transfers of runs: wherever a write fails, the report was written up to there.
 #[test]
 fn failing_writes(rt: HostRuntime) {
     let alloc = rt.alloc();
@@ -151,6 +158,7 @@ fn failing_writes(rt: HostRuntime) {
     }
 }
 
+/// Transfers of runs: a device that takes no byte of the report.
 #[test]
 fn a_write_of_nothing_is_a_failed_one(rt: HostRuntime) {
     let mut reader = Device::new(whole_input());

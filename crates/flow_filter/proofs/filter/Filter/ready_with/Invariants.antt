@@ -2,7 +2,7 @@ use Rattle.std.proofs.Common.{◌≡◌, ◌<◌, ℕ, length}
 use Rattle.std.specs.Prelude.{slice_index_or}
 use Rattle.acl_policy.specs.Policies.{policy_facts}
 use Rattle.flow_filter.specs.InterfaceFilters.{IsReadyAt}
-use Rattle.flow_filter.specs.declared.filter.InterfaceFilter.{InterfaceFilter}
+use Rattle.flow_filter.specs.declared.interface_filters.InterfaceFilter.{InterfaceFilter}
 use Rattle.flow_filter.proofs.filter.Filter.ready_with.Given as goal
 
 -- the filters of the interfaces so far are at their places

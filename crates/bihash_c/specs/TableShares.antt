@@ -1,0 +1,10 @@
+-- Which table a hold of a table is of.
+use Rattle.atomic_table.specs.Seated.{TableId}
+use Rattle.std.specs.Arc.{arc_value}
+use Rattle.bihash_c.specs.declared.table_share.TableShare.{TableShare}
+use Rattle.bihash_c.specs.declared.table_share.TableShare.TheVariants.{Own, Shared}
+
+-- the row of the table
+abbrev pub row_of : {A K : Type 0} → TableShare A K → TableId
+row_of (Own sessions) = sessions.row
+row_of (Shared sessions) = (arc_value sessions).row

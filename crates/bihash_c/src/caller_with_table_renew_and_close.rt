@@ -1,0 +1,65 @@
+//! The ends of a table: its pairs, or a table of its own that begins with them.
+ghost use Rattle.std.specs.Prelude.{IfOk, IfErr};
+ghost use Rattle.bihash_words.specs.Sizes.{sizes_of};
+ghost use Rattle.bihash_c.specs.CallersWithTable.{IsCloseTold, IsClosed, IsRenewTold, IsRenewedFrom};
+
+use crate::caller_with_table::CallerWithTable;
+use crate::table_share::TableShare;
+use bihash_table::{CloseFault, RenewFault};
+use bihash_words::Shape;
+use std::alloc::Global;
+
+impl<S: Shape> CallerWithTable<S> {
+    /// Ends a caller with its table, and gives the table's pairs, sorted by the words of their keys.
+    pub fn close(
+        self,
+        alloc: Global,
+    ) -> Result<Vec<(S::Key, u64)>, (CloseFault, CallerWithTable<S>)>
+        ensures closed { IfOk result (λ ps. IsClosed ⟦<S as Shape>⟧ self.view ps.items) }
+        ensures refused { IfErr result (λ r. IsCloseTold (sizes_of S.Shape) self r.0 r.1) }
+    {
+        let CallerWithTable { share, caller } = self;
+        let sessions = match share.into_own() {
+            Ok(sessions) => sessions,
+            Err(share) => return Err((CloseFault::Strangers, CallerWithTable { share, caller })),
+        };
+        match sessions.close(alloc, caller) {
+            Ok(pairs) => Ok(pairs),
+            Err((fault, sessions, caller)) => Err((
+                fault,
+                CallerWithTable {
+                    share: TableShare::Own(sessions),
+                    caller,
+                },
+            )),
+        }
+    }
+
+    /// Ends a caller with its table, and gives caller 1 of a table of its own that begins with the pairs.
+    pub fn renew(
+        self,
+        alloc: Global,
+    ) -> Result<CallerWithTable<S>, (RenewFault, CallerWithTable<S>)>
+        ensures renewed { IfOk result (λ r. IsRenewedFrom (sizes_of S.Shape) self.view r.view) }
+        ensures refused { IfErr result (λ r. IsRenewTold (sizes_of S.Shape) self r.0 r.1) }
+    {
+        let CallerWithTable { share, caller } = self;
+        let sessions = match share.into_own() {
+            Ok(sessions) => sessions,
+            Err(share) => return Err((RenewFault::Strangers, CallerWithTable { share, caller })),
+        };
+        match sessions.renew(alloc, caller) {
+            Ok((sessions, caller)) => Ok(CallerWithTable {
+                share: TableShare::Own(sessions),
+                caller,
+            }),
+            Err((fault, sessions, caller)) => Err((
+                fault,
+                CallerWithTable {
+                    share: TableShare::Own(sessions),
+                    caller,
+                },
+            )),
+        }
+    }
+}

@@ -1,0 +1,76 @@
+//! The ends of a table that is behind a handle: it is closed, whose pairs are there then, or renewed.
+ghost use Rattle.bihash_words.specs.Sizes.{sizes_of};
+ghost use Rattle.bihash_c.specs.Contents.{CloseTold, CountTold, HasCaller, HasPairs, PairTold, RenewTold};
+
+use crate::answer_numbers::{DONE, close_refusal, renew_refusal};
+use crate::handle_content::Content;
+use bihash_words::Shape;
+use std::alloc::Global;
+use std::mem;
+
+impl<S: Shape> Content<S> {
+    /// Ends the table, whose pairs are there then. Refused, the caller is there.
+    pub fn close(&mut self, alloc: Global) -> u32
+        requires { HasCaller self.old }
+        ensures { CloseTold ⟦<S as Shape>⟧ self.old self.new result }
+    {
+        let Content::Caller(member) = mem::replace(self, Content::Empty) else {
+            unreachable!();
+        };
+        match member.close(alloc) {
+            Ok(pairs) => {
+                *self = Content::Pairs(pairs);
+                DONE
+            }
+            Err((fault, member)) => {
+                *self = Content::Caller(member);
+                close_refusal(fault)
+            }
+        }
+    }
+
+    /// Opens the table again: caller 1 is there then. Refused, the caller is there.
+    pub fn renew(&mut self, alloc: Global) -> u32
+        requires { HasCaller self.old }
+        ensures { RenewTold (sizes_of S.Shape) self.old self.new result }
+    {
+        let Content::Caller(member) = mem::replace(self, Content::Empty) else {
+            unreachable!();
+        };
+        match member.renew(alloc) {
+            Ok(member) => {
+                *self = Content::Caller(member);
+                DONE
+            }
+            Err((fault, member)) => {
+                *self = Content::Caller(member);
+                renew_refusal(fault)
+            }
+        }
+    }
+
+    /// How many pairs of the closed table are there.
+    pub fn pair_count(&self) -> u64
+        requires { HasPairs self.now }
+        ensures { CountTold self.now result }
+    {
+        let Content::Pairs(pairs) = self else {
+            unreachable!();
+        };
+        pairs.len() as u64
+    }
+
+    /// The pair of the closed table at a place, counted from 0. `None` behind the last.
+    pub fn pair(&self, at: u64) -> Option<(S::Key, u64)>
+        requires { HasPairs self.now }
+        ensures { PairTold self.now at result }
+    {
+        let Content::Pairs(pairs) = self else {
+            unreachable!();
+        };
+        match pairs.get(at as usize) {
+            Some(pair) => Some(*pair),
+            None => None,
+        }
+    }
+}

@@ -1,5 +1,0 @@
-use Rattle.bihash_laws.proofs.LogLaws.{real_time}
-use Rattle.bihash_laws.proofs.log_laws.calls_stand_in_real_time.Goals as goal
-
-pub returns : goal.returns
-returns c = real_time

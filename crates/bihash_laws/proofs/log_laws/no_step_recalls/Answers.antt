@@ -1,5 +1,0 @@
-use Rattle.bihash_laws.proofs.LogLaws.{recall_refused}
-use Rattle.bihash_laws.proofs.log_laws.no_step_recalls.Goals as goal
-
-pub returns : goal.returns
-returns c = recall_refused

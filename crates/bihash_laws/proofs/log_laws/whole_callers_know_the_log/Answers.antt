@@ -1,5 +1,0 @@
-use Rattle.bihash_laws.proofs.LogLaws.{whole_log}
-use Rattle.bihash_laws.proofs.log_laws.whole_callers_know_the_log.Goals as goal
-
-pub returns : goal.returns
-returns c = whole_log

@@ -1,0 +1,153 @@
+//! One window of a capture, and the next one.
+ghost use Rattle.std.specs.Prelude.{◌≤◌, IfOk};
+ghost use Rattle.packet_view.specs.CheckedCaptures.{packets_of};
+ghost use Rattle.packet_view.specs.declared.packets.Packets.TheVariants as kind;
+ghost use Rattle.racl_io.specs.Buffers.{held_by};
+ghost use Rattle.capture_stream.specs.Judging.{CanFollow, HaveFollowed};
+ghost use Rattle.capture_stream.specs.inner.Found.{HaveFound};
+ghost use Rattle.capture_stream.specs.inner.Windows.{CanJudge, HasReadMore, HaveJudged, MayRead};
+
+use crate::packet_judges::Judges;
+use packet_view::{Front, Order, Packets, Records, Stop, front_records};
+use racl_io::{Fault, ReadBuffer, Source};
+use std::alloc::AllocError;
+use std::mem;
+use std::thread::{Threads, join_mut};
+
+// Those who are to judge packets, or what they answered.
+#[derive(Drop)]
+enum WindowJudges<J> {
+    Ahead(J),
+    Under,
+    Over(Result<J, AllocError>),
+}
+
+// Those who are ahead of a window's packets judge them.
+fn judge_window<J: Judges + Drop>(judging: &mut WindowJudges<J>, records: Records<'_>)
+    requires { CanJudge J.became judging.old (kind.Records records) }
+    ensures { HaveJudged J.became judging.old (packets_of records.entry) judging.new }
+{
+    let WindowJudges::Ahead(judges) = mem::replace(judging, WindowJudges::Under) else {
+        unreachable!()
+    };
+    *judging = WindowJudges::Over(judges.judge(Packets::Records(records)));
+}
+
+/// How many bytes a window has, at least and at most, while the input has more. One that begins with more than half as many
+/// gets as many again.
+#[derive(Clone, Copy)]
+pub struct WindowSize {
+    pub least: usize,
+    pub most: usize,
+}
+
+impl WindowSize {
+    ghost use Rattle.std.specs.Prelude.{◌≤◌, ◌+◌};
+    ghost use Rattle.capture_stream.specs.Streams.{IsSize};
+
+    /// How many bytes the next window gets behind those that the one before left, where so many were read: it has as many as
+    /// were read, within these bounds, so that judging begins early, and larger windows follow that pay for more threads.
+    pub fn beside(&self, read: usize, left: usize) -> usize
+        requires { IsSize self.now }
+        ensures some { 1 ≤ result }
+        ensures few { result ≤ 16777216 + left }
+    {
+        let all = read.max(self.least).min(self.most);
+        all.saturating_sub(left).max(left)
+    }
+}
+
+/// The whole records at the front of some bytes.
+#[derive(Clone, Copy)]
+pub struct Found {
+    /// How many they are.
+    pub count: usize,
+    /// How many bytes are behind them.
+    pub behind: usize,
+    /// Why they end there.
+    pub stop: Stop,
+}
+
+/// A window whose bytes were read.
+#[derive(Drop)]
+pub struct NextWindow {
+    /// The records in it.
+    pub found: Found,
+    /// Whether the source is at its end.
+    pub ended: bool,
+}
+
+/// Finds the records of a window: those in this order that stand whole at the front of its bytes.
+pub fn find_records(bytes: &[u8], order: Order) -> Found
+    ensures { HaveFound order bytes.now result }
+{
+    let Front {
+        records,
+        rest,
+        stop,
+    } = front_records(bytes, order, 0);
+    Found {
+        count: records.count,
+        behind: rest.len(),
+        stop,
+    }
+}
+
+// Reads the next window: bytes are read behind those that stand in `next` until there are so many, and the records in
+// all of them are found.
+fn read_and_find<R: Source>(
+    reader: &mut R,
+    next: &mut ReadBuffer,
+    least: usize,
+    order: Order,
+) -> Result<NextWindow, Fault>
+    requires { MayRead (R.failures reader.old) least }
+    ensures { HasReadMore R.bytes R.failures reader.old reader.new (held_by next.old) (held_by next.new) least order result }
+{
+    let ended = next.read_until(reader, least)?;
+    Ok(NextWindow {
+        found: find_records(next.bytes(), order),
+        ended,
+    })
+}
+
+/// The packets of one window are judged, and then the next window is read until it has so many bytes, and its records
+/// are found: beside the judging in a thread of its own where there is a runtime for threads.
+pub fn judge_and_read<J: Judges + Drop, T: Threads, R: Source + Send>(
+    beside: Option<&T>,
+    judges: J,
+    records: Records<'_>,
+    reader: &mut R,
+    next: &mut ReadBuffer,
+    least: usize,
+) -> (Result<J, AllocError>, Result<NextWindow, Fault>)
+    requires can { CanFollow J.became judges (kind.Records records) }
+    requires may { MayRead (R.failures reader.old) least }
+    ensures judged { IfOk result.0 (HaveFollowed J.became judges (packets_of records.entry)) }
+    ensures read { HasReadMore R.bytes R.failures reader.old reader.new (held_by next.old) (held_by next.new) least records.entry.order result.1 }
+{
+    let order = records.order;
+    let Some(rt) = beside else {
+        let judged = judges.judge(Packets::Records(records));
+        return (judged, read_and_find(reader, next, least, order));
+    };
+    let mut judging = WindowJudges::Ahead(judges);
+    let (read, ()) = join_mut(
+        rt,
+        &mut ||
+            requires { MayRead (R.failures reader.now) least }
+            ensures { HasReadMore R.bytes R.failures reader.entry.now reader.exit.now (held_by next.entry.now) (held_by next.exit.now) least order result }
+        { read_and_find(reader, next, least, order) },
+        &mut ||
+            requires { CanJudge J.became judging (kind.Records records) }
+            ensures { HaveJudged J.became judging.entry (packets_of records.entry) judging.exit }
+        {
+            judge_window(&mut judging, records);
+        },
+    );
+    match judging {
+        WindowJudges::Over(judged) => (judged, read),
+        WindowJudges::Ahead(_judges) => unreachable!(),
+        WindowJudges::Under => unreachable!(),
+    }
+}

@@ -1,0 +1,169 @@
+//! Packets whose workers were worked out by hand.
+ghost use Rattle.std.specs.Prelude.{◌≤◌, ◌<◌, ◌+◌, ◌^◌, length};
+
+use super::refused;
+use bihash_words::{ShapeV4, ShapeV6, flow_shapes_are_sound};
+use flow_dealing::Dealing;
+use packet_dealing::{Dealer, DealtChunk, DealtPacket, deal_packets, worker_of_packet};
+use packet_view::{Packet, Packets};
+use std::alloc::{AllocError, Global};
+use std::process::Abort;
+use std::test::Fail;
+use std::thread::Threads;
+
+// Who has 10.0.0.2?
+const ARP: [u8; 42] = [
+    255, 255, 255, 255, 255, 255, 2, 0, 0, 0, 0, 1, 8, 6, 0, 1, 8, 0, 6, 4, 0, 1, 2, 0, 0, 0, 0, 1,
+    10, 0, 0, 1, 0, 0, 0, 0, 0, 0, 10, 0, 0, 2,
+];
+
+// By UDP from fd00::1, port 1005, to fd00::2, port 53.
+const SIX: [u8; 62] = [
+    2, 0, 0, 0, 0, 2, 2, 0, 0, 0, 0, 1, 0x86, 0xdd, 0x60, 0, 0, 0, 0, 8, 17, 64, 0xfd, 0, 0, 0, 0,
+    0, 0, 0, 0, 0, 0, 0, 0, 0, 0, 1, 0xfd, 0, 0, 0, 0, 0, 0, 0, 0, 0, 0, 0, 0, 0, 0, 2, 0x03, 0xed,
+    0, 53, 0, 8, 0, 0,
+];
+
+// The frame of a packet that a test deals: from 10.0.0.m to 10.0.0.n, by UDP (17) or TCP (6).
+fn four(proto: u8, from: u8, to: u8, ports: [u8; 4]) -> [u8; 54] {
+    let [a, b, c, d] = ports;
+    [
+        2, 0, 0, 0, 0, to, 2, 0, 0, 0, 0, from, 8, 0, 0x45, 0, 0, 40, 0, 0, 0, 0, 64, proto, 0, 0,
+        10, 0, 0, from, 10, 0, 0, to, a, b, c, d, 0, 20, 0, 0, 0, 0, 0, 0, 0x50, 2, 0, 0, 0, 0, 0,
+        0,
+    ]
+}
+
+// A packet of interface 0 that a test deals to workers.
+fn seen<'a>(moment: u32, frame: &'a [u8]) -> Packet<'a> {
+    Packet {
+        interface: 0,
+        moment,
+        frame,
+    }
+}
+
+// A test's packets, dealt to workers in chunks.
+fn deal<'a, R: Threads + Sync>(
+    rt: &R,
+    alloc: Global,
+    dealing: Dealing,
+    workers: usize,
+    number: usize,
+    packets: &'a [Packet<'a>],
+) -> Result<Vec<DealtChunk<'a>>, AllocError>
+    requires some { 1 ≤ workers }
+    requires few { workers ≤ 16 }
+    requires fits { number + length packets.now < 2 ^ 64 }
+{
+    flow_shapes_are_sound();
+    let dealer = Dealer { dealing, workers };
+    deal_packets::<ShapeV4, ShapeV6, R>(rt, alloc, dealer, number, Packets::Slice(packets))
+}
+
+// A worker's share of a chunk is its packets, of those from this place on that have these workers, and no others.
+fn expect_own<'a, R: Abort>(
+    rt: &R,
+    worker: usize,
+    own: &[DealtPacket<'a>],
+    packets: &[Packet<'a>],
+    first: usize,
+    workers: &[u8],
+) {
+    let mut left = own.iter();
+    for (at, judge) in workers.iter().enumerate() {
+        if *judge as usize != worker {
+            continue;
+        }
+        let dealt = left.next().expect(rt, "a packet");
+        assert!(rt; first < 8 && at < 8);
+        let place = first + at;
+        assert!(rt; place < packets.len());
+        let packet = packets[place];
+        assert_eq!(rt;
+            (dealt.at, dealt.packet.moment, dealt.packet.frame),
+            (at, packet.moment, packet.frame)
+        );
+    }
+    assert!(rt; left.next().is_none());
+}
+
+// The dealt chunks have these packets, in their order, each with its worker, and in its worker's share alone.
+fn expect_packets<'a, R: Abort>(
+    rt: &R,
+    parts: Vec<DealtChunk<'a>>,
+    packets: &'a [Packet<'a>],
+    judges: [u8; 7],
+) {
+    let mut first = 0;
+    for part in parts {
+        let count = part.workers.len();
+        assert!(rt; first < 8 && count < 8);
+        let next = first + count;
+        assert!(rt; next < 8);
+        assert_eq!(rt; part.workers.as_slice(), &judges[first..next]);
+        for (worker, own) in part.own.as_slice().iter().enumerate() {
+            expect_own(
+                rt,
+                worker,
+                own.as_slice(),
+                packets,
+                first,
+                part.workers.as_slice(),
+            );
+        }
+        first = next;
+    }
+    assert_eq!(rt; first, packets.len());
+}
+
+// Packets dealt to workers in chunks: the buckets are 2896, 1046 and 2793 of 4096 for the flows of IPv4, and 776 of
+// 1024 for that of IPv6.
+#[test]
+fn deals_packets_of_several_flows(rt: HostRuntime) -> Result<(), Fail> {
+    let frames = [
+        four(17, 1, 2, [0x03, 0xe8, 0, 53]),
+        four(6, 1, 3, [0x03, 0xe8, 0, 80]),
+        four(17, 2, 1, [0, 53, 0x03, 0xe8]),
+        four(6, 3, 1, [0, 80, 0x03, 0xe8]),
+        four(17, 1, 4, [0x03, 0xe8, 0, 53]),
+    ];
+    let packets = [
+        seen(100, &frames[0]),
+        seen(101, &frames[1]),
+        seen(101, &frames[2]),
+        seen(103, &ARP),
+        seen(107, &SIX),
+        seen(107, &frames[3]),
+        seen(120, &frames[4]),
+    ];
+    let Ok(parts) = deal(&rt, rt.alloc(), Dealing::Bucket, 3, 0, &packets) else {
+        return refused();
+    };
+    assert_eq!(rt; parts.len(), 3);
+    expect_packets(&rt, parts, &packets, [1, 2, 1, 0, 2, 2, 0]);
+    let Ok(parts) = deal(&rt, rt.alloc(), Dealing::Round, 2, 5, &packets) else {
+        return refused();
+    };
+    assert_eq!(rt; parts.len(), 2);
+    expect_packets(&rt, parts, &packets, [1, 0, 1, 0, 1, 0, 1]);
+    Ok(())
+}
+
+// The worker to whom one packet is dealt, by the flow that its frame shows: one of IPv4, none, and one of IPv6.
+#[test]
+fn one_packet_has_its_worker(rt: HostRuntime) {
+    flow_shapes_are_sound();
+    let dealer = Dealer {
+        dealing: Dealing::Bucket,
+        workers: 3,
+    };
+    let request = four(17, 1, 2, [0x03, 0xe8, 0, 53]);
+    let (first, second, third) = (seen(100, &request), seen(100, &ARP), seen(100, &SIX));
+    assert_eq!(rt; worker_of_packet::<ShapeV4, ShapeV6>(&dealer, 9, &first), 1);
+    assert_eq!(rt;
+        worker_of_packet::<ShapeV4, ShapeV6>(&dealer, 9, &second),
+        0
+    );
+    assert_eq!(rt; worker_of_packet::<ShapeV4, ShapeV6>(&dealer, 9, &third), 2);
+}

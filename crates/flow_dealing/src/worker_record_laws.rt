@@ -1,0 +1,54 @@
+//! What traces and records of all workers mean for the verdicts.
+//!
+//! The functions do nothing: their contracts are the laws.
+ghost use Rattle.std.specs.Prelude.{◌≡◌, ◌⊎◌, ◌<◌, List, All};
+ghost use Rattle.packet_view.specs.Captures.{PacketFacts};
+ghost use Rattle.packet_view.specs.declared.tuple.Family.{Family};
+ghost use Rattle.acl_policy.specs.Policies.{PolicyFacts};
+ghost use Rattle.session_state.specs.declared.timeouts.Timeouts.{Timeouts};
+ghost use Rattle.flow_filter.specs.declared.verdict.Verdict.{Verdict};
+ghost use Rattle.flow_filter.specs.OneThread.{AreVerdicts};
+ghost use Rattle.flow_dealing.specs.declared.dealing.Dealing.TheVariants.{Bucket};
+ghost use Rattle.flow_dealing.specs.Views.{Views, view_in};
+ghost use Rattle.flow_dealing.specs.Dealings.{Deal};
+ghost use Rattle.flow_dealing.specs.Traces.{AreGathered, ArePlaced, AreTraces, Item};
+ghost use Rattle.flow_dealing.specs.Places.{PassAtPlaces};
+ghost use Rattle.flow_dealing.specs.WorkerRecords.{AreFew, AreJudged, AreJudgedBy, HasPagesIn, HavePages};
+
+/// Where each worker judged the packets that were dealt to it, each packet was judged once, and its event
+/// is in the record of its worker.
+pub fn traces_judge_each_packet()
+    ensures { (d : Deal) (times : Timeouts) (policy : PolicyFacts) (packets : List PacketFacts)
+        (traces : List (List Item)) (v : Views) (verdicts : List Verdict)
+        → 0 < d.workers → AreTraces d times policy packets traces
+        → ((family : Family) → AreGathered d times family traces (view_in v family))
+        → ArePlaced times packets traces verdicts → AreJudgedBy d times policy packets verdicts v }
+{}
+
+/// By the records of all workers: with one worker, or where packets are dealt by bucket, and no verdict says that pages
+/// were wanting, the verdicts are those of the one-thread filter.
+pub fn workers_give_one_report()
+    ensures { (d : Deal) (times : Timeouts) (policy : PolicyFacts) (packets : List PacketFacts)
+        (verdicts : List Verdict)
+        → AreJudged d times policy packets verdicts → (d.dealing ≡ Bucket) ⊎ (d.workers ≡ 1) → HavePages verdicts
+        → AreVerdicts d.layout times policy packets verdicts }
+{}
+
+/// By the records of all workers: with so few packets of a family's flows that its pages can't run out, none of them is
+/// refused for want of pages, and none of their verdicts says so; with so few of both families no verdict does.
+pub fn few_packets_have_pages()
+    ensures one_family { (d : Deal) (times : Timeouts) (policy : PolicyFacts) (packets : List PacketFacts)
+        (verdicts : List Verdict) (are : AreJudged d times policy packets verdicts) (family : Family)
+        → AreFew d.layout times family are.judged → All (HasPagesIn times family) are.judged }
+    ensures both_families { (d : Deal) (times : Timeouts) (policy : PolicyFacts) (packets : List PacketFacts)
+        (verdicts : List Verdict) (are : AreJudged d times policy packets verdicts)
+        → ((family : Family) → AreFew d.layout times family are.judged) → HavePages verdicts }
+{}
+
+/// The main promise. Whatever packets are dealt by, and whatever verdicts say: each packet of a flow has its event in the
+/// record of the worker that it is dealt to, at one place in the history of its bucket, and passes exactly where the map
+/// there holds a live session of its flow, or the first rule that matches lets it through.
+pub fn packets_pass_at_their_places()
+    ensures { (d : Deal) (times : Timeouts) (policy : PolicyFacts) (packets : List PacketFacts)
+        (verdicts : List Verdict) → PassAtPlaces d times policy packets verdicts }
+{}

@@ -1,0 +1,15 @@
+use Rattle.std.proofs.Common.{◌∙◌}
+use Rattle.flow_workers.proofs.CallerSplitLemmas.{same_traces}
+use Rattle.flow_workers.proofs.worker_callers_split_and_joined.join_whole.Goals as goal
+
+pub returns : goal.returns
+returns g c = record {
+  own = c.wait_until_lone.ensures.own ∙ c.join_all-joined.ensures.own;
+  free = c.wait_until_lone.ensures.holds ∙ c.join_all-joined.ensures.free;
+  lawful = c.wait_until_lone.ensures.lawful;
+  whole = c.wait_until_lone.ensures.whole;
+  traces = λ z times family traces each.
+      same_traces z times family traces c.join_all-joined.result.seat.view c.wait_until_lone.new.caller.seat.view
+      c.wait_until_lone.ensures.records c.wait_until_lone.ensures.known
+      (c.join_all-joined.ensures.traces z times family traces each);
+}

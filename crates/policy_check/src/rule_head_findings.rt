@@ -1,0 +1,35 @@
+//! The first three words of a rule: direction, action and family.
+ghost use Rattle.std.specs.Prelude.{IfErr, IfOk};
+ghost use Rattle.policy_words.specs.Words.{words_of};
+ghost use Rattle.policy_check.specs.Reasons.{HasHead, IsHeadReason};
+
+use crate::reason::Reason;
+use crate::word_finding::{Finding, missing, of};
+use crate::word_readers::{action, direction, family, next};
+use packet_view::Family;
+
+/// The family of a rule, and the text after its head; what is wrong with the words of the head, where that is so.
+pub fn head(text: &[u8]) -> Result<(Family, &[u8]), Finding<'_>>
+    ensures right { IfOk result (λ r. HasHead (words_of text.now) r.0 (words_of r.1.now)) }
+    ensures wrong { IfErr result (λ found. IsHeadReason (words_of text.now) found.reason found.word.now) }
+{
+    let Some((first, text)) = next(text) else {
+        return Err(missing());
+    };
+    let Some(_) = direction(first) else {
+        return Err(of(Reason::NoStart, first));
+    };
+    let Some((second, text)) = next(text) else {
+        return Err(missing());
+    };
+    let Some(_) = action(second) else {
+        return Err(of(Reason::NoAction, second));
+    };
+    let Some((third, text)) = next(text) else {
+        return Err(missing());
+    };
+    match family(third) {
+        Some(family) => Ok((family, text)),
+        None => Err(of(Reason::NoFamily, third)),
+    }
+}

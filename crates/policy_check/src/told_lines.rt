@@ -1,0 +1,122 @@
+//! What a check tells, line by line.
+ghost use Rattle.std.specs.Prelude.{◌↔◌, IfOk, IsTrue};
+ghost use Rattle.acl_policy.specs.Policies.{IsPolicyText, PolicyFacts};
+
+use crate::complaint::{Checked, Complaint};
+use crate::policy_checking::check_policy;
+use crate::remark_kinds::Remark;
+use crate::remarks_on_policy::remarks_on;
+use acl_policy::Policy;
+use std::alloc::{AllocError, Global};
+
+/// The lines that tell what a check found, and whether the text is a policy.
+#[derive(Drop)]
+pub struct Told {
+    pub text: Vec<u8>,
+    pub is_policy: bool,
+}
+
+/// At most how many bytes of a word are shown.
+const MOST_SHOWN: usize = 80;
+
+// Adds a piece to the text that a check tells.
+fn push_text(out: &mut Vec<u8>, text: &str) -> Result<(), AllocError> {
+    out.extend_from_slice(text.as_bytes())?;
+    Ok(())
+}
+
+// Adds the word of a complaint to the text that a check tells, with each byte that isn't a sign of ASCII as its number,
+// so that it is seen.
+fn push_word(alloc: Global, out: &mut Vec<u8>, word: &[u8]) -> Result<(), AllocError> {
+    for byte in &word[..word.len().min(MOST_SHOWN)] {
+        if *byte > 32 && *byte < 127 {
+            out.push(*byte)?;
+        } else {
+            push_text(out, format!(in alloc; "\\x{:02x}", *byte)?.as_str())?;
+        }
+    }
+    if word.len() > MOST_SHOWN {
+        push_text(out, "..")?;
+    }
+    Ok(())
+}
+
+// Adds the line of a complaint to the text that a check tells.
+fn push_complaint(
+    alloc: Global,
+    out: &mut Vec<u8>,
+    told: &Complaint<'_>,
+) -> Result<(), AllocError> {
+    push_text(out, format!(in alloc; "line {}", told.line)?.as_str())?;
+    if !told.word.is_empty() {
+        push_text(out, ": `")?;
+        push_word(alloc, out, told.word)?;
+        push_text(out, "`")?;
+    }
+    push_text(out, format!(in alloc; " {}\n", told.reason)?.as_str())
+}
+
+// Adds the line of a remark to the text that a check tells.
+fn push_remark(alloc: Global, out: &mut Vec<u8>, remark: &Remark) -> Result<(), AllocError> {
+    push_text(out, format!(in alloc; "remark: {remark}\n")?.as_str())
+}
+
+// How many rules a policy has, which the text of a check tells in its last line.
+fn rule_count(policy: &Policy) -> usize {
+    let mut count: usize = 0;
+    for section in &policy.sections {
+        count = count
+            .saturating_add(section.inbound.len())
+            .saturating_add(section.outbound.len());
+    }
+    count
+}
+
+// Adds what the text of a check tells of a policy: the remarks on it, and then how many rules and sections it has.
+fn push_policy(alloc: Global, out: &mut Vec<u8>, policy: &Policy) -> Result<(), AllocError> {
+    let remarks = remarks_on(alloc, policy)?;
+    for remark in &remarks {
+        push_remark(alloc, out, remark)?;
+    }
+    let rules = rule_count(policy);
+    let sections = policy.sections.len();
+    push_text(
+        out,
+        format!(in alloc; "policy: rules {rules} sections {sections}\n")?.as_str(),
+    )
+}
+
+// Adds what the text of a check tells where there is no policy: each complaint, and then how many lines are wrong.
+fn push_complaints(
+    alloc: Global,
+    out: &mut Vec<u8>,
+    checked: &Checked<'_>,
+) -> Result<(), AllocError> {
+    for told in &checked.complaints {
+        push_complaint(alloc, out, told)?;
+    }
+    let lines = checked.complaints.len();
+    push_text(
+        out,
+        format!(in alloc; "no policy: wrong lines {lines}\n")?.as_str(),
+    )
+}
+
+/// Tells line by line what a check of a policy's text found: what is wrong, or else what is remarked. An `Err` says
+/// that memory ran out.
+pub fn tell(alloc: Global, text: &[u8]) -> Result<Told, AllocError>
+    ensures { IfOk result (λ told. IsTrue told.is_policy ↔ ((policy : PolicyFacts) × IsPolicyText text.now policy)) }
+{
+    let checked = check_policy(alloc, text)?;
+    let is_policy = checked.complaints.is_empty();
+    let mut out = Vec::new(alloc);
+    if is_policy {
+        push_policy(alloc, &mut out, &checked.policy)?;
+    } else {
+        push_complaints(alloc, &mut out, &checked)?;
+    }
+    Ok(Told {
+        text: out,
+        is_policy,
+    })
+}

@@ -1,0 +1,102 @@
+//! How the program ends: what it says on standard error, and its exit status.
+ghost use Rattle.std.specs.Prelude.{◌≡◌, ◌≢◌, None, Some};
+ghost use Rattle.clap.specs.Words.{kind_of};
+ghost use Rattle.std.specs.IoError.{error_kind};
+ghost use Rattle.racl_report.specs.Endings.{hint_on, remark_on, said_after};
+ghost use Rattle.racl_report.specs.Statuses.{status_of};
+ghost use Rattle.racl_io.specs.declared.fault.Fault.TheVariants.{Memory, Write};
+ghost use Rattle.racl_options.specs.CommandLine.{IsRequest};
+
+use crate::message_texts::{Ending, Hint, Message};
+use clap::error::ErrorKind;
+use racl_io::{Fault, Other, Totals, is_capture, other_file};
+use racl_options::words_status;
+use std::io;
+use std::io::ErrorKind as FailureKind;
+
+/// The status with which the program ends: 0 done, 3 done but a capture was truncated, 1 a fault
+/// of the input, 4 memory that ran out or a device that failed.
+pub fn status(outcome: &Result<Totals, Fault>) -> u8
+    ensures { result ≡ status_of outcome.now }
+{
+    match outcome {
+        Ok(totals) => { if totals.truncated { 3 } else { 0 } }
+        Err(Fault::Memory | Fault::Read | Fault::Write) => 4,
+        Err(_) => 1,
+    }
+}
+
+/// The message and the status at the end of a run: after a report nothing is said, and a fault is told.
+pub fn ending(outcome: &Result<Totals, Fault>) -> Ending
+    ensures status { result.status ≡ status_of outcome.now }
+    ensures said { result.message ≡ said_after outcome.now }
+{
+    let message = match outcome {
+        Ok(_) => None,
+        Err(fault) => Some(Message::Fault(*fault)),
+    };
+    Ending {
+        message,
+        status: status(outcome),
+    }
+}
+
+/// What the program tells at its end of a capture file that begins with these bytes, behind the message on the fault.
+pub fn remark(outcome: &Result<Totals, Fault>, front: &[u8]) -> Option<Other>
+    ensures { result ≡ remark_on outcome.now front.now }
+{
+    match outcome {
+        Err(Fault::Magic | Fault::LinkType) => other_file(front),
+        _ => None,
+    }
+}
+
+/// What is told behind the message on a fault with a likely cause, where the policy's file begins with these bytes:
+/// a record that is too long, and isn't the first, may be another capture's header; a policy not in UTF-8, a capture.
+pub fn hint(outcome: &Result<Totals, Fault>, policy: &[u8]) -> Option<Hint>
+    ensures { result ≡ hint_on outcome.now policy.now }
+{
+    match outcome {
+        Err(Fault::LongRecord(number)) if *number > 1 => Some(Hint::TwoCaptures),
+        Err(Fault::NotUtf8) if is_capture(policy) => Some(Hint::Swapped),
+        _ => None,
+    }
+}
+
+/// The message and the status after words that `options` refuses. Without a message `clap`'s own text is printed.
+pub fn words_ending(error: &clap::Error) -> Ending
+    ensures request { IsRequest (kind_of error.now) → result ≡ record { message = None; status = 0 } }
+    ensures memory { kind_of error.now ≡ ErrorKind.OutOfMemory
+        → result ≡ record { message = Some (Message.Fault Memory); status = 4 } }
+    ensures mistake { (IsRequest (kind_of error.now) → ⊥) → kind_of error.now ≢ ErrorKind.OutOfMemory
+        → result ≡ record { message = None; status = 2 } }
+{
+    let message = match error.kind() {
+        ErrorKind::OutOfMemory => Some(Message::Fault(Fault::Memory)),
+        _ => None,
+    };
+    Ending {
+        message,
+        status: words_status(error),
+    }
+}
+
+/// The message and the status where the words can't be had, or a text can't be printed.
+pub fn failure_ending(error: &io::Error) -> Ending
+    ensures word { error_kind error.now ≡ FailureKind.InvalidData
+        → result ≡ record { message = Some Message.WordNotUtf8; status = 2 } }
+    ensures memory { error_kind error.now ≡ FailureKind.OutOfMemory
+        → result ≡ record { message = Some (Message.Fault Memory); status = 4 } }
+    ensures device { error_kind error.now ≢ FailureKind.InvalidData → error_kind error.now ≢ FailureKind.OutOfMemory
+        → result ≡ record { message = Some (Message.Fault Write); status = 4 } }
+{
+    let (message, status) = match error.kind() {
+        FailureKind::InvalidData => (Message::WordNotUtf8, 2),
+        FailureKind::OutOfMemory => (Message::Fault(Fault::Memory), 4),
+        _ => (Message::Fault(Fault::Write), 4),
+    };
+    Ending {
+        message: Some(message),
+        status,
+    }
+}

@@ -1,0 +1,150 @@
+//! What is said behind a run of the files that it was on, and of how it ended.
+ghost use Rattle.std.specs.Prelude.{◌≡◌, IfOk};
+ghost use Rattle.racl_report.specs.Statuses.{status_of};
+
+use crate::faulty_capture::faulty;
+use crate::input_files::{interface_at, name_at, policy_name};
+use crate::named_reader::Reader;
+use crate::progress::Watched;
+use crate::say_and_answer_status::say_ending;
+use crate::say_policy_remarks::{Seen, say_foreign, say_unlooked};
+use racl_io::{Fault, Joined, Totals};
+use racl_options::{Files, Origin};
+use racl_report::{Remark, ending, hint, remark};
+use std::alloc::Global;
+use std::io;
+
+/// How a run ended, and whether the reader of what it wrote was gone.
+#[derive(Drop)]
+pub struct Ran {
+    pub outcome: Result<Totals, Fault>,
+    pub is_closed: bool,
+}
+
+// The first bytes of a run's captures, for the notes on these, as far as there is memory for their list.
+fn seen_in<'a>(alloc: Global, origin: &Origin<'_>, reader: &'a Joined<Reader>) -> Vec<Seen<'a>> {
+    let mut seen = Vec::new(alloc);
+    for place in 0..256 {
+        let (Some(interface), Some(front)) = (interface_at(origin, place), reader.front(place))
+        else {
+            return seen;
+        };
+        if seen.push(Seen { interface, front }).is_err() {
+            return seen;
+        }
+    }
+    seen
+}
+
+// Notes on a run that ended with a fault: says which capture has it, where there are several, and what it is where it
+// isn't read for that.
+fn say_remark(
+    rt: &HostRuntime,
+    alloc: Global,
+    origin: &Origin<'_>,
+    reader: &Joined<Reader>,
+    fault: Fault,
+) -> io::Result<()> {
+    let Some(place) = faulty(rt, alloc, origin, reader, fault) else {
+        return Ok(());
+    };
+    let (Some(name), Some(interface)) = (name_at(origin, place), interface_at(origin, place)) else {
+        return Ok(());
+    };
+    if let Some(front) = reader.front(place)
+        && let Some(other) = remark(&Err(fault), front)
+    {
+        return rt.eprintln(&Remark { name, other });
+    }
+    if name_at(origin, 1).is_none() {
+        return Ok(());
+    }
+    rt.eprintln(format_args!("racl: that is {name}, the capture of interface {interface}"))
+}
+
+// Says the notes behind a run on files: what is likely to be wrong with them.
+fn say_more(
+    rt: &HostRuntime,
+    alloc: Global,
+    origin: &Origin<'_>,
+    reader: &Joined<Reader>,
+    outcome: &Result<Totals, Fault>,
+) -> io::Result<()> {
+    let Reader::Held(policy) = reader.policy() else {
+        return Ok(());
+    };
+    if outcome.is_ok() {
+        let name = policy_name(origin);
+        let text = policy.get_ref().as_slice();
+        say_unlooked(rt, alloc, name, text);
+        say_foreign(
+            rt,
+            alloc,
+            name,
+            text,
+            seen_in(alloc, origin, reader).as_slice(),
+        );
+    }
+    if let Err(fault) = outcome {
+        say_remark(rt, alloc, origin, reader, *fault)?;
+    }
+    if let Some(hint) = hint(outcome, policy.get_ref().as_slice()) {
+        rt.eprintln(&hint)?;
+    }
+    Ok(())
+}
+
+/// Says how a run ended, with notes on what is likely to be wrong with its files; and answers the status. No more is
+/// shown of how much was read.
+pub fn say_end_of_run(
+    rt: &HostRuntime,
+    alloc: Global,
+    origin: &Origin<'_>,
+    reader: &mut Watched<'_, Joined<Reader>>,
+    ran: &Ran,
+) -> io::Result<u8>
+    ensures { IfOk result (λ status. status ≡ status_of ran.now.outcome) }
+{
+    reader.progress.end();
+    let mut end = ending(&ran.outcome);
+    if ran.is_closed && !matches!(origin, Origin::Standard) {
+        // Who asked for a report of files took as much of it as was wanted.
+        end.message = None;
+    }
+    let status = match say_ending(rt, &end) {
+        Ok(status) => status,
+        Err(error) => return Err(error),
+    };
+    say_more(rt, alloc, origin, &reader.source, &ran.outcome)?;
+    Ok(status)
+}
+
+/// Says how a live run ended, with notes on what is likely to be wrong with its files; and answers the status.
+pub fn say_end_of_live(
+    rt: &HostRuntime,
+    alloc: Global,
+    files: &Files<'_>,
+    text: &[u8],
+    front: &[u8],
+    outcome: &Result<Totals, Fault>,
+) -> io::Result<u8>
+    ensures { IfOk result (λ status. status ≡ status_of outcome.now) }
+{
+    let status = match say_ending(rt, &ending(outcome)) {
+        Ok(status) => status,
+        Err(error) => return Err(error),
+    };
+    if let Some(hint) = hint(outcome, text) {
+        rt.eprintln(&hint)?;
+    }
+    if let Some(other) = remark(outcome, front) {
+        let name = files.capture;
+        rt.eprintln(&Remark { name, other })?;
+    }
+    let seen = Seen {
+        interface: 0,
+        front,
+    };
+    say_foreign(rt, alloc, files.policy, text, &[seen]);
+    Ok(status)
+}

@@ -1,0 +1,58 @@
+//! How a run ended, said on standard error.
+ghost use Rattle.std.specs.Prelude.{◌≡◌, ◌≢◌, IfOk};
+ghost use Rattle.clap.specs.Words.{kind_of};
+ghost use Rattle.clap.specs.declared.error.kind.ErrorKind.TheVariants as kinds;
+ghost use Rattle.racl_options.specs.CommandLine.{IsRequest};
+ghost use Rattle.racl_report.specs.Statuses.{status_of_fault};
+ghost use Rattle.std.specs.IoError.{error_kind};
+
+use clap::Error;
+use racl_io::Fault;
+use racl_report::{Ending, ending, failure_ending, words_ending};
+use std::io;
+use std::io::{Eprint, ErrorKind, Print};
+
+/// Says what is to be said, and answers the status.
+pub fn say_ending(rt: &impl Eprint, end: &Ending) -> io::Result<u8>
+    ensures { IfOk result (λ status. status ≡ end.now.status) }
+{
+    match &end.message {
+        None => Ok(end.status),
+        Some(message) => match rt.eprintln(message) {
+            Ok(()) => Ok(end.status),
+            Err(error) => Err(error),
+        },
+    }
+}
+
+/// Says with which fault a run ended, and answers the status.
+pub fn say_fault(rt: &impl Eprint, fault: Fault) -> io::Result<u8>
+    ensures { IfOk result (λ status. status ≡ status_of_fault fault) }
+{
+    say_ending(rt, &ending(&Err(fault)))
+}
+
+/// Says that the program ends since its words are refused, and answers the status.
+pub fn refused(rt: &(impl Print + Eprint), error: &Error) -> io::Result<u8>
+    ensures request { IfOk result (λ status. IsRequest (kind_of error.now) → status ≡ 0) }
+    ensures memory { IfOk result (λ status. kind_of error.now ≡ kinds.OutOfMemory → status ≡ 4) }
+    ensures mistake { IfOk result (λ status. (IsRequest (kind_of error.now) → ⊥)
+        → kind_of error.now ≢ kinds.OutOfMemory → status ≡ 2) }
+{
+    let end = words_ending(error);
+    if end.message.is_none() {
+        error.print(rt)?;
+    }
+    say_ending(rt, &end)
+}
+
+/// Says why the program ends where the words can't be had, or a text can't be printed, and answers the status.
+pub fn failure_status(rt: &impl Eprint, error: &io::Error) -> u8
+    ensures word { error_kind error.now ≡ ErrorKind.InvalidData → result ≡ 2 }
+    ensures other { error_kind error.now ≢ ErrorKind.InvalidData → result ≡ 4 }
+{
+    let end = failure_ending(error);
+    // Where standard error fails too, the status alone is left to tell.
+    let _ = say_ending(rt, &end);
+    end.status
+}

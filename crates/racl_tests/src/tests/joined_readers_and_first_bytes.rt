@@ -1,0 +1,113 @@
+//! A policy and captures from readers, and what files are that are no captures of Ethernet.
+ghost use Rattle.std.specs.Prelude.{◌≡◌, IfSome};
+
+use super::refused;
+use racl_cli::remark;
+use racl_io::{Fault, Form, FrontKept, Joined, Other, marked, other_file, read_until};
+use std::alloc::Global;
+use std::io::Read;
+use std::test::Fail;
+
+// For tests of files: 24 bytes that begin with these and have this link field.
+fn header(magic: [u8; 4], link: [u8; 4]) -> [u8; 24] {
+    let mut bytes = [0; 24];
+    bytes[..4].copy_from_slice(&magic);
+    bytes[20..].copy_from_slice(&link);
+    bytes
+}
+
+// For tests of files: what is told where 23 of these bytes are there.
+fn told_of_fewer(bytes: &[u8]) -> Option<Other> {
+    other_file(&bytes[..bytes.len().min(23)])
+}
+
+/// Three captures, with the forms of their marker lines.
+const CAPTURES: [(Form, &[u8]); 3] = [
+    (Form::Binary, b"\xd4\xc3"),
+    (Form::Numbered(255), b"\x0a\xf0"),
+    (Form::Hexadecimal, b""),
+];
+
+// For tests of files: a policy and these captures. `None`: memory was refused.
+fn joined(alloc: Global) -> Option<Joined<&'static [u8]>>
+    ensures { IfSome result (λ joined. joined.device.failures ≡ 0) }
+{
+    let mut captures = Vec::new(alloc);
+    for (form, bytes) in CAPTURES {
+        let Ok(capture) = marked(alloc, form, bytes) else {
+            return None;
+        };
+        let Ok(()) = captures.push(capture) else {
+            return None;
+        };
+    }
+    Some(Joined::new(b"mac".as_slice(), captures))
+}
+
+/// Files of a policy and of captures, one after the other, with marker lines between them.
+#[test]
+fn readers_are_one_source(rt: HostRuntime) -> Result<(), Fail> {
+    let Some(mut joined) = joined(rt.alloc()) else {
+        return refused();
+    };
+    let mut all = Vec::new(rt.alloc());
+    assert_eq!(rt; read_until(&mut joined, &mut all, 21), Ok(false));
+    assert_eq!(rt; read_until(&mut joined, &mut all, 100), Ok(true));
+    assert_eq!(rt;
+        all.as_slice(),
+        b"mac\npcap\n\xd4\xc3\nhex 255\n0af0\nhex\n".as_slice()
+    );
+    assert_eq!(rt; joined.front(1), Some(b"\x0a\xf0".as_slice()));
+    assert_eq!(rt; joined.front(3), None);
+    Ok(())
+}
+
+// For tests of files: how many bytes came by a read with room for 20.
+fn read_of(kept: &mut FrontKept<&'static [u8]>) -> Option<usize> {
+    let mut room = [0; 20];
+    match kept.read(&mut room) {
+        Ok(count) => Some(count),
+        Err(_) => None,
+    }
+}
+
+/// Files that are read: their front is there afterwards.
+#[test]
+fn first_bytes_are_kept(rt: HostRuntime) {
+    let mut kept = FrontKept::new(b"abcdefghijklmnopqrstuvwxyz".as_slice());
+    assert_eq!(rt; read_of(&mut kept), Some(20));
+    assert_eq!(rt; kept.front(), b"abcdefghijklmnopqrst".as_slice());
+    assert_eq!(rt; read_of(&mut kept), Some(6));
+    assert_eq!(rt; kept.front(), b"abcdefghijklmnopqrstuvwxyz".as_slice());
+}
+
+#[test]
+fn first_bytes_tell_other_files(rt: HostRuntime) {
+    const CASES: [([u8; 4], [u8; 4], Option<Other>); 7] = [
+        ([0xd4, 0xc3, 0xb2, 0xa1], [1, 0, 0, 0], None),
+        ([0x0a, 0x0d, 0x0d, 0x0a], [0; 4], Some(Other::Pcapng)),
+        ([0x1f, 0x8b, 8, 0], [0; 4], Some(Other::Gzip)),
+        ([0xa1, 0xb2, 0xcd, 0x34], [0; 4], Some(Other::Modified)),
+        ([0x34, 0xcd, 0xb2, 0xa1], [0; 4], Some(Other::Modified)),
+        (
+            [0xd4, 0xc3, 0xb2, 0xa1],
+            [113, 0, 0, 0],
+            Some(Other::Cooked),
+        ),
+        ([0xa1, 0xb2, 0x3c, 0x4d], [0, 0, 1, 20], Some(Other::Cooked)),
+    ];
+    for (magic, link, other) in CASES {
+        assert_eq!(rt; other_file(&header(magic, link)), other);
+    }
+    let pcapng = header([0x0a, 0x0d, 0x0d, 0x0a], [0; 4]);
+    assert_eq!(rt; told_of_fewer(&pcapng), None);
+}
+
+/// Files that are no captures of Ethernet: after which faults this is told.
+#[test]
+fn a_remark_is_made_where_the_header_is_wrong(rt: HostRuntime) {
+    let pcapng = header([0x0a, 0x0d, 0x0d, 0x0a], [0; 4]);
+    assert_eq!(rt; remark(&Err(Fault::Magic), &pcapng), Some(Other::Pcapng));
+    assert_eq!(rt; remark(&Err(Fault::LinkType), &pcapng), Some(Other::Pcapng));
+    assert_eq!(rt; remark(&Err(Fault::Short), &pcapng), None);
+}

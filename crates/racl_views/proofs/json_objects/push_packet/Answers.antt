@@ -1,0 +1,19 @@
+use Rattle.std.proofs.Common.{◌∷◌, [], codes}
+use Rattle.racl_views.specs.Entries.{entry_facts}
+use Rattle.racl_views.specs.Objects.{number}
+use Rattle.racl_views.specs.PacketObjects.{carried_fields, frame_way, line_field, verdict_fields}
+use Rattle.racl_views.proofs.FieldLemmas.{added_both, line_done}
+use Rattle.racl_views.proofs.json_objects.push_packet.Goals as goal
+
+pub returns : goal.returns
+returns c =
+    let entry = entry_facts c.args.entry.now in
+    let packet = number (codes "packet") c.args.number ∷ [] in
+    let interface = number (codes "interface") entry.interface ∷ [] in
+    let time = number (codes "time") entry.moment ∷ [] in
+    let carried = added_both _ _ _ time (carried_fields entry.view) (rw c.from-2.ensures at c.in_ok-add_number-3.ensures) c.in_ok-add_carried.ensures in
+    let way = added_both _ _ _ (frame_way entry.view) _ c.in_ok-add_frame_way.ensures carried in
+    let seen = added_both _ _ _ interface _ (rw c.from.ensures at c.in_ok-add_number-2.ensures) way in
+    let line = added_both _ _ _ (line_field entry.line) _ c.in_ok-add_line.ensures seen in
+    let verdict = added_both _ _ _ (verdict_fields entry.verdict) _ c.in_ok-add_verdict.ensures line in
+    line_done (λ v. v.items) _ _ _ _ _ c.in_ok-object.ensures (added_both _ _ _ packet _ c.in_ok-add_number.ensures verdict) c.end.ensures

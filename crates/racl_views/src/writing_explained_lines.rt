@@ -1,0 +1,170 @@
+//! The report in explained lines, written in pieces.
+ghost use Rattle.std.specs.Prelude.{◌≡◌, ◌+◌, ◌-◌, ◌<◌, ◌≤◌, ◌^◌, ◌++◌, [], ℕ, List, OnOk, drop, length};
+ghost use Rattle.packet_view.specs.Captures.{packet_facts};
+ghost use Rattle.packet_view.specs.CheckedCaptures.{remaining};
+ghost use Rattle.acl_policy.specs.Policies.{IsPolicyText, policy_facts};
+ghost use Rattle.racl_io.specs.Reports.{packets_in, totals_line, totals_of};
+ghost use Rattle.racl_io.specs.Sinks.{HasPut, Writes};
+ghost use Rattle.racl_views.specs.ExplainedLines.{IsExplained};
+ghost use Rattle.racl_views.specs.RunEntries.{captures_told, run_facts, told_from};
+ghost use Rattle.racl_views.specs.inner.Tellings.{HasPushed, entries_by, entry_by, line_by, truncation_told};
+
+use crate::explained_line::push_explained;
+use crate::packet_entry::{Place, entry_of};
+use crate::packet_telling::Telling;
+use crate::passed_count::passed;
+use crate::rule_lines_by_place::rule_table;
+use crate::run_and_verdicts::Run;
+use flow_filter::Verdict;
+use packet_view::{Packet, Packets};
+use racl_io::{
+    Captured, Fault, Piece, Sink, Totals, has_line, totals_on, write_all, write_totals,
+    write_truncation,
+};
+use std::alloc::Global;
+
+/// Up to how many bytes a piece has room for one more line.
+const FULL: usize = 261_402;
+
+// Sees that the piece of the report has room for one more explained line.
+fn make_room<W: Sink>(writer: &mut W, piece: &mut Piece) -> Result<(), Fault>
+    requires { W.failures writer.old < 2 ^ 64 - 1 }
+    ensures pushed { HasPushed W.bytes W.failures writer.old writer.new piece.old piece.new [] result }
+    ensures room { OnOk result (length piece.new + 742 ≤ 262144) }
+{
+    if piece.as_slice().len() <= FULL {
+        return Ok(());
+    }
+    write_all(writer, piece.as_slice())?;
+    piece.clear();
+    Ok(())
+}
+
+// Puts the explained line of a packet into the piece of the report, where it has one.
+fn tell<W: Sink>(
+    writer: &mut W,
+    piece: &mut Piece,
+    telling: Telling<'_, '_>,
+    place: Place,
+    packet: Packet<'_>,
+    verdict: Verdict,
+) -> Result<(), Fault>
+    requires { W.failures writer.old < 2 ^ 64 - 1 }
+    ensures { HasPushed W.bytes W.failures writer.old writer.new piece.old piece.new
+        (line_by telling.entry place.named place.number
+        (entry_by telling.entry (packet_facts packet.entry) verdict)) result }
+{
+    if !has_line(telling.shown, verdict) {
+        return Ok(());
+    }
+    make_room(writer, piece)?;
+    let entry = entry_of(telling.policy, &telling.table.lines, packet, verdict);
+    push_explained(piece, &telling.table.texts, place, &entry);
+    Ok(())
+}
+
+// Writes the explained report's lines on these packets, of which the first stands at this place.
+fn write_packets<W: Sink>(
+    writer: &mut W,
+    piece: &mut Piece,
+    telling: Telling<'_, '_>,
+    first: Place,
+    packets: &mut Packets<'_>,
+    verdicts: &[Verdict],
+) -> Result<(), Fault>
+    requires sound { W.failures writer.old < 2 ^ 64 - 1 }
+    requires fits { first.number + length verdicts.now < 2 ^ 64 }
+    ensures put { HasPut W.bytes W.failures writer.old writer.new
+        (told_from (line_by telling.entry first.named) first.number (entries_by telling.entry (remaining packets.old) verdicts.now)) result }
+    ensures left { OnOk result (remaining packets.new ≡ drop (length verdicts.now) (remaining packets.old)) }
+{
+    piece.clear();
+    let mut place = first;
+    'verdicts: for verdict in verdicts {
+        let Some(packet) = packets.next() else {
+            write_all(writer, piece.as_slice())?;
+            return Ok(());
+        };
+        tell(writer, piece, telling, place, packet, *verdict)?;
+        place.number += 1;
+    }
+    write_all(writer, piece.as_slice())?;
+    Ok(())
+}
+
+// Writes the explained report on the captures, one after the other.
+fn write_captures<W: Sink>(
+    writer: &mut W,
+    piece: &mut Piece,
+    telling: Telling<'_, '_>,
+    run: Run<'_>,
+) -> Result<(), Fault>
+    requires sound { W.failures writer.old < 2 ^ 64 - 1 }
+    requires counted { packets_in run.captures.now ≡ length run.verdicts.now }
+    ensures { HasPut W.bytes W.failures writer.old writer.new
+        (captures_told (λ captured. line_by telling.entry captured.named) truncation_told 1 (entries_by telling.entry (remaining run.entry.packets) run.entry.verdicts.now) run.entry.captures.now) result }
+{
+    let mut packets = run.packets;
+    let mut others = 0;
+    let mut rest = run.verdicts;
+    let mut left = run.captures;
+    'each: while let Some((captured, after)) = left.split_first() {
+        let (first, behind) = rest.split_at(captured.packets);
+        let place = Place {
+            named: captured.named,
+            number: others as u64 + 1,
+        };
+        write_packets(writer, piece, telling, place, &mut packets, first)?;
+        write_truncation(writer, piece, captured)?;
+        others += captured.packets;
+        rest = behind;
+        left = after;
+    }
+    Ok(())
+}
+
+// Writes the explained report on a run, with its totals.
+fn write_run<W: Sink>(
+    alloc: Global,
+    writer: &mut W,
+    telling: Telling<'_, '_>,
+    run: Run<'_>,
+) -> Result<Totals, Fault>
+    requires sound { W.failures writer.old < 2 ^ 64 - 1 }
+    requires counted { packets_in run.captures.now ≡ length run.verdicts.now }
+    ensures { Writes W.bytes W.failures writer.old writer.new
+        (captures_told (λ captured. line_by telling.entry captured.named) truncation_told 1 (entries_by telling.entry (remaining run.entry.packets) run.entry.verdicts.now) run.entry.captures.now
+        ++ totals_line (totals_of run.entry.verdicts.now run.entry.captures.now))
+        (totals_of run.entry.verdicts.now run.entry.captures.now) result }
+{
+    let mut piece = Piece::new(alloc)?;
+    write_captures(writer, &mut piece, telling, run)?;
+    let totals = totals_on(passed(run.verdicts), run.verdicts, run.captures);
+    write_totals(writer, &mut piece, &totals)?;
+    Ok(totals)
+}
+
+/// Writes a run in explained lines: of each packet that is shown its verdict, what it is, and the line of the rule that decided
+/// it; and the totals. Memory is asked for before the first byte is written.
+pub fn write_explained<W: Sink>(
+    alloc: Global,
+    writer: &mut W,
+    run: Run<'_>,
+) -> Result<Totals, Fault>
+    requires sound { W.failures writer.old < 2 ^ 64 - 1 }
+    requires counted { packets_in run.captures.now ≡ length run.verdicts.now }
+    ensures { (told : List ℕ) × (IsPolicyText run.entry.text.now (policy_facts run.entry.policy.now) → IsExplained (run_facts run.entry) told)
+        × Writes W.bytes W.failures writer.old writer.new told (totals_of run.entry.verdicts.now run.entry.captures.now) result }
+{
+    match rule_table(alloc, run.text) {
+        Ok(table) => {
+            let telling = Telling {
+                shown: run.shown,
+                policy: run.policy,
+                table: &table,
+            };
+            write_run(alloc, writer, telling, run)
+        }
+        Err(_) => Err(Fault::Memory),
+    }
+}

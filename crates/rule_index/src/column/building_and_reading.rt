@@ -1,0 +1,70 @@
+//! Columns made of ranges, and read at a number.
+ghost use Rattle.std.specs.Prelude.{IfOk, IfSome, List, map};
+ghost use Rattle.acl_policy.specs.Rules.{RuleFacts, rule_facts};
+ghost use Rattle.packet_view.specs.Tuples.{TupleFacts};
+ghost use Rattle.rule_index.specs.inner.Columns.{Holds};
+ghost use Rattle.rule_index.specs.declared.dimension.Dimension.{Dimension};
+ghost use Rattle.rule_index.specs.Dimensions.{IsAt};
+ghost use Rattle.rule_index.specs.Indexes.{Sieves};
+ghost use Rattle.rule_index.specs.inner.Sieves.{Sifts};
+
+use super::Column;
+use super::interval_rows::fill;
+use super::interval_starts::{place, starts_of};
+use crate::bit_rows::words_for;
+use crate::dimension::Dimension;
+use crate::ranges_of_rules::ranges_of;
+use acl_policy::Rule;
+use std::alloc::{AllocError, Global};
+
+impl Column {
+    /// Builds the column of some ranges.
+    pub fn new(alloc: Global, ranges: &[(u128, u128)]) -> Result<Column, AllocError>
+        ensures { IfOk result (Holds ranges.now) }
+    {
+        let starts = starts_of(alloc, ranges)?;
+        let width = words_for(ranges.len());
+        let Some(words) = starts.len().checked_mul(width) else {
+            return Err(AllocError);
+        };
+        let mut rows = Vec::from_elem(alloc, 0u64, words)?;
+        fill(&mut rows, &starts, width, ranges);
+        Ok(Column {
+            width,
+            starts,
+            rows,
+        })
+    }
+
+    /// Builds the column of a dimension of rules.
+    pub fn of_rules(
+        alloc: Global,
+        rules: &[Rule],
+        dimension: Dimension,
+    ) -> Result<Column, AllocError>
+        ensures { IfOk result (Sieves dimension (map rule_facts rules.now)) }
+    {
+        let ranges = ranges_of(alloc, rules, dimension)?;
+        Column::new(alloc, &ranges)
+    }
+
+    /// The row of a built column for a number.
+    pub fn row(&self, x: u128) -> &[u64]
+        ensures { (dimension : Dimension) (rules : List RuleFacts) (tuple : TupleFacts) → Sieves dimension rules self.now → IsAt dimension tuple x
+            → Sifts rules tuple result.now }
+    {
+        let from = place(&self.starts, x) * self.width;
+        &self.rows[from..from + self.width]
+    }
+
+    /// The row of a built column for a number that not every packet has, and another row without it.
+    pub fn row_or<'a>(&'a self, x: Option<u128>, other: &'a [u64]) -> &'a [u64]
+        ensures { (dimension : Dimension) (rules : List RuleFacts) (tuple : TupleFacts) → Sieves dimension rules self.now
+            → IfSome x (IsAt dimension tuple) → Sifts rules tuple other.now → Sifts rules tuple result.now }
+    {
+        match x {
+            Some(x) => self.row(x),
+            None => other,
+        }
+    }
+}
