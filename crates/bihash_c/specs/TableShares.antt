@@ -1,4 +1,4 @@
--- Which table a hold of a table is of.
+-- Which table a share is of.
 use Rattle.atomic_table.specs.Seated.{TableId}
 use Rattle.std.specs.Arc.{arc_value}
 use Rattle.bihash_c.specs.declared.table_share.TableShare.{TableShare}

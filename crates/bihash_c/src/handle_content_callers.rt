@@ -19,7 +19,7 @@ impl<S: Shape> Content<S> {
         ensures { IfSome result (IsFirst (sizes_of S.Shape)) }
     {
         match CallerWithTable::first(alloc) {
-            Some(member) => Some(Content::Caller(member)),
+            Some(caller) => Some(Content::Caller(caller)),
             None => None,
         }
     }
@@ -29,17 +29,17 @@ impl<S: Shape> Content<S> {
         requires { HasCaller self.old }
         ensures { SplitTold (sizes_of S.Shape) self.old self.new new.old new.new result }
     {
-        let Content::Caller(member) = mem::replace(self, Content::Empty) else {
+        let Content::Caller(caller) = mem::replace(self, Content::Empty) else {
             unreachable!();
         };
-        match member.split(alloc) {
+        match caller.split(alloc) {
             Ok((first, second)) => {
                 *self = Content::Caller(first);
                 *new = Content::Caller(second);
                 DONE
             }
-            Err((fault, member)) => {
-                *self = Content::Caller(member);
+            Err((fault, caller)) => {
+                *self = Content::Caller(caller);
                 split_refusal(fault)
             }
         }
@@ -50,13 +50,13 @@ impl<S: Shape> Content<S> {
         requires { AreOfOneTable self.old other }
         ensures { JoinTold (sizes_of S.Shape) self.old other self.new }
     {
-        let Content::Caller(member) = mem::replace(self, Content::Empty) else {
+        let Content::Caller(caller) = mem::replace(self, Content::Empty) else {
             unreachable!();
         };
         let Content::Caller(other) = other else {
             unreachable!();
         };
-        *self = Content::Caller(member.join(other));
+        *self = Content::Caller(caller.join(other));
     }
 
     /// Tells two callers of one table what either knows.
@@ -64,14 +64,14 @@ impl<S: Shape> Content<S> {
         requires { AreOfOneTable self.old other.old }
         ensures { MeetTold (sizes_of S.Shape) self.old other.old self.new other.new }
     {
-        let Content::Caller(member) = mem::replace(self, Content::Empty) else {
+        let Content::Caller(caller) = mem::replace(self, Content::Empty) else {
             unreachable!();
         };
         let Content::Caller(met) = mem::replace(other, Content::Empty) else {
             unreachable!();
         };
-        let (member, met) = member.meet(met);
-        *self = Content::Caller(member);
+        let (caller, met) = caller.meet(met);
+        *self = Content::Caller(caller);
         *other = Content::Caller(met);
     }
 
@@ -80,10 +80,10 @@ impl<S: Shape> Content<S> {
         requires { HasCaller self.old }
         ensures { Calls self.old self.new (λ s t. TellsLone (sizes_of S.Shape) s t result) }
     {
-        let Content::Caller(member) = self else {
+        let Content::Caller(caller) = self else {
             unreachable!();
         };
-        member.is_lone()
+        caller.is_lone()
     }
 
     /// The bucket and the stamp of the caller's last answered call.
@@ -91,9 +91,9 @@ impl<S: Shape> Content<S> {
         requires { HasCaller self.now }
         ensures { StampTold self.now result }
     {
-        let Content::Caller(member) = self else {
+        let Content::Caller(caller) = self else {
             unreachable!();
         };
-        stamp_answer(member.stamp())
+        stamp_answer(caller.stamp())
     }
 }

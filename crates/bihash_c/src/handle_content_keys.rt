@@ -12,10 +12,10 @@ impl<S: Shape> Content<S> {
         requires { HasCaller self.old }
         ensures { Calls self.old self.new (SearchTold ⟦<S as Shape>⟧ key.now result) }
     {
-        let Content::Caller(member) = self else {
+        let Content::Caller(caller) = self else {
             unreachable!();
         };
-        search_answer(member.search(key))
+        search_answer(caller.search(key))
     }
 
     /// One try of an update.
@@ -24,10 +24,10 @@ impl<S: Shape> Content<S> {
         requires { HasCaller self.old }
         ensures { Calls self.old self.new (UpdateTold ⟦<S as Shape>⟧ key.now (P.decision patch.now) result) }
     {
-        let Content::Caller(member) = self else {
+        let Content::Caller(caller) = self else {
             unreachable!();
         };
-        reply_answer(member.update(key, patch))
+        reply_answer(caller.update(key, patch))
     }
 
     /// One try of an update with an expiry.
@@ -42,9 +42,9 @@ impl<S: Shape> Content<S> {
         ensures { Calls self.old self.new (RecycleTold ⟦<S as Shape>⟧ key.now (P.decision patch.now)
             (E.is_expired expiry.now) result) }
     {
-        let Content::Caller(member) = self else {
+        let Content::Caller(caller) = self else {
             unreachable!();
         };
-        reply_answer(member.add_or_recycle(key, patch, expiry))
+        reply_answer(caller.add_or_recycle(key, patch, expiry))
     }
 }

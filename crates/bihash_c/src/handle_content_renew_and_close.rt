@@ -14,16 +14,16 @@ impl<S: Shape> Content<S> {
         requires { HasCaller self.old }
         ensures { CloseTold ⟦<S as Shape>⟧ self.old self.new result }
     {
-        let Content::Caller(member) = mem::replace(self, Content::Empty) else {
+        let Content::Caller(caller) = mem::replace(self, Content::Empty) else {
             unreachable!();
         };
-        match member.close(alloc) {
+        match caller.close(alloc) {
             Ok(pairs) => {
                 *self = Content::Pairs(pairs);
                 DONE
             }
-            Err((fault, member)) => {
-                *self = Content::Caller(member);
+            Err((fault, caller)) => {
+                *self = Content::Caller(caller);
                 close_refusal(fault)
             }
         }
@@ -34,16 +34,16 @@ impl<S: Shape> Content<S> {
         requires { HasCaller self.old }
         ensures { RenewTold (sizes_of S.Shape) self.old self.new result }
     {
-        let Content::Caller(member) = mem::replace(self, Content::Empty) else {
+        let Content::Caller(caller) = mem::replace(self, Content::Empty) else {
             unreachable!();
         };
-        match member.renew(alloc) {
-            Ok(member) => {
-                *self = Content::Caller(member);
+        match caller.renew(alloc) {
+            Ok(caller) => {
+                *self = Content::Caller(caller);
                 DONE
             }
-            Err((fault, member)) => {
-                *self = Content::Caller(member);
+            Err((fault, caller)) => {
+                *self = Content::Caller(caller);
                 renew_refusal(fault)
             }
         }

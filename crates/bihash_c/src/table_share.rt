@@ -1,4 +1,4 @@
-//! A caller's hold of its table: its own, or one that other callers have too.
+//! A caller's share of its table: its own, or one that other callers have too.
 ghost use Rattle.std.specs.Prelude.{◌≡◌, IfOk, IfErr};
 ghost use Rattle.bihash_c.specs.TableShares.{row_of};
 

@@ -1,4 +1,4 @@
-//! Updates that wait for their turn: one of any decision, and the four fixed ones.
+//! Updates that are tried until they are answered: one of any decision, and the four fixed ones.
 ghost use Rattle.std.specs.Prelude.{◌≢◌};
 ghost use Rattle.bihash_words.specs.Patches.{free_mark, set_if_absent, set_if_present};
 ghost use Rattle.bihash_words.specs.declared.patch.Change.TheVariants.{Set, Remove};
@@ -12,8 +12,8 @@ use crossbeam_utils::Backoff;
 use std::sync::Wait;
 
 impl<S: Shape> Sessions<S> {
-    /// Decides once on the value of the key, and makes the change that was decided. It waits, and tries again until no
-    /// other caller holds a lock or changes the bucket meanwhile.
+    /// Decides once on the value of the key, and makes the change that was decided. It is tried again, after a wait,
+    /// until no other caller holds a lock or changes the bucket meanwhile.
     #[inline(always)]
     pub fn update<P: Patch, R: Wait>(
         &self,
@@ -35,7 +35,7 @@ impl<S: Shape> Sessions<S> {
         unreachable!()
     }
 
-    /// An update that waits for its turn, and by which a new key that finds no room takes the place of the expired pair
+    /// An update that is tried until it is answered, and by which a new key that finds no room takes the place of the expired pair
     /// of the bucket with the least key, if any: the answer is `Changed(None)` then.
     #[inline(always)]
     pub fn add_or_recycle<P: Patch, E: Expiry, R: Wait>(
@@ -60,7 +60,7 @@ impl<S: Shape> Sessions<S> {
         unreachable!()
     }
 
-    /// Sets the value, whatever was found, by an update that waits for its turn.
+    /// Sets the value, whatever was found, by an update that is tried until it is answered.
     pub fn add<R: Wait>(&self, rt: &R, caller: &mut Caller<S>, key: &S::Key, value: u64) -> Reply
         requires idle { IsIdle self.now.row caller.old.seat }
         requires storable { value ≢ free_mark }
@@ -69,7 +69,7 @@ impl<S: Shape> Sessions<S> {
         self.update(rt, caller, key, &Add { value })
     }
 
-    /// Sets the value where there is none, and keeps one that is there, by an update that waits for its turn.
+    /// Sets the value where there is none, and keeps one that is there, by an update that is tried until it is answered.
     pub fn add_if_absent<R: Wait>(
         &self,
         rt: &R,
@@ -84,7 +84,7 @@ impl<S: Shape> Sessions<S> {
         self.update(rt, caller, key, &AddIfAbsent { value })
     }
 
-    /// Sets the value where there is one, by an update that waits for its turn.
+    /// Sets the value where there is one, by an update that is tried until it is answered.
     pub fn touch<R: Wait>(&self, rt: &R, caller: &mut Caller<S>, key: &S::Key, value: u64) -> Reply
         requires idle { IsIdle self.now.row caller.old.seat }
         requires storable { value ≢ free_mark }
@@ -93,7 +93,7 @@ impl<S: Shape> Sessions<S> {
         self.update(rt, caller, key, &Touch { value })
     }
 
-    /// Removes the value, by an update that waits for its turn.
+    /// Removes the value, by an update that is tried until it is answered.
     pub fn remove<R: Wait>(&self, rt: &R, caller: &mut Caller<S>, key: &S::Key) -> Reply
         requires { IsIdle self.now.row caller.old.seat }
         ensures { TellsUpdate ⟦<S as Shape>⟧ caller.old.seat caller.new.seat key.now (λ _. Remove) result }

@@ -17,7 +17,7 @@ ghost use Rattle.flow_filter.specs.Readings.{AreReadings, IsReading, Reading, Ru
 ghost use Rattle.flow_filter.specs.Updates.{Update, update_of};
 ghost use Rattle.flow_filter.specs.Verdicts.{passes};
 
-/// A policy reads each packet, and in one way: its verdict follows from this reading and from what its bucket holds.
+/// A policy reads each packet, and in one way.
 pub fn each_packet_has_one_reading()
     ensures some { (policy : PolicyFacts) (packet : PacketFacts) → (reading : Reading) × IsReading policy packet reading }
     ensures one { (policy : PolicyFacts) (packet : PacketFacts) (a b : Reading)

@@ -18,8 +18,8 @@ pub struct PacketFlow<'a> {
     pub ghost of_two: { flow.now.side < 2 },
 }
 
-/// The tuple of a packet once more, for its flow or where it has none. A copy of the whole would take the bytes between its
-/// fields along, and a reference to where a packet was viewed would keep each packet's tuple in memory.
+/// A copy of a packet's tuple, field by field. A copy of the whole would take the bytes between its fields along, and a
+/// reference to where a packet was viewed would keep each packet's tuple in memory.
 #[inline(always)]
 pub fn tuple_copy(tuple: &Tuple) -> Tuple
     ensures { tuple_facts result ≡ tuple_facts tuple.now }

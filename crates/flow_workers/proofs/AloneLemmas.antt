@@ -30,7 +30,7 @@ use Rattle.flow_workers.specs.inner.CallerSplits.{IsMadeWhole}
 use Rattle.flow_workers.specs.inner.Jobs.{HasWorked, run_facts}
 use Rattle.flow_workers.specs.inner.Turns.{HaveWorked}
 use Rattle.flow_workers.specs.inner.Work.{RecordContinues}
-use Rattle.flow_workers.proofs.CallerSplitLemmas.{same_traces}
+use Rattle.flow_workers.proofs.WorkerCallerLemmas.{same_traces}
 use Rattle.flow_workers.proofs.MergeLemmas.{one_placed}
 use Rattle.flow_workers.proofs.RestLemmas.{rest_judged}
 use Rattle.flow_workers.proofs.WorkerResultLemmas.{gathered, rest_done}

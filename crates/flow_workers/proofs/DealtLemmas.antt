@@ -1,10 +1,10 @@
 -- A worker at packets that were dealt.
 use Rattle.std.proofs.Common.{◌≡◌, ◌≢◌, ◌∙◌, ◌+◌, ◌<◌, ◌≤◌, ℕ, zero, suc, List, [], ◌∷◌, ◌++◌, Some, Ok, ap, drop, drop-drop, length, get_or, slice_get, refl, subst, sym, arith}
 use Rattle.std.specs.Prelude.{slice_index}
+use Rattle.std.specs.declared.convert.Infallible.{Infallible}
 use Rattle.std.proofs.lemmas.List.{drop_all, drop_more, length-drop}
 use Rattle.std.proofs.lemmas.Option.{slice_get_within}
 use Rattle.packet_view.specs.Captures.{PacketFacts}
-use Rattle.std.specs.declared.convert.Infallible.{Infallible}
 use Rattle.packet_view.specs.CheckedCaptures.{remaining}
 use Rattle.packet_view.specs.Frames.{FrameFacts, frame_facts}
 use Rattle.packet_view.specs.Interfaces.{Interface}

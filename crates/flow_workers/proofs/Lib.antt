@@ -1,6 +1,5 @@
 pub mod AloneLemmas
 pub mod AnsweredUpdates
-pub mod CallerSplitLemmas
 pub mod DealtLemmas
 pub mod JudgedPackets
 pub mod MergeLemmas
@@ -13,4 +12,5 @@ pub mod TurnLemmas
 pub mod ViewedPacketLemmas
 pub mod WantedLemmas
 pub mod WorkSteps
+pub mod WorkerCallerLemmas
 pub mod WorkerResultLemmas

@@ -19,7 +19,7 @@ mod turns_in_threads;
 mod update_tries;
 mod verdict_merge;
 mod viewed_packet;
-mod worker_callers_split_and_joined;
+mod worker_callers;
 mod worker_packet_verdict;
 mod worker_results;
 mod worker_setup;

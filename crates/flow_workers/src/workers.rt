@@ -8,7 +8,7 @@ use crate::judge_in_threads::judge_in_threads;
 use crate::run_fault::RunFault;
 use crate::session_tables::{Callers, Tables};
 use crate::verdict_merge::merge_verdicts;
-use crate::worker_callers_split_and_joined::{join_whole, split_both};
+use crate::worker_callers::{join_whole, split_both};
 use crate::worker_results::results_of;
 use crate::worker_setup::Setup;
 use crate::worker_share::{Batch, Share, WorkerResults};

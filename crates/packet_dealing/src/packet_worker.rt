@@ -29,7 +29,7 @@ fn worker_by_view<A: Shape, B: Shape>(dealer: &Dealer, number: usize, packet: &P
     worker_of::<A, B>(dealer.dealing, dealer.workers, number, flow)
 }
 
-/// The worker that gets the packet with this number where packets are dealt, from 0. A plain frame isn't viewed for it.
+/// The worker to whom the packet with this number is dealt, both counted from 0. A plain frame isn't viewed for it.
 pub fn worker_of_packet<A: Shape, B: Shape>(
     dealer: &Dealer,
     number: usize,

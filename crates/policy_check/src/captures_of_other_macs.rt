@@ -29,7 +29,7 @@ fn is_of(frame: &[u8], own: Mac) -> bool
     begins_with(frame, own) || begins_with(&frame[frame.len().min(6)..], own)
 }
 
-// Whether a frame is for one station and not for a group: without one, no capture is said to be of other MAC addresses.
+// Whether a frame is for the MAC address of one station, and not for a group.
 fn is_for_one(frame: &[u8]) -> bool
     ensures yes { IsTrue result → IsForOne frame.now }
     ensures no { result ≡ false → IsForOne frame.now → ⊥ }

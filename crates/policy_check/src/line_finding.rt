@@ -99,7 +99,7 @@ fn form_finding(line: &[u8]) -> Finding<'_>
     }
 }
 
-/// Why a line at which a policy is wrong is so: what it says can't stand there, or it is of no form.
+/// What is wrong with a line that no policy has: what it says may not stand there, or it has no form.
 pub fn explained(line: &[u8]) -> Finding<'_>
     ensures { Explains line.now (line_in line.now) result.reason result.word.now }
 {

@@ -23,9 +23,9 @@ const BATCH_LINES: usize = 131_072;
 /// The most bytes of a line.
 const LINE_BYTES: usize = 72;
 
-/// Room for lines that are made apart.
+// Room for lines that are made apart.
 #[derive(Drop)]
-pub struct Lines {
+struct Lines {
     piece: Piece,
     text: Vec<u8>,
     /// How many lines have room.
@@ -45,10 +45,10 @@ impl Lines {
         })
     }
 
-    /// Room for the last of so many lines, a part for each thread. A part is written after those before it, so there is
-    /// more time to make it: each has two fifths of what the parts after it leave, and about a fifth of all lines come
-    /// before the parts.
-    pub fn parts(alloc: Global, lines: usize) -> Result<[Lines; 3], AllocError>
+    // Room for the last of so many lines, a part for each thread. A part is written after those before it, so there is
+    // more time to make it: each has two fifths of what the parts after it leave, and about a fifth of all lines come
+    // before the parts.
+    fn parts(alloc: Global, lines: usize) -> Result<[Lines; 3], AllocError>
         requires { lines ≤ 131072 }
         ensures { IfOk result (All HasRoom) }
     {
@@ -85,10 +85,10 @@ fn make_lines(lines: &mut Lines, place: Place, verdicts: &[Verdict]) -> u64
     passed
 }
 
-/// Writes the lines of the packets at this place, and answers how many of them pass. The last lines are made in the parts,
-/// as many as have room there: each part in a thread of its own, or in this one where none can be made, while the lines
-/// before it are made and written.
-pub fn write_beside<W: Sink, T: Threads>(
+// Writes the lines of the packets at this place, and answers how many of them pass. The last lines are made in the parts,
+// as many as have room there: each part in a thread of its own, or in this one where none can be made, while the lines
+// before it are made and written.
+fn write_beside<W: Sink, T: Threads>(
     rt: &T,
     writer: &mut W,
     piece: &mut Piece,
@@ -148,8 +148,8 @@ fn write_batch<W: Sink, T: Threads>(
     }
 }
 
-/// Writes the whole report's lines for the packets at this place, by several threads where they are many and threads can
-/// be made.
+/// Writes the whole report's lines for the packets at this place, by several threads where they are many and threads
+/// can be made.
 pub fn write_packets<W: Sink, T: Threads>(
     beside: Option<&T>,
     alloc: Global,

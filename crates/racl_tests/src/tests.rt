@@ -15,7 +15,7 @@ mod saved;
 mod windows;
 mod windows_of_digits;
 
-// A test of the crates of racl that ends since what it begins with was refused.
+// What tests of racl's crates answer where what they begin with was refused.
 fn refused() -> Result<(), Fail> {
     Err("what the test begins with was refused")?
 }

@@ -78,8 +78,8 @@ fn count_live<const N: usize>(times: &Timeouts, moment: u32, pairs: &[([u64; N],
     count
 }
 
-/// How many sessions a run entered, how many packets they let through, and how many of those entered aren't live any more at the
-/// latest second of any packet.
+/// How many sessions a run entered, how many packets they let through, and how many of those entered aren't live any
+/// more at the latest second of any packet.
 pub fn count_sessions(times: Timeouts, run: Run<'_>, stored: &StoredPairs) -> SessionCounts
     ensures { result ≡ session_counts times (run_facts run.entry) (stored_facts stored.now) }
 {

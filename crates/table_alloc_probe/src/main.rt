@@ -79,7 +79,7 @@ fn fill(
     show_caller(rt, table, caller)
 }
 
-// Two callers of the probe's table for its one, at the second attempt where memory was refused to the first.
+// Two callers of the probe's table in place of its one, at the second attempt where memory was refused to the first.
 fn split_twice(
     rt: &HostRuntime,
     table: &Sessions<Small>,

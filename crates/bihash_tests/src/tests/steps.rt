@@ -10,7 +10,7 @@ use std::test::Fail;
 // Four pages, and eight writes to a bucket. A table of this shape may have 64 callers.
 type Small = Tiny<4, 8>;
 
-// A test of steps that ends since a row or a split was refused.
+// What tests of steps answer where a row or a split was refused.
 fn refused() -> Result<(), Fail> {
     Err("a row or a caller was refused")?
 }

@@ -35,7 +35,7 @@ enum Call {
 // A call on a key, its answer, and the bucket and stamp of its caller after it. A search answers `Kept`.
 type Row = (Call, [u64; 2], Reply, (u64, u64));
 
-// Shared by tests of the table: the end of one in which a table, a split or a renewal was refused.
+// Shared by tests of the table: what they answer where a table, a split or a renewal was refused.
 fn refused() -> Result<(), Fail> {
     Err("a table or a caller was refused")?
 }

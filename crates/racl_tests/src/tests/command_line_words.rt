@@ -8,7 +8,7 @@ use racl_options::{
 use session_state::Timeouts;
 use std::alloc::{AllocError, Global};
 
-// For tests of words: the options that they set.
+// For tests of words of the command line: the options that they set.
 fn set_after<'a>(alloc: Global, words: &'a [&'a str]) -> Option<Options> {
     match options(alloc, words) {
         Ok(asked) => Some(asked.options),
@@ -16,7 +16,7 @@ fn set_after<'a>(alloc: Global, words: &'a [&'a str]) -> Option<Options> {
     }
 }
 
-// For tests of words: where they say that the policy and captures are.
+// For tests of words of the command line: where they say that the policy and captures are.
 fn origin_of<'a>(alloc: Global, words: &'a [&'a str]) -> Option<Origin<'a>> {
     match options(alloc, words) {
         Ok(asked) => Some(asked.origin),
@@ -24,7 +24,7 @@ fn origin_of<'a>(alloc: Global, words: &'a [&'a str]) -> Option<Origin<'a>> {
     }
 }
 
-// For tests of words: the two files that they name.
+// For tests of words of the command line: the two files that they name.
 fn files_of<'a>(alloc: Global, words: &'a [&'a str]) -> Option<Files<'a>> {
     match origin_of(alloc, words) {
         Some(Origin::Files(files)) => Some(files),
@@ -32,7 +32,7 @@ fn files_of<'a>(alloc: Global, words: &'a [&'a str]) -> Option<Files<'a>> {
     }
 }
 
-// For tests of words: the policy and the captures of interfaces that they name.
+// For tests of words of the command line: the policy and the captures of interfaces that they name.
 fn interfaces_of<'a>(alloc: Global, words: &'a [&'a str]) -> Option<Interfaces<'a>> {
     match origin_of(alloc, words) {
         Some(Origin::Interfaces(interfaces)) => Some(interfaces),
@@ -137,7 +137,7 @@ fn words_set_the_options(rt: HostRuntime) {
     }
 }
 
-// For tests of words: which packets they ask to be shown.
+// For tests of words of the command line: which packets they ask to be shown.
 fn shown_after<'a>(alloc: Global, words: &'a [&'a str]) -> Option<Shown> {
     set_after(alloc, words).map(|options| options.shown)
 }
@@ -156,7 +156,7 @@ fn words_select_packets(rt: HostRuntime) {
     }
 }
 
-// For tests of words: what lines tell after them, and whether the run is live.
+// For tests of words of the command line: what lines tell after them, and whether the run is live.
 fn lines_after<'a>(alloc: Global, words: &'a [&'a str]) -> Option<(Lines, bool)> {
     set_after(alloc, words).map(|options| (options.lines, options.live))
 }
@@ -179,7 +179,7 @@ fn words_select_what_lines_tell(rt: HostRuntime) {
     }
 }
 
-// For tests of words: the files that they name for packets to be saved.
+// For tests of words of the command line: the files that they name for packets to be saved.
 fn saved_after<'a>(alloc: Global, words: &'a [&'a str]) -> Option<Saved<'a>> {
     match options(alloc, words) {
         Ok(asked) => Some(asked.saved),
@@ -205,7 +205,7 @@ fn words_name_files_that_get_packets(rt: HostRuntime) {
     }
 }
 
-// For tests of words: the status after those that are refused.
+// For tests of words of the command line: the status after those that are refused.
 fn status_after<'a>(alloc: Global, words: &'a [&'a str]) -> Option<u8> {
     match options(alloc, words) {
         Ok(_) => None,

@@ -117,7 +117,7 @@ const ROWS: [(u8, &[u8], Verdict, &str, &str); 7] = [
     ),
 ];
 
-// For tests of views: what is told, as text or as JSON, of this packet as the only one of a capture.
+// For tests of explained packets: what is told, as text or as JSON, of this packet as the only one of a capture.
 fn told(
     alloc: Global,
     view: View,
@@ -152,7 +152,7 @@ fn told(
     Ok(report.inner)
 }
 
-/// Views of one packet, as explained text and as JSON: what it is, and which rule decided.
+/// One packet explained, as text and as JSON: what it is, and which rule decided.
 #[test]
 fn packets_and_the_rules_that_decided_them(rt: HostRuntime) -> Result<(), Fail> {
     for (interface, frame, verdict, explained, object) in ROWS {

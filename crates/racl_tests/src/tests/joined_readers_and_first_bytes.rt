@@ -8,7 +8,7 @@ use std::alloc::Global;
 use std::io::Read;
 use std::test::Fail;
 
-// For tests of files: 24 bytes that begin with these and have this link field.
+// For tests of first bytes: 24 bytes that begin with these and have this link field.
 fn header(magic: [u8; 4], link: [u8; 4]) -> [u8; 24] {
     let mut bytes = [0; 24];
     bytes[..4].copy_from_slice(&magic);
@@ -16,7 +16,7 @@ fn header(magic: [u8; 4], link: [u8; 4]) -> [u8; 24] {
     bytes
 }
 
-// For tests of files: what is told where 23 of these bytes are there.
+// For tests of first bytes: what is told where 23 of these bytes are there.
 fn told_of_fewer(bytes: &[u8]) -> Option<Other> {
     other_file(&bytes[..bytes.len().min(23)])
 }
@@ -28,7 +28,7 @@ const CAPTURES: [(Form, &[u8]); 3] = [
     (Form::Hexadecimal, b""),
 ];
 
-// For tests of files: a policy and these captures. `None`: memory was refused.
+// For tests of joined readers: a policy and these captures. `None`: memory was refused.
 fn joined(alloc: Global) -> Option<Joined<&'static [u8]>>
     ensures { IfSome result (λ joined. joined.device.failures ≡ 0) }
 {
@@ -44,7 +44,7 @@ fn joined(alloc: Global) -> Option<Joined<&'static [u8]>>
     Some(Joined::new(b"mac".as_slice(), captures))
 }
 
-/// Files of a policy and of captures, one after the other, with marker lines between them.
+/// Joined readers of a policy and of captures, one after the other, with marker lines between them.
 #[test]
 fn readers_are_one_source(rt: HostRuntime) -> Result<(), Fail> {
     let Some(mut joined) = joined(rt.alloc()) else {
@@ -62,7 +62,7 @@ fn readers_are_one_source(rt: HostRuntime) -> Result<(), Fail> {
     Ok(())
 }
 
-// For tests of files: how many bytes came by a read with room for 20.
+// For tests of joined readers: how many bytes came by a read with room for 20.
 fn read_of(kept: &mut FrontKept<&'static [u8]>) -> Option<usize> {
     let mut room = [0; 20];
     match kept.read(&mut room) {
@@ -71,7 +71,7 @@ fn read_of(kept: &mut FrontKept<&'static [u8]>) -> Option<usize> {
     }
 }
 
-/// Files that are read: their front is there afterwards.
+/// First bytes of what is read: they are there afterwards.
 #[test]
 fn first_bytes_are_kept(rt: HostRuntime) {
     let mut kept = FrontKept::new(b"abcdefghijklmnopqrstuvwxyz".as_slice());
@@ -103,7 +103,7 @@ fn first_bytes_tell_other_files(rt: HostRuntime) {
     assert_eq!(rt; told_of_fewer(&pcapng), None);
 }
 
-/// Files that are no captures of Ethernet: after which faults this is told.
+/// First bytes of files that are no captures of Ethernet: after which faults this is told.
 #[test]
 fn a_remark_is_made_where_the_header_is_wrong(rt: HostRuntime) {
     let pcapng = header([0x0a, 0x0d, 0x0d, 0x0a], [0; 4]);

@@ -21,7 +21,7 @@ impl Source for Sevens {
 
     ghost failures = { λ s. s.failures };
 
-    // For tests of devices: a read of seven bytes, or one that fails.
+    // For tests of reads and drains: a read of seven bytes, or one that fails.
     fn read(&mut self, buf: &mut [u8]) -> Result<usize, DeviceFault> {
         if self.reads == 0 {
             self.failures += 1;
@@ -43,7 +43,7 @@ struct Interrupted {
 }
 
 impl Interrupted {
-    // For tests of devices: one that is interrupted so often before each byte.
+    // For tests of reads and drains: one that is interrupted so often before each byte.
     fn new(times: u8) -> Interrupted {
         Interrupted {
             times,
@@ -52,7 +52,7 @@ impl Interrupted {
         }
     }
 
-    // For tests of devices: a read or a write, which is interrupted or moves a byte.
+    // For tests of reads and drains: a read or a write, which is interrupted or moves a byte.
     fn call(&mut self, len: usize) -> io::Result<usize>
         ensures { IfOk result (λ n. n ≤ len) }
     {
@@ -67,19 +67,19 @@ impl Interrupted {
 }
 
 impl Read for Interrupted {
-    // For tests of devices: a read that may be interrupted.
+    // For tests of reads and drains: a read that may be interrupted.
     fn read(&mut self, buf: &mut [u8]) -> io::Result<usize> {
         self.call(buf.len())
     }
 }
 
 impl Write for Interrupted {
-    // For tests of devices: a write that may be interrupted.
+    // For tests of reads and drains: a write that may be interrupted.
     fn write(&mut self, buf: &[u8]) -> io::Result<usize> {
         self.call(buf.len())
     }
 
-    // For tests of devices: nothing waits to be written.
+    // For tests of reads and drains: nothing waits to be written.
     fn flush(&mut self) -> io::Result<()> {
         Ok(())
     }
@@ -97,8 +97,8 @@ fn an_interrupted_device_is_asked_again(rt: HostRuntime) -> Result<(), Fail> {
     Ok(())
 }
 
-// For tests of devices: whether these bytes ended before there were so many, and how many of them are left. `None`: a
-// fault, or so many are more than an input has.
+// For tests of reads and drains: whether these bytes ended before there were so many, and how many of them are left.
+// `None`: a fault, or so many are more than an input has.
 fn read_from(bytes: &[u8], all: &mut Vec<u8>, least: usize) -> Option<(bool, usize)> {
     if least > MOST_BYTES {
         return None;
@@ -110,7 +110,7 @@ fn read_from(bytes: &[u8], all: &mut Vec<u8>, least: usize) -> Option<(bool, usi
     }
 }
 
-/// Devices: a read behind bytes that are there, or to the end.
+/// Reads and drains: a read behind bytes that are there, or to the end.
 #[test]
 fn reads_until_there_are_enough_bytes(rt: HostRuntime) -> Result<(), Fail> {
     const READS: [(usize, Option<(bool, usize)>); 3] = [
@@ -129,7 +129,7 @@ fn reads_until_there_are_enough_bytes(rt: HostRuntime) -> Result<(), Fail> {
     Ok(())
 }
 
-/// Devices: a read into room that is there.
+/// Reads and drains: a read into room that is there.
 #[test]
 fn a_buffer_with_room_does_not_grow(rt: HostRuntime) -> Result<(), Fail> {
     let bytes = vec![in rt.alloc(); 5u8; 2_000_000]?;
@@ -142,7 +142,7 @@ fn a_buffer_with_room_does_not_grow(rt: HostRuntime) -> Result<(), Fail> {
     Ok(())
 }
 
-/// Devices: a read into a buffer that held other bytes.
+/// Reads and drains: a read into a buffer that held other bytes.
 #[test]
 fn a_buffer_is_used_again(rt: HostRuntime) -> Result<(), Fail> {
     let bytes = vec![in rt.alloc(); 5u8; 200_000]?;
@@ -162,7 +162,7 @@ fn a_buffer_is_used_again(rt: HostRuntime) -> Result<(), Fail> {
     Ok(())
 }
 
-/// Devices: reads that give fewer bytes than are asked for, or none and a fault.
+/// Reads and drains: reads that give fewer bytes than are asked for, or none and a fault.
 #[test]
 fn a_read_may_be_short_or_fail(rt: HostRuntime) -> Result<(), Fail> {
     let mut reader = Sevens {
@@ -180,7 +180,7 @@ fn a_read_may_be_short_or_fail(rt: HostRuntime) -> Result<(), Fail> {
     Ok(())
 }
 
-// For tests of devices: what a drain of these bytes answers after so many, and how many of them are left.
+// For tests of reads and drains: what a drain of these bytes answers after so many, and how many of them are left.
 fn drained(bytes: &[u8], read: usize) -> (Option<Fault>, usize)
     requires { read ≤ most_bytes }
 {
@@ -189,7 +189,7 @@ fn drained(bytes: &[u8], read: usize) -> (Option<Fault>, usize)
     (fault, reader.inner.len())
 }
 
-/// Devices: a drain, which keeps nothing, of input that ends, that is too long, or whose read fails.
+/// Reads and drains: a drain, which keeps nothing, of input that ends, that is too long, or whose read fails.
 #[test]
 fn drains_up_to_the_most_bytes(rt: HostRuntime) {
     let bytes = [5; 1000];

@@ -44,7 +44,7 @@ fn worn_then_page_free(rt: HostRuntime) -> Result<(), Fail> {
     Ok(())
 }
 
-// One caller of a table: a bucket whose writes are used up refuses changes alone, and the other one is written.
+// Exhaustion of writes: a bucket whose writes are used up refuses changes alone, and the other one is written.
 #[test]
 fn worn(rt: HostRuntime) -> Result<(), Fail> {
     let Ok((table, mut caller)) = create::<Tiny<8, 3>>(rt.alloc()) else {
@@ -66,7 +66,7 @@ fn worn(rt: HostRuntime) -> Result<(), Fail> {
     Ok(())
 }
 
-// One caller of a table: no larger block is to be had, but the page that a removed pair left is taken again.
+// Exhaustion of pages: no larger block is to be had, but the page that a removed pair left is taken again.
 #[test]
 fn pages_used_up(rt: HostRuntime) -> Result<(), Fail> {
     let Ok((table, mut caller)) = create::<Tiny<2, 1000>>(rt.alloc()) else {
@@ -86,7 +86,7 @@ fn pages_used_up(rt: HostRuntime) -> Result<(), Fail> {
     Ok(())
 }
 
-// One caller of a table: a block of four pages is refused where three are left, and all pairs stay.
+// Exhaustion of pages: a block of four pages is refused where three are left, and all pairs stay.
 #[test]
 fn no_pages_at_the_limit(rt: HostRuntime) -> Result<(), Fail> {
     let Ok((table, mut caller)) = create::<Eight>(rt.alloc()) else {

@@ -6,7 +6,7 @@ use Rattle.bihash_rule.specs.declared.view.View.{View}
 use Rattle.bihash_steps.specs.declared.split_fault.SplitFault.{SplitFault}
 use Rattle.bihash_steps.specs.declared.split_fault.SplitFault.TheVariants.{Memory, Numbers, Contended}
 use Rattle.flow_workers.specs.inner.Fresh.{IsFreshView}
-use Rattle.flow_workers.proofs.worker_callers_split_and_joined.split_one.Goals as goal
+use Rattle.flow_workers.proofs.worker_callers.split_one.Goals as goal
 
 -- a refusal leaves what is held and what was done
 record Stays (v w : View) : Type 0 where

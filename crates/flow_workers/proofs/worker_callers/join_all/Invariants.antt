@@ -5,7 +5,7 @@ use Rattle.bihash_words.specs.Sizes.{Sizes}
 use Rattle.bihash_rule.specs.Views.{nothing_held}
 use Rattle.session_state.specs.declared.timeouts.Timeouts.{Timeouts}
 use Rattle.flow_dealing.specs.Traces.{HaveTraces, Item}
-use Rattle.flow_workers.proofs.worker_callers_split_and_joined.join_all.Given as goal
+use Rattle.flow_workers.proofs.worker_callers.join_all.Given as goal
 
 -- the traces of the callers that are left, and of those that are one
 abbrev pub invariant-loop-caller : goal.invariant-loop-caller

@@ -1,8 +1,8 @@
 use Rattle.std.proofs.Common.{◌∷◌, ap, sym, subst, ◌∙◌}
 use Rattle.bihash_steps.specs.Seats.{CallerState}
 use Rattle.flow_dealing.specs.Traces.{HaveTraces}
-use Rattle.flow_workers.proofs.CallerSplitLemmas.{joined_traces}
-use Rattle.flow_workers.proofs.worker_callers_split_and_joined.join_one.Goals as goal
+use Rattle.flow_workers.proofs.WorkerCallerLemmas.{joined_traces}
+use Rattle.flow_workers.proofs.worker_callers.join_one.Goals as goal
 
 pub returns : goal.returns
 returns g c = record {

@@ -2,8 +2,8 @@ use Rattle.std.proofs.Common.{◌≡◌, ◌∙◌, ◌++◌, ◌∷◌, [], All
 use Rattle.std.specs.List.{AllZip}
 use Rattle.bihash_rule.specs.Views.{nothing_held}
 use Rattle.flow_dealing.specs.Traces.{HaveTraces, Item}
-use Rattle.flow_workers.proofs.CallerSplitLemmas.{all_but_last, last_of, no_traces}
-use Rattle.flow_workers.proofs.worker_callers_split_and_joined.join_all.Goals as goal
+use Rattle.flow_workers.proofs.WorkerCallerLemmas.{all_but_last, last_of, no_traces}
+use Rattle.flow_workers.proofs.worker_callers.join_all.Goals as goal
 
 pub loop-caller-init : goal.loop-caller-init
 loop-caller-init g c =
