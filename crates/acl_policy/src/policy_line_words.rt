@@ -6,7 +6,7 @@ use crate::rule::Action;
 use packet_view::{Direction, Family};
 use policy_words::number_up_to;
 
-/// The direction that a word of a policy's line says.
+/// A word of a policy's line that says a direction.
 pub fn direction_of(word: &[u8]) -> Option<Direction>
     ensures { result ≡ direction_in word.now }
 {
@@ -17,7 +17,7 @@ pub fn direction_of(word: &[u8]) -> Option<Direction>
     }
 }
 
-/// The action that a word of a policy's line says.
+/// A word of a policy's line that says an action.
 pub fn action_of(word: &[u8]) -> Option<Action>
     ensures { result ≡ action_in word.now }
 {
@@ -33,7 +33,7 @@ pub fn action_of(word: &[u8]) -> Option<Action>
     None
 }
 
-/// The family that a word of a policy's line says.
+/// A word of a policy's line that says a family.
 pub fn family_of(word: &[u8]) -> Option<Family>
     ensures { result ≡ family_in word.now }
 {
@@ -44,7 +44,7 @@ pub fn family_of(word: &[u8]) -> Option<Family>
     }
 }
 
-/// The number of an interface, in the policy's line that begins its section.
+/// The words of a policy's line that begin the section of an interface: its number.
 #[tactic(auto, unfolding(crate::specs::inner::Reading::Lines::interface_in))]
 pub fn interface_of(word: &[u8]) -> Option<u8>
     ensures { result ≡ interface_in word.now }

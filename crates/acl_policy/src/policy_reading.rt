@@ -82,7 +82,7 @@ pub fn add_line(
     Ok(())
 }
 
-/// A policy of which no line was read.
+/// With what the reading of a policy begins: no line was read.
 pub fn empty_draft(alloc: Global) -> Draft
     ensures { draft_facts result ≡ record { done = []; current = empty_section 0 } }
 {

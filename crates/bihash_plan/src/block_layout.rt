@@ -36,7 +36,7 @@ pub fn lay<S: Shape>(
     put::<S>((*key, value), size, next, out);
 }
 
-/// Makes each place of the block free, before pairs are rehashed into it.
+/// Makes each place of the block free, before pairs are laid out in it.
 fn clear<K: Copy>(key: K, out: &mut [(K, u64)])
     ensures { out.new ≡ replicate (length out.old) (key, free_mark) }
 {

@@ -12,8 +12,8 @@ use bihash_steps::{Caller, SplitFault};
 use bihash_words::Shape;
 use std::alloc::Global;
 
-/// The bucket and the stamp of the last answered call of a table's caller under its acting number, refusals other than
-/// Contended included. `None` before the first.
+/// Of a table's caller, split and joined or not: the bucket and the stamp of the last answered call under its acting
+/// number, refusals other than Contended included. `None` before the first.
 pub fn stamp<S: Shape>(caller: &Caller<S>) -> Option<(u64, u64)>
     ensures { result ≡ stamp_of caller.now.seat.view.records }
 {

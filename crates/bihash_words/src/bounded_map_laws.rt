@@ -39,7 +39,7 @@ pub fn maps_stay_bounded()
         → e.reply ≡ Full → most_pairs b ≤ len m }
 {}
 
-/// What a call found is what its reply tells, and what the map gives at its key.
+/// On the bounded map, what a call found is what its reply tells, and what the map gives at its key.
 #[tactic(auto, using(crate::proofs::MapLemmas::found_is_told, crate::proofs::MapLemmas::stored_is_told))]
 pub fn replies_tell_what_was_found()
     ensures found { (b : Bounds) (m n : Pairs) (w : ℕ) (e : Event) → IsEvent b m w e n → e.found ≡ found_by e.reply }
@@ -56,8 +56,8 @@ pub fn runs_join_and_part()
         → (middle : Pairs) × (v : ℕ) × IsRun b m w before middle v × IsRun b middle v after last n }
 {}
 
-/// A call that decides by what it finds, and has an expiry or none, has one answer where pages don't run out, and
-/// leaves one map.
+/// On the bounded map, a call that decides by what it finds, and has an expiry or none, has one answer where pages
+/// don't run out, and leaves one map.
 #[tactic(auto, using(crate::proofs::CallLemmas::some_call, crate::proofs::CallLemmas::one_call))]
 pub fn each_call_has_one_answer()
     ensures some { (b : Bounds) (m : Pairs) (w : ℕ) (key : List ℕ) (decision : Option ℕ → Change) (expired : List ℕ)

@@ -52,6 +52,7 @@ pub struct Add {
 impl Patch for Add {
     ghost decision = { λ patch old. Set patch.value };
 
+    /// The patch sets the value.
     fn decide(&self, _old: Option<u64>) -> Change {
         Change::Set(self.value)
     }
@@ -67,6 +68,7 @@ pub struct AddIfAbsent {
 impl Patch for AddIfAbsent {
     ghost decision = { λ patch old. set_if_absent patch.value old };
 
+    /// The patch sets the value where there is none.
     fn decide(&self, old: Option<u64>) -> Change {
         match old {
             None => Change::Set(self.value),
@@ -82,6 +84,7 @@ pub struct Delete;
 impl Patch for Delete {
     ghost decision = { λ patch old. Remove };
 
+    /// The patch removes the value.
     fn decide(&self, _old: Option<u64>) -> Change {
         Change::Remove
     }
@@ -97,6 +100,7 @@ pub struct Touch {
 impl Patch for Touch {
     ghost decision = { λ patch old. set_if_present patch.value old };
 
+    /// The patch sets the value where there is one.
     fn decide(&self, old: Option<u64>) -> Change {
         match old {
             Some(_) => Change::Set(self.value),

@@ -35,7 +35,7 @@ fn digit_value(b: u8) -> Option<u8>
     if value < 16 { Some(value) } else { None }
 }
 
-// Whether what is to be a source has hexadecimal digits and blanks alone.
+// Whether all that is to be decoded as a source are hexadecimal digits and blanks.
 fn are_all_digits(content: &[u8]) -> bool
     ensures { result ≡ are_plain content.now }
 {

@@ -154,7 +154,7 @@ fn totals_at<J>(live: &Live<J>, truncated: bool) -> Totals
     }
 }
 
-// What stands behind the lines of all packets of a live capture.
+// Live telling ends with what stands behind the lines of all packets of a capture.
 fn write_end<W: Sink>(writer: &mut W, piece: &mut Piece, totals: &Totals) -> Result<(), Fault>
     requires { W.failures writer.old < 2 ^ 64 - 1 }
     ensures { HasPutFront W.bytes W.failures writer.old writer.new (end_text totals.now) result }

@@ -33,7 +33,7 @@ pub fn index_of(
     Ok(Some(RuleIndex::new(alloc, rules)?))
 }
 
-/// A filter's rules of one direction, which are searched by their index where they have one.
+/// Rules of one direction that are searched by their index, where the filter has indexes.
 pub fn searched<'a>(rules: &'a [Rule], index: &'a Option<RuleIndex>) -> Ruleset<'a>
     requires few { length rules.now ≤ most_rules }
     requires index { ForSome index.now (λ index. index.rules.items ≡ rules.now) }

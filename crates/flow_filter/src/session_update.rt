@@ -9,7 +9,7 @@ use acl_policy::Action;
 use packet_view::Fields;
 use session_state::{PacketPatch, Timeouts};
 
-// The flags with which a packet updates its session.
+// The flags of a packet's fields, with which the update of its session is made.
 fn flags_of(fields: &Fields) -> u8
     ensures { result ≡ Updates.flags_of fields.now }
 {

@@ -29,7 +29,7 @@ fn judge_chunk<'a, A: Shape, B: Shape, R: Wait, G: Gate>(
     Ok(())
 }
 
-// Judges the packets of a worker by its share.
+// Judges the packets that are dealt to a worker, by its share.
 fn work_on<'a, A: Shape, B: Shape, R: Wait, G: Gate>(
     batch: &Batch<'_, '_, 'a, A, B, R, G>,
     dealt: Dealt<'_, 'a>,

@@ -13,7 +13,7 @@ use std::alloc::{AllocError, Global};
 use std::sync::Wait;
 use std::thread::Threads;
 
-// The workers of the packets of these chunks come after those that are there.
+// Before packets are judged in threads, the workers of these chunks' packets are noted after those that are there.
 fn note_workers(judges: &mut Vec<u8>, dealt: &[DealtChunk<'_>]) -> Result<(), AllocError>
     ensures { IfOk result (λ _. judges.new.items ≡ judges.old.items ++ workers_in dealt.now) }
 {

@@ -16,7 +16,7 @@ use std::alloc::Global;
 use std::mem::replace;
 use std::sync::Wait;
 
-// What its worker said, which is in the share no longer. The worker waits until it has every number that was made.
+// What its worker said, which is kept in the share no longer. The worker waits until it has every number that was made.
 fn let_go<A: Shape, B: Shape, R: Wait>(
     rt: &R,
     alloc: Global,

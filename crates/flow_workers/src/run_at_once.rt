@@ -23,7 +23,7 @@ use std::alloc::Global;
 use std::sync::Wait;
 use std::thread::Threads;
 
-// The verdicts on the packets, in their order, by workers of this setup, which begin with these callers.
+// Runs workers of this setup at once, on all packets: their verdicts, in the packets' order.
 fn run_setup<
     A: Shape + Send + Sync,
     B: Shape + Send + Sync,

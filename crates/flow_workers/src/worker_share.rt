@@ -21,7 +21,7 @@ pub struct Batch<'t, 'f, 'a, A: Shape, B: Shape, R: Wait, G: Gate> {
 impl<'t, 'f, 'a, A: Shape, B: Shape, R: Wait, G: Gate> Batch<'t, 'f, 'a, A, B, R, G> {
     ghost use Rattle.std.specs.Prelude.{◌≡◌};
 
-    /// The batch once more, for another worker.
+    /// The batch once more, for another worker with a share.
     pub fn again(&self) -> Batch<'t, 'f, 'a, A, B, R, G>
         ensures { result ≡ self.now }
     {

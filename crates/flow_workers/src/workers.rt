@@ -19,7 +19,7 @@ use std::alloc::{AllocError, Global};
 use std::sync::Wait;
 use std::thread::Threads;
 
-// What one of new workers begins with: a share with these callers, which judged nothing.
+// A new one among workers: its share with these callers, which judged nothing.
 fn unused<A: Shape, B: Shape>(alloc: Global, callers: Callers<A, B>) -> Share<A, B>
     ensures callers { result.callers ≡ callers }
     ensures silent { result.said.items ≡ [] }
@@ -30,8 +30,8 @@ fn unused<A: Shape, B: Shape>(alloc: Global, callers: Callers<A, B>) -> Share<A,
     }
 }
 
-// The shares of so many workers that judged nothing, each with callers of its own. A worker keeps the callers that were
-// split, and the new ones are split on: so the workers' numbers are in the order of their turns.
+// The shares of so many new workers, each with callers of its own. A worker keeps the callers that were split, and the
+// new ones are split on: so the workers' numbers are in the order of their turns.
 fn split_shares<A: Shape, B: Shape, R: Wait>(
     rt: &R,
     alloc: Global,

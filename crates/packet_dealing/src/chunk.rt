@@ -40,6 +40,7 @@ impl<'a, A: Shape, B: Shape> Task for Chunk<'a, A, B> {
 
     ghost becomes = { BecomesDealt ⟦<A as Shape>⟧ ⟦<B as Shape>⟧ };
 
+    /// As a task, a chunk is dealt.
     fn run(self) -> Chunk<'a, A, B> {
         match self {
             Chunk::Ahead(job) => Chunk::Over(deal_chunk(job)),

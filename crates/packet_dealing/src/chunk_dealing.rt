@@ -10,7 +10,7 @@ use bihash_words::Shape;
 use packet_view::{PacketBursts, Packets};
 use std::alloc::AllocError;
 
-// The packets from the first of a chunk on, where so many stand before it.
+// The packets from the first of the dealt chunk on, where so many stand before it.
 fn skip<'a>(packets: Packets<'a>, count: usize) -> Packets<'a>
     ensures { remaining result ≡ drop count (remaining packets.entry) }
 {

@@ -44,7 +44,7 @@ fn before_length(word: &[u8]) -> &[u8]
     }
 }
 
-// The two groups that stand for the IPv4 address in which a rule's prefix ends.
+// While a prefix is checked: the two groups that stand for the IPv4 address in which its IPv6 address ends.
 fn dotted_end(word: &[u8]) -> Option<(u16, u16)>
     ensures { IfSome result (λ groups. HasDottedEnd word.now groups.0 groups.1) }
 {

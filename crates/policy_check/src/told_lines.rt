@@ -72,7 +72,7 @@ fn rule_count(policy: &Policy) -> usize {
     count
 }
 
-// Adds what the text of a check tells of a policy: the remarks on it, and then how many rules and sections it has.
+// Adds the lines that are told of a policy: the remarks on it, and then how many rules and sections it has.
 fn push_policy(alloc: Global, out: &mut Vec<u8>, policy: &Policy) -> Result<(), AllocError> {
     let remarks = remarks_on(alloc, policy)?;
     for remark in &remarks {

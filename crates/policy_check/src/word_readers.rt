@@ -18,7 +18,7 @@ pub fn next(text: &[u8]) -> Option<(&[u8], &[u8])>
     acl_policy::next_word(text)
 }
 
-/// Whether a word is this one.
+/// Reads a word of a checked policy: whether it is this one.
 pub fn is_word(word: &[u8], name: &[u8]) -> bool
     ensures { IsTrue result → word.now ≡ name.now }
 {

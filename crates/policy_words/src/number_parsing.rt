@@ -63,7 +63,7 @@ pub fn group_of(word: &[u8]) -> Option<u16>
     Some(number as u16)
 }
 
-/// The number that two hexadecimal digits spell.
+/// Parses the number that two hexadecimal digits of a policy's word spell.
 #[tactic(auto, unfolding(crate::specs::inner::Reading::Numerals::pair_in))]
 pub fn pair_of(word: &[u8]) -> Option<u8>
     ensures { result ≡ pair_in word.now }

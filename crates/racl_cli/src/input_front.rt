@@ -104,7 +104,7 @@ fn open_whole(alloc: Global, options: &Options, bytes: Vec<u8>) -> Result<Front,
     }
 }
 
-/// Reads all that an input has behind these bytes at its front.
+/// Reads all that an input has behind its front, which these bytes are.
 pub fn read_rest<R: Source>(reader: &mut R, bytes: &mut Vec<u8>) -> Result<(), Fault>
     requires { R.failures reader.old < 2 ^ 64 - 1 }
     ensures ok { OnOk result (HasRest (R.bytes reader.old) (R.bytes reader.new) bytes.old.items bytes.new.items) }

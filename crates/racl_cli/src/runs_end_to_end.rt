@@ -60,7 +60,7 @@ fn judge_source<R: Source + Send, T: Threads + Wait + Sync>(
     }
 }
 
-// What the packets met of an input whose bytes a run reads to the end, and keeps, before it judges.
+// A run on an input whose bytes are read to the end, and kept, before it is judged: what its packets met.
 fn judge_kept<R: Source + Send, T: Threads + Wait + Sync>(
     rt: &T,
     alloc: Global,
@@ -136,7 +136,8 @@ pub fn run<R: Source + Send, W: Sink, T: Threads + Wait + Sync>(
     }
 }
 
-/// Reads an input, filters its captures by its policy, and writes the report, as `run` does; and then saves packets of it.
+/// A run from end to end: reads an input, filters its captures by its policy, and writes the report, as `run` does; and
+/// then saves packets of it.
 ///
 /// Nothing is written before the whole input was judged, and nothing is saved before the report is written.
 pub fn run_saving<R: Source + Send, W: Sink, S: Sink, T: Threads + Wait + Sync>(

@@ -148,8 +148,8 @@ fn write_batch<W: Sink, T: Threads>(
     }
 }
 
-/// Writes the whole report's lines for the packets at this place, by several threads where they are many and threads
-/// can be made.
+/// Writes the report's lines for the packets at this place, in several threads where they are many and threads can be
+/// made.
 pub fn write_packets<W: Sink, T: Threads>(
     beside: Option<&T>,
     alloc: Global,

@@ -11,7 +11,7 @@ use flow_filter::Verdict;
 /// How many packets have their lines in one piece. A line has at most 72 bytes.
 pub const LINES: usize = 3600;
 
-/// The number of the rule in a packet's line: it has few digits, which are pushed one by one.
+/// The number of the rule in the report's packet line: it has few digits, which are pushed one by one.
 #[tactic(auto, using(std::proofs::lemmas::Fmt::decimal_digit, std::proofs::lemmas::Fmt::decimal_step, crate::proofs::NumeralLemmas::length_digit, crate::proofs::NumeralLemmas::length_step))]
 fn push_number(piece: &mut Piece, n: u64)
     requires { length piece.old + length (decimal n) ≤ 262144 }

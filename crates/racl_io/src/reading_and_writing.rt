@@ -20,7 +20,7 @@ const PART_BYTES: usize = 32_768;
 /// for the most at once: so none of them are moved again, and pages are touched only where bytes come.
 const SMALL_BYTES: usize = 1_048_576;
 
-// Keeps bytes of an input, as reading gives them, behind those that were read before.
+// Keeps bytes that reading an input gave, behind those that were there.
 fn keep(all: &mut Vec<u8>, bytes: &[u8]) -> Result<(), AllocError>
     requires { vec_len all.old ≤ most_bytes }
     ensures items { OnOk result (all.new.items ≡ all.old.items ++ bytes.now) }

@@ -44,7 +44,7 @@ fn push_truncation(piece: &mut Piece, captured: &Captured)
     piece.push(b"\n");
 }
 
-/// Writes the report's line that a capture is truncated, where it is.
+/// Writes the line on a truncated capture, which stands with the totals in a report, where the capture is truncated.
 pub fn write_truncation<W: Sink>(
     writer: &mut W,
     piece: &mut Piece,

@@ -62,7 +62,7 @@ fn are_files(origin: &Origin<'_>) -> bool
     matches!(origin, Origin::Files(_))
 }
 
-// Whether `--live` goes with these other options: verdicts can be written as packets come beside them.
+// Whether the other options that are asked go with `--live`: verdicts can be written as packets come beside them.
 fn is_simple_run(options: &Options) -> bool
     ensures { result ≡ told.is_simple_run (option_facts options.now) }
 {
@@ -79,7 +79,7 @@ fn is_saved(saved: &Saved<'_>) -> bool
     saved.drops.is_some() || saved.passes.is_some()
 }
 
-// Whether `--drops` and `--passes` ask for one file, which can't get both.
+// Whether the options that are asked name one file for `--drops` and `--passes`, which can't get both.
 fn is_shared(drops: Option<&str>, passes: Option<&str>) -> bool
     ensures { result ≡ told.is_shared (text_behind drops.entry) (text_behind passes.entry) }
 {

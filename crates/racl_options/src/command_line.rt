@@ -48,7 +48,7 @@ pub fn options<'a>(alloc: Global, words: &'a [&'a str]) -> Result<Asked<'a>, Err
     }
 }
 
-/// The status with which the program ends after words of the command line that `options` refuses.
+/// The status with which the program ends after a command line whose words `options` refuses.
 pub fn words_status(error: &Error) -> u8
     ensures request { IsRequest (kind_of error.now) → result ≡ 0 }
     ensures memory { kind_of error.now ≡ ErrorKind.OutOfMemory → result ≡ 4 }

@@ -13,7 +13,7 @@ use crate::settings::{Lines, Saved};
 use clap::ArgMatches;
 use racl_io::Shown;
 
-/// Whether the matches have the flag.
+/// Whether the matches have the flag that selects an output.
 pub fn is_given(matches: &ArgMatches<'_>, flag: &str) -> bool
     ensures { result ≡ Selections.is_given (first_value (found_of matches.now) flag.now) }
 {
@@ -60,7 +60,7 @@ pub fn lines_named(matches: &ArgMatches<'_>) -> Lines
     }
 }
 
-/// The files that are to get packets, as the matches have them.
+/// The files that are selected to get packets, as the matches have them.
 pub fn saved_named<'a>(matches: &ArgMatches<'a>) -> Saved<'a>
     ensures drops { text_behind result.drops ≡ first_value (found_of matches.now) drops_id }
     ensures passes { text_behind result.passes ≡ first_value (found_of matches.now) passes_id }

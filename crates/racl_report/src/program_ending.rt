@@ -41,7 +41,7 @@ pub fn ending(outcome: &Result<Totals, Fault>) -> Ending
     }
 }
 
-/// What the program tells at its end of a capture file that begins with these bytes, behind the message on the fault.
+/// What a program's ending tells of a capture file that begins with these bytes, behind the message on the fault.
 pub fn remark(outcome: &Result<Totals, Fault>, front: &[u8]) -> Option<Other>
     ensures { result ≡ remark_on outcome.now front.now }
 {

@@ -11,7 +11,7 @@ use racl_options::Origin;
 use std::alloc::Global;
 use std::fs::metadata;
 
-// Whether a capture of these bytes has this fault.
+// Whether a capture of these bytes is the faulty one, by this fault of a run.
 fn has_fault(bytes: &[u8], fault: Fault) -> bool
     ensures yes { IsTrue result → IsFaultOfCapture bytes.now fault }
     ensures no { result ≡ false → IsFaultOfCapture bytes.now fault → ⊥ }

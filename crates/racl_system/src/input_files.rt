@@ -66,7 +66,7 @@ pub fn policy_name<'a>(origin: &Origin<'a>) -> &'a str
     }
 }
 
-/// The name of the input's capture file at this place, from 0; None where the origin has no such file.
+/// The name of the capture file at this place among the input's files, from 0; None where the origin has no such file.
 pub fn name_at<'a>(origin: &Origin<'a>, place: usize) -> Option<&'a str>
     ensures { text_behind result ≡ named.name_at (origin_facts origin.now) place }
 {
@@ -77,7 +77,7 @@ pub fn name_at<'a>(origin: &Origin<'a>, place: usize) -> Option<&'a str>
     }
 }
 
-/// The number of the interface of the input's capture file at this place, as of `name_at`.
+/// The interface of the capture file at this place among the input's files, as of `name_at`.
 pub fn interface_at(origin: &Origin<'_>, place: usize) -> Option<u8>
     ensures { result ≡ named.interface_at (origin_facts origin.now) place }
 {

@@ -91,7 +91,7 @@ pub fn write_chosen<W: Sink>(
     }
 }
 
-/// What is written of a capture is one: of the chosen packets in their order, and whole.
+/// What is written of a capture is a capture of the chosen packets, in their order and whole.
 pub fn chosen_packets_are_a_capture()
     ensures records { (capture : List ℕ) (records : List RecordFacts) (end : End) → IsCapture capture records end → HasRecords capture records }
     ensures capture { (chosen : Chosen) (verdicts : List Verdict) (capture : List ℕ) (records : List RecordFacts) (written : List ℕ)

@@ -175,7 +175,7 @@ fn tell_hits(alloc: Global, view: View, hits: &[Hit]) -> Result<Vec<u8>, AllocEr
     Ok(text)
 }
 
-// Puts the hits of rules behind others, by the counts of all.
+// Hits that are told as text or JSON: those of rules behind others, by the counts of all.
 fn push_rules(hits: &mut Vec<Hit>, counts: &[u64], rules: &[RuleLine]) -> Result<(), AllocError>
     ensures { OnOk result ((deciding : List (Option RuleName)) → Count counts.now deciding
         → hits.new.items ≡ hits.old.items ++ rule_hits deciding rules.now) }
@@ -186,14 +186,14 @@ fn push_rules(hits: &mut Vec<Hit>, counts: &[u64], rules: &[RuleLine]) -> Result
     Ok(())
 }
 
-// The hit of a reason that is no rule, by the verdicts that have it.
+// A hit that is told as text or JSON: that of a reason that is no rule, by the verdicts that have it.
 fn unruled(reason: Reason, verdicts: &[Verdict]) -> Hit
     ensures { result ≡ Unruled reason (count_by (has_reason reason) verdicts.now) }
 {
     Hit::Unruled(reason, count_reason(reason, verdicts))
 }
 
-// Puts the hits of the reasons that are no rules behind others.
+// Hits that are told as text or JSON: those of the reasons that are no rules, behind others.
 fn push_reasons(hits: &mut Vec<Hit>, verdicts: &[Verdict]) -> Result<(), AllocError>
     ensures { OnOk result (hits.new.items ≡ hits.old.items ++ reason_hits verdicts.now) }
 {
@@ -210,7 +210,7 @@ fn push_reasons(hits: &mut Vec<Hit>, verdicts: &[Verdict]) -> Result<(), AllocEr
     Ok(())
 }
 
-// Puts the hits of sessions, by their counts, behind others.
+// Hits that are told as text or JSON: those of sessions, by their counts, behind others.
 fn push_sessions(hits: &mut Vec<Hit>, counts: SessionCounts) -> Result<(), AllocError>
     ensures { OnOk result (hits.new.items ≡ hits.old.items ++ session_hits counts) }
 {

@@ -95,13 +95,14 @@ fn add_source_fields(object: &mut Writer, fields: Fields) -> Result<(), AllocErr
     }
 }
 
-// The port of the destination in the object of a packet.
+// The port of the destination, in a packet's object of JSON.
 fn add_dest_port(object: &mut Writer, port: u16) -> Result<(), AllocError>
     ensures { OnOk result (HasAdded object.old object.new (number (codes "destination_port") port ∷ [])) }
 {
     add_number(object, "destination_port", u64::from(port))
 }
 
+// The type and the code of ICMP, in a packet's object of JSON.
 fn add_icmp(object: &mut Writer, kind: u8, code: u8) -> Result<(), AllocError>
     ensures { OnOk result (HasAdded object.old object.new (number (codes "type") kind ∷ number (codes "code") code ∷ [])) }
 {

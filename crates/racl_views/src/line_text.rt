@@ -8,7 +8,7 @@ use packet_view::Family;
 use racl_io::{Numeral, Piece};
 use std::alloc::AllocError;
 
-/// A word and a number, as lines of several kinds have them in their text.
+/// Text of a line: a word and a number, as lines of several kinds have them.
 pub fn push_numbered(piece: &mut Piece, word: &[u8], number: u64)
     requires { length piece.old + length word.now + 24 ≤ 262144 }
     ensures text { piece.new ≡ piece.old ++ numbered word.now number }

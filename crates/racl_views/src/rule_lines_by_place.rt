@@ -42,7 +42,7 @@ fn lines_at_places(alloc: Global, rules: &[RuleLine]) -> Result<Vec<u64>, AllocE
     Ok(lines)
 }
 
-/// The rules of a policy's text, their lines by place, and what is shown of these. An `Err` says that memory ran out.
+/// The lines of a policy's rules by their places, with what is shown of the rules. An `Err` says that memory ran out.
 pub fn rule_table(alloc: Global, text: &[u8]) -> Result<RuleTable<'_>, AllocError>
     ensures { IfOk result (IsTableOf text.now) }
 {

@@ -13,7 +13,7 @@ use acl_policy::{Line, line_of};
 use packet_view::Direction;
 use std::alloc::{AllocError, Global};
 
-// A rule of the section that goes on at the spot, in the line with this number.
+// Numbers a rule of the section that goes on at the spot, in the line with this number.
 fn numbered(spot: &Spot, direction: Direction, others: u64, line: u64) -> RuleLine
     requires { others < line }
     ensures { result ≡ record { rule = record { interface = spot.now.interface; direction = direction; number = others + 1 }; line = line } }
@@ -28,7 +28,7 @@ fn numbered(spot: &Spot, direction: Direction, others: u64, line: u64) -> RuleLi
     }
 }
 
-// The rule in the line behind the spot, which has this number and says this.
+// Numbers the rule in the line behind the spot, which has this number and says this.
 fn rule_at(spot: &Spot, line: u64, said: Line) -> Option<RuleLine>
     requires { IsShort spot.now line }
     ensures { (before : List LineFacts) → IsBehind before spot.now → line ≡ length before + 1
@@ -45,7 +45,7 @@ fn rule_at(spot: &Spot, line: u64, said: Line) -> Option<RuleLine>
     }
 }
 
-// The spot behind that line.
+// While rules are numbered: the spot behind that line.
 fn behind(spot: &Spot, line: u64, said: Line) -> Spot
     requires { IsShort spot.now line }
     ensures { (before : List LineFacts) → IsBehind before spot.now → IsBehind (line_facts said ∷ before) result }
@@ -86,7 +86,7 @@ fn reading(line: &[u8]) -> Line
     }
 }
 
-// Passes the line behind the spot, which has this number and says this.
+// While rules are numbered: passes the line behind the spot, which has this number and says this.
 fn pass(rules: &mut Vec<RuleLine>, spot: &mut Spot, line: u64, said: Line) -> Result<(), AllocError>
     requires { IsShort spot.old line }
     ensures rule { OnOk result ((before : List LineFacts) → IsBehind before spot.old → line ≡ length before + 1
@@ -100,7 +100,7 @@ fn pass(rules: &mut Vec<RuleLine>, spot: &mut Spot, line: u64, said: Line) -> Re
     Ok(())
 }
 
-// The rules of a policy's text that is UTF-8, with their numbers and lines.
+// Numbers the rules of a policy's text that is UTF-8, with their lines.
 fn rules_in(alloc: Global, text: &str) -> Result<Vec<RuleLine>, AllocError>
     ensures { IfOk result (λ rules. rules.items ≡ rules_from [] (map said (lines text.now))) }
 {
@@ -118,7 +118,7 @@ fn rules_in(alloc: Global, text: &str) -> Result<Vec<RuleLine>, AllocError>
     Ok(rules)
 }
 
-/// The rules of a policy's text in the order of their lines, with their numbers. An `Err` says that memory ran out.
+/// Numbers the rules of a policy's text in the order of their lines. An `Err` says that memory ran out.
 pub fn rule_lines(alloc: Global, text: &[u8]) -> Result<Vec<RuleLine>, AllocError>
     ensures { IfOk result (λ rules. (policy : PolicyFacts) → IsPolicyText text.now policy → AreRules text.now rules.items) }
 {

@@ -63,7 +63,7 @@ fn tell<W: Sink>(
     Ok(())
 }
 
-// Writes the explained report's lines on these packets, of which the first stands at this place.
+// Writes the explained lines on these packets, of which the first stands at this place.
 fn write_packets<W: Sink>(
     writer: &mut W,
     piece: &mut Piece,
@@ -92,7 +92,7 @@ fn write_packets<W: Sink>(
     Ok(())
 }
 
-// Writes the explained report on the captures, one after the other.
+// Writes the explained lines on the captures, one after the other.
 fn write_captures<W: Sink>(
     writer: &mut W,
     piece: &mut Piece,
@@ -123,7 +123,7 @@ fn write_captures<W: Sink>(
     Ok(())
 }
 
-// Writes the explained report on a run, with its totals.
+// Writes the explained lines on a run, with its totals.
 fn write_run<W: Sink>(
     alloc: Global,
     writer: &mut W,

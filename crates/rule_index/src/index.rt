@@ -39,7 +39,7 @@ pub struct RuleIndex {
     pub ghost flags_sieves: { SievesFlags (map rule_facts rules.items) flags },
 }
 
-// The source port of a packet, or its type, by which the index of rules is searched.
+// The index is searched by this number of a packet: its source port, or its type.
 fn first_number(fields: &Fields) -> Option<u128>
     ensures { IfSome result (IsFirst fields.now) }
 {
@@ -50,7 +50,7 @@ fn first_number(fields: &Fields) -> Option<u128>
     }
 }
 
-// The destination port of a packet, or its code, by which the index of rules is searched.
+// The index is searched by this number of a packet: its destination port, or its code.
 fn second_number(fields: &Fields) -> Option<u128>
     ensures { IfSome result (IsSecond fields.now) }
 {
@@ -61,7 +61,7 @@ fn second_number(fields: &Fields) -> Option<u128>
     }
 }
 
-// The flags of a packet of TCP, by which the index of rules is searched.
+// The index is searched by these flags of a packet of TCP.
 fn tcp_flags(fields: &Fields) -> Option<u8>
     ensures { IfSome result (IsFlagsOf fields.now) }
 {
@@ -71,7 +71,7 @@ fn tcp_flags(fields: &Fields) -> Option<u8>
     }
 }
 
-// The protocol of a packet and its family, as the one number by which the index of rules is searched.
+// The index is searched by this number of a packet: its protocol, and its family.
 fn protocol_number(tuple: &Tuple) -> u128
     ensures { IsAt Protocol (tuple_facts tuple.now) result }
 {

@@ -105,7 +105,7 @@ fn number(end: End) -> u64
     ((end.address as u64) << 16) + u64::from(end.port)
 }
 
-// The key of an IPv4 flow whose ends, as numbers, stand in this order.
+// The key of an IPv4 flow, whose ends, as numbers, stand in this order.
 fn key_by_number(first: u64, second: u64, proto: u8, interface: u8) -> FlowKey
     requires first { first < 2 ^ 48 }
     requires second { second < 2 ^ 48 }
