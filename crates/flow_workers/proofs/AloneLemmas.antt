@@ -130,11 +130,11 @@ module _ {A B R G K L : Type 0} (ga : Ghosts A K) (gb : Ghosts B L) (old : Worke
         (worked.each 0 alone.share judged (let n = ap length alone.only in omega arith))))
 
     -- what it said is let go
-    pub alone_on : (kept : Share A B K L ga gb) (verdicts : List Verdict) (left : Vec (Share A B K L ga gb)) (judges : Vec ℕ)
+    pub alone_on : (kept : Share A B K L ga gb) (verdicts : List Verdict) (left : Vec (Share A B K L ga gb)) (merged : Vec Verdict)
         (count : ℕ) → HasLetGo ga gb old.setup.tables.now judged kept verdicts → left.items ≡ kept ∷ []
         → count ≡ old.count + length (remaining batch.packets)
-        → HasGoneOn old batch.packets (record { setup = old.setup; shares = left; judges = judges; count = count }) verdicts
-    alone_on kept verdicts left judges count gone set counted = record {
+        → HasGoneOn old batch.packets (record { setup = old.setup; shares = left; verdicts = merged; count = count }) verdicts
+    alone_on kept verdicts left merged count gone set counted = record {
       by = refl;
       alone = λ packets said alone.
           record {
@@ -167,5 +167,6 @@ alone_begun ga gb all one rest =
       share = only.0;
       only = only.1;
       rest = subst (λ ss. IsAtRestAfter ga gb [] all.setup [] 0 (get_or ss 0 only.0)) only.1
-          (rest.each 0 only.0 (omega arith));
+          (subst (λ vs. IsAtRestAfter ga gb vs all.setup [] 0 (get_or all.shares.items 0 only.0)) (rest.none one)
+          (rest.each 0 only.0 (omega arith)));
     }

@@ -1,5 +1,6 @@
 pub mod AloneLemmas
 pub mod AnsweredUpdates
+pub mod BatchMerges
 pub mod DealtLemmas
 pub mod JudgedPackets
 pub mod MergeLemmas

@@ -1,6 +1,5 @@
 -- Workers between batches of packets.
-use Rattle.std.proofs.Common.{◌≡◌, ◌⊎◌, ◌∙◌, ◌+◌, ◌-◌, ◌<◌, ◌≤◌, ℕ, zero, suc, List, [], ◌∷◌, ◌++◌, ap, append_assoc, drop, length, get_or, slice_get, refl, subst, sym, arith, inl, inr}
-use Rattle.std.specs.Global.{Vec}
+use Rattle.std.proofs.Common.{◌≡◌, ◌⊎◌, ◌∙◌, ◌+◌, ◌-◌, ◌<◌, ◌≤◌, ℕ, zero, suc, List, [], ◌∷◌, ◌++◌, ap, append-nil, append_assoc, drop, length, slice_get, refl, subst, sym, arith, inl, inr}
 use Rattle.std.specs.Prelude.{slice_index}
 use Rattle.std.proofs.lemmas.List.{get_or_append_left, get_or-append_right, length-append, length-drop}
 use Rattle.std.proofs.Math.Seq.{drop-append_seam}
@@ -22,12 +21,11 @@ use Rattle.flow_workers.specs.declared.worker_share.Share.{Share}
 use Rattle.flow_workers.specs.declared.session_tables.Callers.{Callers}
 use Rattle.flow_workers.specs.Callers.{AreIdle, views_of}
 use Rattle.flow_workers.specs.declared.workers.Workers.{Workers}
-use Rattle.flow_workers.specs.Progress.{AreAtRest, HaveAllSaid, HaveEnded, IsAtRest, IsAtRestAfter}
-use Rattle.flow_workers.specs.inner.Jobs.{HasDoneAfter, HasWorked, StandAmong, dealer_of, run_facts}
+use Rattle.flow_workers.specs.Progress.{AreAtRest, HaveAllSaid, HaveEnded, IsAtRestAfter}
+use Rattle.flow_workers.specs.inner.Jobs.{HasDoneAfter, HasWorked, StandAmong, run_facts}
 use Rattle.flow_workers.specs.inner.Shares.{IsUnused, workers_in}
-use Rattle.flow_workers.specs.inner.Together.{HaveNoted, HaveJudgedBatch}
+use Rattle.flow_workers.specs.inner.Together.{HaveNoted}
 use Rattle.flow_workers.specs.inner.Work.{IsWorkUntil}
-use Rattle.flow_workers.proofs.DealtLemmas.{front_only}
 use Rattle.flow_workers.proofs.WorkSteps.{work_none}
 
 -- ---- The workers of packets
@@ -82,14 +80,6 @@ module _ {A B K L : Type 0} (ga : Ghosts A K) (gb : Ghosts B L) (dealer : Dealer
             omega arith,
       )
 
-  -- the workers of the first packets, before others
-  workers_before : (workers : List ℕ) (packets more : List PacketFacts) → length workers ≡ length packets
-      → AreWorkers ga gb dealer 0 workers packets → AreWorkers ga gb dealer 0 workers (packets ++ more)
-  workers_before workers packets more count are = record {
-    inside = let n = length-append packets more in omega arith;
-    each = λ k packet below there. are.each k packet below (sym (front_only packets more k (omega arith)) ∙ there);
-  }
-
   -- packets that were dealt are noted with their workers
   pub dealt_noted : (first : ℕ) (chunks : List DealtChunk) (packets : List PacketFacts) (old new : List ℕ)
       → AreDealt ga gb dealer first chunks packets → new ≡ old ++ workers_in chunks
@@ -101,28 +91,11 @@ module _ {A B K L : Type 0} (ga : Ghosts A K) (gb : Ghosts B L) (dealer : Dealer
     many = d.1;
   }
 
-  pub workers_noted : (judges new : List ℕ) (packets more : List PacketFacts)
-      → length judges ≡ length packets → AreWorkers ga gb dealer 0 judges packets
-      → HaveNoted ga gb dealer (length packets) more judges new
-      → (length new ≡ length (packets ++ more)) × AreWorkers ga gb dealer 0 new (packets ++ more)
-  workers_noted judges new packets more count are noted = (
-    let e = ap length noted.noted ∙ length-append judges noted.workers in let f = length-append packets more in
-        let g = noted.many in omega arith,
-    subst (λ ws. AreWorkers ga gb dealer 0 ws (packets ++ more)) (sym noted.noted)
-        (workers_joined 0 judges noted.workers (packets ++ more) (workers_before judges packets more count are)
-        (subst (λ n. AreWorkers ga gb dealer n noted.workers (drop (length judges) (packets ++ more)))
-        (let e : length packets ≡ 0 + length judges = omega arith in e)
-        (subst (λ n. AreWorkers ga gb dealer (length packets) noted.workers (drop n (packets ++ more)))
-        (sym count)
-        (subst (AreWorkers ga gb dealer (length packets) noted.workers)
-        (sym (drop-append_seam packets more)) noted.are)))),
-  )
-
 -- ---- One worker
 
 module _ {A B R G K L : Type 0} (ga : Ghosts A K) (gb : Ghosts B L) (setup : Setup A B R G K L) where
   pub rest_begun : (w : ℕ) (share : Share A B K L ga gb) → IsUnused setup.tables.now share
-      → IsAtRest ga gb setup [] w share
+      → IsAtRestAfter ga gb [] setup [] w share
   rest_begun w share unused = record {
     idle = unused.callers.idle;
     began = views_of ga gb share.callers;
@@ -159,37 +132,21 @@ module _ {A B R G K L : Type 0} (ga : Ghosts A K) (gb : Ghosts B L) (setup : Set
         (worked.work all among rest.began said before)));
   }
 
--- ---- All workers
-
-module _ {A B R G K L : Type 0} (ga : Ghosts A K) (gb : Ghosts B L) (old : Workers A B R G K L ga gb)
-    (packets : List PacketFacts) (rest : AreAtRest packets old) (batch : Batch A B R G K L) (same : batch.setup ≡ old.setup)
-    (first : batch.first ≡ old.count) where
-  pub rest_more : (shares : Vec (Share A B K L ga gb)) (judges : Vec ℕ) (count : ℕ)
-      → HaveJudgedBatch batch old.shares.items shares.items old.judges.items judges.items
-      → count ≡ old.count + length (remaining batch.packets)
-      → AreAtRest (packets ++ remaining batch.packets)
-      (record { setup = old.setup; shares = shares; judges = judges; count = count })
-  rest_more shares judges count ran counted =
-      record {
-        sound = rest.sound;
-        count = let e = rest.count in let n = length-append packets (remaining batch.packets) in omega arith;
-        shares = ran.worked.count ∙ rest.shares;
-        each = λ i d inside. rest_judged ga gb old.setup [] packets batch i (get_or old.shares.items i d)
-            (get_or shares.items i d) same (first ∙ rest.count) (rest.each i d inside)
-            (ran.worked.each i d d (subst (λ n. i < n) (sym rest.shares) inside));
-        noted = λ several.
-            let noted = rest.noted several in
-            let more = ran.noted (subst (λ (s : Setup A B R G K L). 1 < s.workers) (sym same) several) in
-            let are =
-            workers_noted ga gb (dealer_of old.setup) old.judges.items judges.items packets (remaining batch.packets)
-            noted.count noted.workers
-            (subst (λ n. HaveNoted ga gb (dealer_of old.setup) n (remaining batch.packets) old.judges.items judges.items)
-            (first ∙ rest.count)
-            (subst (λ (s : Setup A B R G K L). HaveNoted ga gb (dealer_of s) batch.first (remaining batch.packets) old.judges.items
-            judges.items) same more)) in
-            record { count = are.0; workers = are.1 };
-        none = λ one. ran.none (subst (λ (s : Setup A B R G K L). s.workers ≡ 1) (sym same) one) ∙ rest.none one;
-      }
+  -- its share keeps what it said no longer
+  pub rest_silent : (said : List Verdict) (packets : List PacketFacts) (w : ℕ) (old new : Share A B K L ga gb)
+      → new.callers ≡ old.callers → new.said.items ≡ [] → IsAtRestAfter ga gb said setup packets w old
+      → IsAtRestAfter ga gb (said ++ old.said.items) setup packets w new
+  rest_silent said packets w old new callers silent rest = record {
+    idle = subst (AreIdle ga gb setup.tables.now) (sym callers) rest.idle;
+    began = rest.began;
+    fresh = rest.fresh;
+    work = λ more.
+        let run = run_facts ga gb setup (packets ++ more) in
+        subst (IsWorkUntil run w (length packets) rest.began (views_of ga gb new.callers))
+        (sym (ap (λ vs. (said ++ old.said.items) ++ vs) silent ∙ append-nil (said ++ old.said.items)))
+        (subst (λ c. IsWorkUntil run w (length packets) rest.began (views_of ga gb c) (said ++ old.said.items)) (sym callers)
+        (rest.work more));
+  }
 
 -- by equal timeouts and policies packets are judged alike
 pub judged_alike : (d : Deal) (packets : List PacketFacts) (verdicts : List Verdict) (times times' : Timeouts) (policy policy' : PolicyFacts)

@@ -18,17 +18,16 @@ use Rattle.flow_dealing.specs.WorkerRecords.{AreJudgedBy}
 use Rattle.flow_dealing.specs.Traces.{AreGathered, ArePlaced, HaveTraces, IsTrace, Item}
 use Rattle.flow_dealing.specs.Views.{Views, view_in}
 use Rattle.flow_dealing.proofs.TraceMerges.{judge_each_packet}
-use Rattle.flow_dealing.proofs.Places.{zip_count}
-use Rattle.packet_dealing.specs.Dealt.{AreWorkers}
-use Rattle.flow_filter.specs.OneThread.{layout_of}
-use Rattle.flow_workers.specs.inner.Merges.{AreAllSaid}
-use Rattle.flow_workers.proofs.MergeLemmas.{all_judges, dealer_by}
+use Rattle.flow_dealing.proofs.Places.{before_map, zip_count}
+use Rattle.std.specs.Global.{Vec}
+use Rattle.std.proofs.lemmas.List.{length-map}
+use Rattle.flow_workers.specs.inner.Merges.{AreTold, LetGo, saids}
 use Rattle.flow_workers.specs.declared.worker_share.WorkerResults.{WorkerResults}
 use Rattle.flow_workers.specs.declared.worker_share.Share.{Share}
 use Rattle.flow_workers.specs.declared.session_tables.Tables.{Tables}
 use Rattle.flow_workers.specs.declared.worker_setup.Setup.{Setup}
 use Rattle.flow_workers.specs.Callers.{AreIdle, views_of}
-use Rattle.flow_workers.specs.Progress.{IsAtRest, IsAtRestAfter}
+use Rattle.flow_workers.specs.Progress.{IsAtRestAfter, IsSoundSetup}
 use Rattle.flow_workers.specs.inner.Jobs.{run_facts}
 use Rattle.flow_workers.specs.inner.WorkerResults.{AreResults, AreResultsOf}
 use Rattle.flow_workers.specs.inner.Work.{AreSaid, IsWork, IsWorkUntil, RunFacts}
@@ -37,7 +36,7 @@ use Rattle.flow_workers.proofs.WorkSteps.{whole_work}
 
 -- ---- What all workers did
 
-get_or_at : {X : Type 0} (xs : List X) (k : ℕ) (x d : X) → get_elem? xs k ≡ some x → get_or xs k d ≡ x
+pub get_or_at : {X : Type 0} (xs : List X) (k : ℕ) (x d : X) → get_elem? xs k ≡ some x → get_or xs k d ≡ x
 get_or_at [] k x d at = absurd (some-ne-none x (sym at))
 get_or_at (y ∷ ys) zero x d at = some-injective y x at
 get_or_at (y ∷ ys) (suc k) x d at = get_or_at ys k x d at
@@ -59,7 +58,7 @@ pub record IsDone {A B K L : Type 0} (ga : Ghosts A K) (gb : Ghosts B L) (before
   pub six : HaveTraces run.deal.layout.six run.times V6 (trace ∷ []) share.callers.six.seat.view
   pub said : AreSaid run trace (before ++ share.said.items)
 
-module _ {A B K L : Type 0} (ga : Ghosts A K) (gb : Ghosts B L) (tables : Tables A B K L) (run : RunFacts) where
+module _ {A B K L : Type 0} (ga : Ghosts A K) (gb : Ghosts B L) (tables : Tables A B K L) (run : RunFacts) (gone : LetGo) where
   -- the shares of the workers from one on
   record AllDone (w : ℕ) (shares : List (Share A B K L ga gb)) : Type 0 where
     traces : List (List Item)
@@ -69,10 +68,11 @@ module _ {A B K L : Type 0} (ga : Ghosts A K) (gb : Ghosts B L) (tables : Tables
     idle : All (λ s. AreIdle ga gb tables s.callers) shares
     four : AllZip (λ t s. HaveTraces run.deal.layout.four run.times V4 (t ∷ []) s.callers.four.seat.view) traces shares
     six : AllZip (λ t s. HaveTraces run.deal.layout.six run.times V6 (t ∷ []) s.callers.six.seat.view) traces shares
-    said : AllZip (λ t s. AreSaid run t s.said.items) traces shares
+    said : (k : ℕ) (t : List Item) (s : Share A B K L ga gb) → get_elem? traces k ≡ some t → get_elem? shares k ≡ some s
+        → AreSaid run t (gone (w + k) ++ s.said.items)
 
   all_done : (w : ℕ) (shares : List (Share A B K L ga gb))
-      → ((k : ℕ) (s : Share A B K L ga gb) → get_elem? shares k ≡ some s → IsDone ga gb [] tables run (w + k) s)
+      → ((k : ℕ) (s : Share A B K L ga gb) → get_elem? shares k ≡ some s → IsDone ga gb (gone (w + k)) tables run (w + k) s)
       → AllDone w shares
   all_done w [] done = record {
     traces = [];
@@ -81,12 +81,12 @@ module _ {A B K L : Type 0} (ga : Ghosts A K) (gb : Ghosts B L) (tables : Tables
     idle = All-nil (λ x. AreIdle ga gb tables x.callers);
     four = tt;
     six = tt;
-    said = tt;
+    said = λ k t s at there. absurd (some-ne-none t (sym at));
   }
   all_done w (s ∷ ss) done =
       let one = done 0 s refl in
       let more =
-      all_done (w + 1) ss (λ k x at. subst (λ n. IsDone ga gb [] tables run n x)
+      all_done (w + 1) ss (λ k x at. subst (λ n. IsDone ga gb (gone n) tables run n x)
       (let e : w + suc k ≡ w + 1 + k = omega arith in e) (done (suc k) x at)) in
       record {
         traces = one.trace ∷ more.traces;
@@ -95,9 +95,21 @@ module _ {A B K L : Type 0} (ga : Ghosts A K) (gb : Ghosts B L) (tables : Tables
         idle = All-cons (λ x. AreIdle ga gb tables x.callers) s ss one.idle more.idle;
         four = (one.four, more.four);
         six = (one.six, more.six);
-        said = (one.said, more.said);
+        said = next_said one.trace more.traces one.said more.said;
       }
     where
+      next_said : (x : List Item) (xs : List (List Item)) → AreSaid run x (gone (w + 0) ++ s.said.items)
+          → ((k : ℕ) (t : List Item) (y : Share A B K L ga gb) → get_elem? xs k ≡ some t → get_elem? ss k ≡ some y
+          → AreSaid run t (gone (w + 1 + k) ++ y.said.items))
+          → (k : ℕ) (t : List Item) (y : Share A B K L ga gb) → get_elem? (x ∷ xs) k ≡ some t → get_elem? (s ∷ ss) k ≡ some y
+          → AreSaid run t (gone (w + k) ++ y.said.items)
+      next_said x xs one more zero t y at there =
+          subst (λ z. AreSaid run t (gone (w + 0) ++ z.said.items)) (some-injective s y there)
+          (subst (λ k. AreSaid run k (gone (w + 0) ++ s.said.items)) (some-injective x t at) one)
+      next_said x xs one more (suc k) t y at there =
+          subst (λ n. AreSaid run t (gone n ++ y.said.items))
+          (let e : w + 1 + k ≡ w + suc k = omega arith in e) (more k t y at there)
+
       next : (x : List Item) (xs : List (List Item)) → IsTrace run.deal run.times (w + 0) run.policy run.packets x
           → ((k : ℕ) (t : List Item) → get_elem? xs k ≡ some t
           → IsTrace run.deal run.times (w + 1 + k) run.policy run.packets t)
@@ -109,24 +121,33 @@ module _ {A B K L : Type 0} (ga : Ghosts A K) (gb : Ghosts B L) (tables : Tables
           subst (λ n. IsTrace run.deal run.times n run.policy run.packets t)
           (let e : w + 1 + k ≡ w + suc k = omega arith in e) (more k t at)
 
-  -- there is a caller of each worker
-  pub results_count : (results : WorkerResults A B K L ga gb) → AreResults ga gb tables run results
-      → (length results.four.items ≡ run.deal.workers) × (length results.six.items ≡ run.deal.workers)
-  results_count results are = (
-    sym (zip_count _ are.traces results.four.items are.four) ∙ are.traced.count,
-    sym (zip_count _ are.traces results.six.items are.six) ∙ are.traced.count,
-  )
-
-  -- what all workers said, with the worker of each packet
-  pub all_said : (judges : List ℕ) (results : WorkerResults A B K L ga gb) (p : AreResults ga gb tables run results)
-      → 0 < run.deal.workers → run.deal.workers ≤ 16 → run.deal.layout ≡ layout_of ga gb
-      → (1 < run.deal.workers → (length judges ≡ length run.packets) × AreWorkers ga gb (dealer_by run) 0 judges run.packets)
-      → AreAllSaid run p.traces results.said.items judges
-  all_said judges results p some_worker few layout are = record {
-    told = record { some_worker = some_worker; few = few; traced = p.traced; said = p.said };
-    judges = λ several. all_judges ga gb run layout judges (are several).0 (are several).1;
+  -- what all workers said
+  all_told : (shares : List (Share A B K L ga gb)) → length shares ≡ run.deal.workers → 0 < run.deal.workers
+      → run.deal.workers ≤ 16 → (a : AllDone 0 shares) → AreTold run a.traces gone (saids shares)
+  all_told shares count some_worker few a = record {
+    some_worker = some_worker;
+    few = few;
+    traced = record {
+      count = a.count ∙ count;
+      each = λ w t at. let e : 0 + w ≡ w = omega arith in
+          subst (λ n. IsTrace run.deal run.times n run.policy run.packets t) e (a.each w t at);
+    };
+    count = length-map shares (λ (s : Share A B K L ga gb). s.said) ∙ count;
+    said = λ w t said at there.
+        let s = before_map (λ (s : Share A B K L ga gb). s.said) shares w said there in
+        subst (λ (v : Vec Verdict). AreSaid run t (gone w ++ v.items)) s.2
+        (let e : 0 + w ≡ w = omega arith in subst (λ n. AreSaid run t (gone n ++ s.0.said.items)) e (a.said w t s.0 at s.1));
   }
 
+  -- there is a caller of each worker
+  pub results_count : (results : WorkerResults A B K L ga gb) → AreResults ga gb tables run gone results
+      → (length results.four.items ≡ run.deal.workers) × (length results.six.items ≡ run.deal.workers)
+  results_count results are = (
+    sym (zip_count _ are.traces results.four.items are.four) ∙ are.told.traced.count,
+    sym (zip_count _ are.traces results.six.items are.six) ∙ are.told.traced.count,
+  )
+
+module _ {A B K L : Type 0} (ga : Ghosts A K) (gb : Ghosts B L) (tables : Tables A B K L) (run : RunFacts) where
   -- the callers of a family's table, joined
   pub gathered : (traces : List (List Item)) (v : Views)
       → IsLawfulCaller run.deal.layout.four v.four × IsLawfulCaller run.deal.layout.six v.six
@@ -136,14 +157,14 @@ module _ {A B K L : Type 0} (ga : Ghosts A K) (gb : Ghosts B L) (tables : Tables
   gathered traces v lawful told four six V4 = record { lawful = lawful.0; told = told.0; did = four }
   gathered traces v lawful told four six V6 = record { lawful = lawful.1; told = told.1; did = six }
 
-  pub run_judged : (results : WorkerResults A B K L ga gb) (p : AreResults ga gb tables run results) → 0 < run.deal.workers
+  pub run_judged : (gone : LetGo) (results : WorkerResults A B K L ga gb) (p : AreResults ga gb tables run gone results)
       → (v : Views) → IsLawfulCaller run.deal.layout.four v.four × IsLawfulCaller run.deal.layout.six v.six
       → IsToldWhole run.deal.layout.four v.four × IsToldWhole run.deal.layout.six v.six
       → HaveTraces run.deal.layout.four run.times V4 p.traces v.four → HaveTraces run.deal.layout.six run.times V6 p.traces v.six
       → (verdicts : List Verdict) → ArePlaced run.times run.packets p.traces verdicts
       → AreJudgedBy run.deal run.times run.policy run.packets verdicts v
-  run_judged results p some_worker v lawful told four six verdicts placed =
-      judge_each_packet run.deal run.times run.policy run.packets p.traces v verdicts some_worker p.traced
+  run_judged gone results p v lawful told four six verdicts placed =
+      judge_each_packet run.deal run.times run.policy run.packets p.traces v verdicts p.told.some_worker p.told.traced
       (gathered p.traces v lawful told four six) placed
 
 -- a worker after all packets
@@ -174,18 +195,35 @@ rest_done ga gb said setup packets w share rest = record {
         (append-nil packets) (rest.work []))
 
 module _ {A B R G K L : Type 0} (ga : Ghosts A K) (gb : Ghosts B L) (setup : Setup A B R G K L)
-    (packets : List PacketFacts) where
-  pub results_are : (shares : List (Share A B K L ga gb)) → length shares ≡ setup.workers
-      → ((i : ℕ) (d : Share A B K L ga gb) → i < setup.workers → IsAtRest ga gb setup packets i (get_or shares i d))
-      → (results : WorkerResults A B K L ga gb) → AreResultsOf shares results
-      → AreResults ga gb setup.tables.now (run_facts ga gb setup packets) results
-  results_are shares count each results of = record {
+    (packets : List PacketFacts) (gone : LetGo) (sound : IsSoundSetup ga gb setup) (shares : List (Share A B K L ga gb))
+    (count : length shares ≡ setup.workers) (each : (i : ℕ) (d : Share A B K L ga gb) → i < setup.workers
+    → IsAtRestAfter ga gb (gone i) setup packets i (get_or shares i d)) where
+  done : (k : ℕ) (s : Share A B K L ga gb) → get_elem? shares k ≡ some s
+      → IsDone ga gb (gone (0 + k)) setup.tables.now (run_facts ga gb setup packets) (0 + k) s
+  done k s at =
+      let e : k ≡ 0 + k = omega arith in
+      subst (λ n. IsDone ga gb (gone n) setup.tables.now (run_facts ga gb setup packets) n s) e
+      (subst (IsDone ga gb (gone k) setup.tables.now (run_facts ga gb setup packets) k) (get_or_at shares k s s at)
+      (rest_done ga gb (gone k) setup packets k (get_or shares k s)
+      (each k s (let inside = within shares k s at in omega arith))))
+
+  all : AllDone ga gb setup.tables.now (run_facts ga gb setup packets) gone 0 shares
+  all = all_done ga gb setup.tables.now (run_facts ga gb setup packets) gone 0 shares done
+
+  -- what all workers said, by the traces that they did
+  pub shares_told : (traces : List (List Item)) × AreTold (run_facts ga gb setup packets) traces gone (saids shares)
+  shares_told = (
+    all.traces,
+    all_told ga gb setup.tables.now (run_facts ga gb setup packets) gone shares count
+        (let some_worker = sound.some in omega arith) sound.few all,
+  )
+
+  pub results_are : (results : WorkerResults A B K L ga gb) → AreResultsOf shares results
+      → AreResults ga gb setup.tables.now (run_facts ga gb setup packets) gone results
+  unfolding all shares_told
+  results_are results of = record {
     traces = all.traces;
-    traced = record {
-      count = all.count ∙ count;
-      each = λ w t at. let e : 0 + w ≡ w = omega arith in
-          subst (λ n. IsTrace run.deal run.times n run.policy run.packets t) e (all.each w t at);
-    };
+    told = subst (AreTold run all.traces gone) (sym of.said) shares_told.1;
     own = (
       subst (All (λ c. c.seat.row ≡ tables.four.row)) (sym of.four)
           (All-map (λ c. c.seat.row ≡ tables.four.row) (λ (s : Share A B K L ga gb). s.callers.four) shares
@@ -212,9 +250,6 @@ module _ {A B R G K L : Type 0} (ga : Ghosts A K) (gb : Ghosts B L) (setup : Set
     six =
         subst (AllZip (λ t c. HaveTraces run.deal.layout.six run.times V6 (t ∷ []) c.seat.view) all.traces) (sym of.six)
         (zip_map _ _ all.traces shares all.six);
-    said =
-        subst (AllZip (λ t s. AreSaid run t s.items) all.traces) (sym of.said)
-        (zip_map _ _ all.traces shares all.said);
   }
     where
       run : RunFacts
@@ -222,14 +257,3 @@ module _ {A B R G K L : Type 0} (ga : Ghosts A K) (gb : Ghosts B L) (setup : Set
 
       tables : Tables A B K L
       tables = setup.tables.now
-
-      done : (k : ℕ) (s : Share A B K L ga gb) → get_elem? shares k ≡ some s → IsDone ga gb [] tables run (0 + k) s
-      done k s at =
-          let e : k ≡ 0 + k = omega arith in
-          subst (λ n. IsDone ga gb [] tables run n s) e
-          (subst (IsDone ga gb [] tables run k) (get_or_at shares k s s at)
-          (rest_done ga gb [] setup packets k (get_or shares k s)
-          (each k s (let inside = within shares k s at in omega arith))))
-
-      all : AllDone ga gb tables run 0 shares
-      all = all_done ga gb tables run 0 shares done

@@ -9,14 +9,14 @@ use Rattle.flow_filter.specs.declared.verdict.Verdict.{Verdict}
 use Rattle.flow_dealing.specs.Dealings.{Deal}
 use Rattle.flow_dealing.specs.WorkerRecords.{AreJudged, AreJudgedBy}
 use Rattle.flow_dealing.specs.Views.{Views}
-use Rattle.packet_dealing.specs.Dealt.{AreWorkers}
 use Rattle.flow_workers.specs.declared.worker_setup.Setup.{Setup}
 use Rattle.flow_workers.specs.declared.worker_share.Share.{Share}
 use Rattle.flow_workers.specs.declared.session_tables.Callers.{Callers}
 use Rattle.flow_workers.specs.declared.workers.Workers.{Workers}
 use Rattle.flow_workers.specs.Callers.{AreIdle, AreShapes, views_of}
 use Rattle.flow_workers.specs.inner.Fresh.{IsFreshView}
-use Rattle.flow_workers.specs.inner.Jobs.{HasDoneAfter, dealer_of, policy_of}
+use Rattle.flow_workers.specs.inner.Jobs.{HasDoneAfter, policy_of, run_facts}
+use Rattle.flow_workers.specs.inner.Merges.{AreInPlace, LetGo}
 use Rattle.flow_workers.specs.inner.Shares.{AreFresh}
 
 -- from 1 to 16 workers, over tables whose keys are those of flows
@@ -42,27 +42,17 @@ pub record IsAtRestAfter {A B R G K L : Type 0} (ga : Ghosts A K) (gb : Ghosts B
   pub work : (more : List PacketFacts)
       → HasDoneAfter ga gb said setup (packets ++ more) worker (length packets) began share
 
--- the same where its share has all that it said
-abbrev pub IsAtRest : {A B R G K L : Type 0} (ga : Ghosts A K) (gb : Ghosts B L) → Setup A B R G K L
-    → List PacketFacts → ℕ → Share A B K L ga gb → Type 0
-IsAtRest ga gb setup packets worker share = IsAtRestAfter ga gb [] setup packets worker share
-
--- these are the workers of these packets
-pub record AreNoted {A B R G K L : Type 0} (ga : Ghosts A K) (gb : Ghosts B L) (setup : Setup A B R G K L)
-    (packets : List PacketFacts) (judges : List ℕ) : Type 0 where
-  pub count : length judges ≡ length packets
-  pub workers : AreWorkers ga gb (dealer_of setup) 0 judges packets
-
--- all workers after these packets: if they are several, the worker of each packet is noted
+-- all workers after these packets: several let go what they said, which is merged; what the only one said is in its share
 pub record AreAtRest {A B R G K L : Type 0} {ga : Ghosts A K} {gb : Ghosts B L} (packets : List PacketFacts)
     (all : Workers A B R G K L ga gb) : Type 0 where
   pub sound : IsSoundSetup ga gb all.setup
   pub count : all.count ≡ length packets
   pub shares : length all.shares.items ≡ all.setup.workers
+  pub gone : LetGo
   pub each : (i : ℕ) (d : Share A B K L ga gb) → i < all.setup.workers
-      → IsAtRest ga gb all.setup packets i (slice_index_or all.shares.items i d)
-  pub noted : 1 < all.setup.workers → AreNoted ga gb all.setup packets all.judges.items
-  pub none : all.setup.workers ≡ 1 → all.judges.items ≡ []
+      → IsAtRestAfter ga gb (gone i) all.setup packets i (slice_index_or all.shares.items i d)
+  pub merged : 1 < all.setup.workers → AreInPlace (run_facts ga gb all.setup packets) gone all.verdicts.items
+  pub none : all.setup.workers ≡ 1 → gone 0 ≡ []
 
 -- workers of this setup that judged no packet
 pub record AreBegun {A B R G K L : Type 0} {ga : Ghosts A K} {gb : Ghosts B L} (setup : Setup A B R G K L)

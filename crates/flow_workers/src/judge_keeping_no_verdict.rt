@@ -54,15 +54,16 @@ impl<'t, 'f, A: Shape, B: Shape, R: Wait, G: Gate> Workers<'t, 'f, A, B, R, G> {
         let Workers {
             setup,
             shares,
-            mut judges,
+            verdicts,
             ..
         } = self;
+        let mut judges = Vec::new(alloc);
         let mut shares = judge_together(batch, shares, &mut judges)?;
         let said = let_go(setup.rt, alloc, setup.tables, &mut shares[0]);
         let workers = Workers {
             setup,
             shares,
-            judges,
+            verdicts,
             count,
         };
         Ok((workers, said))

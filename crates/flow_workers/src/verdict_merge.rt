@@ -1,16 +1,18 @@
 //! The verdicts of all workers, in the order of the file.
 ghost use Rattle.std.specs.Prelude.{IfOk, List};
 ghost use Rattle.flow_dealing.specs.Traces.{Item};
-ghost use Rattle.flow_workers.specs.inner.Merges.{AreAllSaid, AreMerged};
+ghost use Rattle.flow_workers.specs.inner.Merges.{AreAllVerdicts, AreMerged, HaveLetGo, LetGo, MayMerge, saids};
 ghost use Rattle.flow_workers.specs.inner.Work.{RunFacts};
 
+use crate::worker_share::Share;
+use bihash_words::Shape;
 use flow_filter::Verdict;
-use std::alloc::{AllocError, Global};
+use std::alloc::AllocError;
 
 /// The most workers.
 const MOST_WORKERS: usize = 16;
 
-/// The verdicts on the first packets, and how many of each worker's are among them.
+/// The verdicts on the first packets, and how many of those that are in each worker's share are among them.
 #[derive(Drop)]
 pub struct VerdictMerge {
     pub verdicts: Vec<Verdict>,
@@ -20,54 +22,77 @@ pub struct VerdictMerge {
 impl VerdictMerge {
     ghost use Rattle.std.specs.Prelude.{IfOk, List};
     ghost use Rattle.flow_dealing.specs.Traces.{Item};
-    ghost use Rattle.flow_workers.specs.inner.Merges.{HasPlaced, HasPlacedNext, MayPlace, MayPlaceNext};
+    ghost use Rattle.flow_workers.specs.inner.Merges.{HasPlaced, HasPlacedNext, LetGo, MayPlace, MayPlaceNext, saids};
     ghost use Rattle.flow_workers.specs.inner.Work.{RunFacts};
 
     /// Places the verdict on the next packet: the next one of its worker.
-    fn place_next(&mut self, all: &[Vec<Verdict>], worker: usize) -> Result<(), AllocError>
-        requires { (run : RunFacts) × (traces : List (List Item)) × MayPlaceNext run traces all.now self.old worker }
-        ensures { IfOk result (λ _. HasPlacedNext all.now self.old worker self.new) }
+    fn place_next<A: Shape, B: Shape>(
+        &mut self,
+        shares: &[Share<A, B>],
+        worker: usize,
+    ) -> Result<(), AllocError>
+        requires { (run : RunFacts) × (traces : List (List Item)) × (gone : LetGo) × MayPlaceNext run traces gone (saids shares.now) self.old worker }
+        ensures { IfOk result (λ _. HasPlacedNext (saids shares.now) self.old worker self.new) }
     {
         let at = self.next[worker];
-        let said = &all[worker];
+        let said = &shares[worker].said;
         self.verdicts.push(said[at])?;
         self.next[worker] = at + 1;
         Ok(())
     }
 
     /// Places the verdicts on the packets of these workers.
-    fn place(&mut self, judges: &[u8], all: &[Vec<Verdict>]) -> Result<(), AllocError>
-        requires { (run : RunFacts) × (traces : List (List Item)) × MayPlace run traces all.now judges.now self.old }
-        ensures { IfOk result (λ _. HasPlaced all.now judges.now self.old self.new) }
+    fn place<A: Shape, B: Shape>(
+        &mut self,
+        judges: &[u8],
+        shares: &[Share<A, B>],
+    ) -> Result<(), AllocError>
+        requires { (run : RunFacts) × (traces : List (List Item)) × (gone : LetGo) × MayPlace run traces gone (saids shares.now) judges.now self.old }
+        ensures { IfOk result (λ _. HasPlaced (saids shares.now) judges.now self.old self.new) }
     {
         'packets: for judge in judges {
-            self.place_next(all, *judge as usize)?;
+            self.place_next(shares, *judge as usize)?;
         }
         Ok(())
     }
 }
 
-/// The verdicts on so many packets, each of which has its worker among these where several workers said them. What a worker
-/// that is alone said is in their order already.
-pub fn merge_verdicts(
-    alloc: Global,
-    mut all: Vec<Vec<Verdict>>,
+/// The verdicts on all packets so far: those on the packets before a batch, and those on the batch's packets, each of which
+/// has its worker among these.
+pub fn place_verdicts<A: Shape, B: Shape>(
+    before: Vec<Verdict>,
     judges: &[u8],
-    packets: usize,
+    shares: &[Share<A, B>],
 ) -> Result<Vec<Verdict>, AllocError>
-    requires { (run : RunFacts) × (traces : List (List Item)) × AreAllSaid run traces all.items judges.now }
-    ensures { IfOk result (λ verdicts. AreMerged all.items judges.now verdicts.items) }
+    requires { (run : RunFacts) × (traces : List (List Item)) × (gone : LetGo) × MayMerge run traces gone (saids shares.now) judges.now before }
+    ensures { IfOk result (λ verdicts. AreMerged (saids shares.now) judges.now before verdicts.items) }
 {
-    if all.len() > 1 {
-        let mut placed = VerdictMerge {
-            verdicts: Vec::with_capacity(alloc, packets)?,
-            next: [0; MOST_WORKERS],
-        };
-        placed.place(judges, all.as_slice())?;
-        return Ok(placed.verdicts);
-    }
-    let Some(said) = all.pop() else {
-        unreachable!()
+    let mut placed = VerdictMerge {
+        verdicts: before,
+        next: [0; MOST_WORKERS],
     };
-    Ok(said)
+    placed.place(judges, shares)?;
+    Ok(placed.verdicts)
+}
+
+/// The shares keep what their workers said no longer.
+pub fn keep_no_verdicts<A: Shape, B: Shape>(shares: &mut Vec<Share<A, B>>)
+    ensures { HaveLetGo shares.old.items shares.new.items }
+{
+    for worker in 0..shares.len() {
+        shares[worker].said.clear();
+    }
+}
+
+/// The verdicts on all packets: what was merged, where several workers said it; else what the only one said.
+pub fn all_verdicts(merged: Vec<Verdict>, mut said: Vec<Vec<Verdict>>) -> Vec<Verdict>
+    ensures { AreAllVerdicts merged.items said.items result.items }
+{
+    if said.len() > 1 {
+        return merged;
+    }
+    match said.pop() {
+        Some(only) => only,
+        None => merged,
+    }
 }

@@ -7,7 +7,7 @@ use crate::judge_in_one_thread::judge_together;
 use crate::judge_in_threads::judge_in_threads;
 use crate::run_fault::RunFault;
 use crate::session_tables::{Callers, Tables};
-use crate::verdict_merge::merge_verdicts;
+use crate::verdict_merge::{all_verdicts, keep_no_verdicts, place_verdicts};
 use crate::worker_callers::{join_whole, split_both};
 use crate::worker_results::results_of;
 use crate::worker_setup::Setup;
@@ -59,8 +59,9 @@ pub struct Workers<'t, 'f, A: Shape, B: Shape, R: Wait, G: Gate> {
     pub setup: Setup<'t, 'f, A, B, R, G>,
     /// What each worker has, in their order.
     pub shares: Vec<Share<A, B>>,
-    /// The worker of each packet, where there are several workers; else none is noted.
-    pub judges: Vec<u8>,
+    /// The verdicts on the packets that they judged, in the packets' order, where there are several workers; one worker
+    /// has them in its share.
+    pub verdicts: Vec<Verdict>,
     /// How many packets they judged.
     pub count: usize,
 }
@@ -83,7 +84,7 @@ impl<'t, 'f, A: Shape, B: Shape, R: Wait, G: Gate> Workers<'t, 'f, A, B, R, G> {
         Ok(Workers {
             setup,
             shares,
-            judges: Vec::new(alloc),
+            verdicts: Vec::new(alloc),
             count: 0,
         })
     }
@@ -96,16 +97,15 @@ impl<'t, 'f, A: Shape, B: Shape, R: Wait, G: Gate> Workers<'t, 'f, A, B, R, G> {
         let Workers {
             setup,
             shares,
-            judges,
-            count,
+            verdicts,
+            ..
         } = self;
         let WorkerResults { four, six, said } = results_of(alloc, shares)?;
         let callers = Callers {
             four: join_whole(setup.rt, &setup.tables.four, four),
             six: join_whole(setup.rt, &setup.tables.six, six),
         };
-        let verdicts = merge_verdicts(alloc, said, judges.as_slice(), count)?;
-        Ok((verdicts, callers))
+        Ok((all_verdicts(verdicts, said), callers))
     }
 }
 
@@ -137,7 +137,7 @@ where
         let Workers {
             setup,
             shares,
-            mut judges,
+            verdicts,
             count,
         } = self;
         let next = count + packets.count();
@@ -146,19 +146,23 @@ where
             first: count,
             packets,
         };
+        let mut judges = Vec::new(alloc);
         let judged = if setup.is_alone() || batch.packets.count() < setup.many {
             judge_together(batch, shares, &mut judges)
         } else {
             judge_in_threads(alloc, batch, shares, &mut judges)
         };
-        match judged {
-            Ok(shares) => Ok(Workers {
-                setup,
-                shares,
-                judges,
-                count: next,
-            }),
-            Err(_) => Err(RunFault::Memory),
+        let mut shares = judged?;
+        let mut verdicts = verdicts;
+        if !setup.is_alone() {
+            verdicts = place_verdicts(verdicts, judges.as_slice(), shares.as_slice())?;
+            keep_no_verdicts(&mut shares);
         }
+        Ok(Workers {
+            setup,
+            shares,
+            verdicts,
+            count: next,
+        })
     }
 }

@@ -18,5 +18,5 @@ returns g c =
     let worked = c.in_ok-shares.ensures.worked in
     let one = only_here shares judged judged (worked.count ∙ ap length c.requires.alone.only) (sym c.index_mut.ensures.value) in
     alone_on g.A.Shape g.B.Shape c.args.self _ c.again.ensures refl shares judged worked one c.let_go-said.new.share
-    c.let_go-said.result.items _ c.judge_together.new.judges _ c.let_go-said.ensures (only_set shares _ judged c.let_go-said.new.share one refl)
+    c.let_go-said.result.items _ c.args.self.verdicts _ c.let_go-said.ensures (only_set shares _ judged c.let_go-said.new.share one refl)
     (let n = c.count.ensures in omega arith)

@@ -1,0 +1,174 @@
+-- All workers between batches of packets: what several said of a batch is merged, and their shares keep it no longer.
+use Rattle.std.proofs.Common.{◌≡◌, ◌∙◌, ◌+◌, ◌<◌, ◌++◌, ℕ, List, [], ◌∷◌, ap, arith, false, get_or, length, ◌==◌, ◌≤◌, length-append, map, refl, subst, sym, true≢false}
+use Rattle.std.specs.Global.{Vec}
+use lib.ListN.{get_elem?}
+use Rattle.packet_view.specs.Captures.{PacketFacts}
+use Rattle.packet_view.specs.Frames as frames
+use Rattle.packet_view.specs.CheckedCaptures.{remaining}
+use Rattle.bihash_words.specs.declared.shape.Shape.{Ghosts}
+use Rattle.flow_filter.specs.declared.verdict.Verdict.{Verdict}
+use Rattle.flow_dealing.specs.Traces.{AreFrames, Item, numbers_from}
+use Rattle.flow_dealing.proofs.Places.{after_map, before_map}
+use Rattle.packet_dealing.specs.Dealt.{AreWorkers}
+use Rattle.flow_workers.specs.declared.worker_setup.Setup.{Setup}
+use Rattle.flow_workers.specs.declared.worker_share.Batch.{Batch}
+use Rattle.flow_workers.specs.declared.worker_share.Share.{Share}
+use Rattle.flow_workers.specs.declared.workers.Workers.{Workers}
+use Rattle.flow_workers.specs.Progress.{AreAtRest, IsAtRestAfter, IsSoundSetup}
+use Rattle.flow_workers.specs.inner.Jobs.{dealer_of, run_facts}
+use Rattle.flow_workers.specs.inner.Merges.{AreInPlace, AreJudges, AreMerged, AreTold, HaveLetGo, LetGo, MayMerge, saids}
+use Rattle.flow_workers.specs.inner.Shares.{AreSplit}
+use Rattle.flow_workers.specs.inner.Work.{RunFacts}
+use Rattle.acl_policy.specs.Policies.{PolicyFacts}
+use Rattle.std.proofs.lemmas.List.{get_or-map}
+use Rattle.flow_workers.specs.inner.Together.{HaveNoted}
+use Rattle.flow_workers.specs.inner.Turns.{HaveWorked}
+use Rattle.flow_workers.proofs.MergeLemmas.{batch_judges, in_place, in_place_before, more_than_one}
+use Rattle.flow_workers.proofs.RestLemmas.{rest_begun, rest_judged, rest_silent}
+use Rattle.flow_workers.proofs.WorkSteps.{no_numbers}
+use Rattle.flow_workers.proofs.WorkerResultLemmas.{get_or_at, shares_told}
+
+-- ---- Workers that judged no packet
+
+no_views : (policy : PolicyFacts) (views : List frames.FrameFacts) → AreFrames policy [] views → views ≡ []
+no_views policy [] these = refl
+no_views policy (v ∷ vs) these = absurd these
+
+nothing_in_place : (run : RunFacts) (verdicts : List Verdict) → run.packets ≡ [] → verdicts ≡ []
+    → AreInPlace run (λ w. []) verdicts
+nothing_in_place run verdicts none said = record {
+  count = ap length said ∙ sym (ap length none);
+  each = λ w views few these.
+      ap (λ vs. map (λ n. get_elem? verdicts n) (numbers_from run.deal w 0 vs))
+      (no_views run.policy views (subst (λ ps. AreFrames run.policy ps views) none these))
+      ∙ ap (map (λ n. get_elem? verdicts n)) (no_numbers run.deal w 0);
+}
+
+pub all_begun : {A B R G K L : Type 0} (ga : Ghosts A K) (gb : Ghosts B L) (all : Workers A B R G K L ga gb)
+    → IsSoundSetup ga gb all.setup → AreSplit all.setup.tables.now all.setup.workers all.shares.items
+    → all.verdicts.items ≡ [] → all.count ≡ 0 → AreAtRest [] all
+all_begun ga gb all sound split none count = record {
+  sound = sound;
+  count = count;
+  shares = split.count;
+  gone = λ w. [];
+  each = λ i d inside. rest_begun ga gb all.setup i _ (split.each i d inside);
+  merged = λ several. nothing_in_place _ all.verdicts.items refl none;
+  none = λ one. refl;
+}
+
+-- ---- After a batch
+
+pub several_by : (n : ℕ) → 1 ≤ n → false ≡ (n == 1) → 1 < n
+several_by n some_worker other =
+    more_than_one n (omega arith) (λ one. true≢false (sym (other ∙ ap (λ k. k == 1) one)))
+
+-- what is in a worker's share, besides what it let go
+abbrev with_shares : {A B K L : Type 0} {ga : Ghosts A K} {gb : Ghosts B L} → LetGo → List (Share A B K L ga gb) → LetGo
+with_shares {A} {B} {K} {L} {ga} {gb} gone shares w =
+    gone w ++ get_or (map (λ (s : Share A B K L ga gb). s.said.items) shares) w []
+
+module _ {A B R G K L : Type 0} (ga : Ghosts A K) (gb : Ghosts B L) (old : Workers A B R G K L ga gb)
+    (batch : Batch A B R G K L) (same : batch.setup ≡ old.setup) (first : batch.first ≡ old.count)
+    (shares : List (Share A B K L ga gb)) (worked : HaveWorked batch old.shares.items shares) where
+  module _ (packets : List PacketFacts) (rest : AreAtRest packets old) where
+    each_after : (i : ℕ) (d : Share A B K L ga gb) → i < old.setup.workers
+        → IsAtRestAfter ga gb (rest.gone i) old.setup (packets ++ remaining batch.packets) i (get_or shares i d)
+    each_after i d inside = rest_judged ga gb old.setup (rest.gone i) packets batch i (get_or old.shares.items i d)
+        (get_or shares i d) same (first ∙ rest.count) (rest.each i d inside)
+        (worked.each i d d (subst (λ n. i < n) (sym rest.shares) inside))
+
+    longer : (count : ℕ) → count ≡ old.count + length (remaining batch.packets)
+        → count ≡ length (packets ++ remaining batch.packets)
+    longer count counted = let e = rest.count in let n = length-append packets (remaining batch.packets) in omega arith
+
+    -- the only worker has in its share what it said
+    pub rest_of_one : old.setup.workers ≡ 1 → (kept : Vec (Share A B K L ga gb)) → kept.items ≡ shares
+        → (count : ℕ) → count ≡ old.count + length (remaining batch.packets)
+        → AreAtRest (packets ++ remaining batch.packets)
+        (record { setup = old.setup; shares = kept; verdicts = old.verdicts; count = count })
+    rest_of_one one kept is count counted = record {
+      sound = rest.sound;
+      count = longer count counted;
+      shares = ap length is ∙ (worked.count ∙ rest.shares);
+      gone = rest.gone;
+      each = λ i d inside. subst (λ ss. IsAtRestAfter ga gb (rest.gone i) old.setup (packets ++ remaining batch.packets) i
+          (get_or ss i d)) (sym is) (each_after i d inside);
+      merged = λ several. absurd (omega arith);
+      none = λ alone. rest.none alone;
+    }
+
+    told : (traces : List (List Item))
+        × AreTold (run_facts ga gb old.setup (packets ++ remaining batch.packets)) traces rest.gone (saids shares)
+    told = shares_told ga gb old.setup (packets ++ remaining batch.packets) rest.gone rest.sound shares
+        (worked.count ∙ rest.shares) each_after
+
+    -- what several said may be merged
+    pub may_merge : (judges : List ℕ)
+        → (1 < batch.setup.workers → HaveNoted ga gb (dealer_of batch.setup) batch.first (remaining batch.packets) [] judges)
+        → 1 < old.setup.workers
+        → (run : RunFacts) × (traces : List (List Item)) × (gone : LetGo)
+        × MayMerge run traces gone (saids shares) judges old.verdicts
+    may_merge judges all_noted several =
+        let noted = all_noted (subst (λ (s : Setup A B R G K L). 1 < s.workers) (sym same) several) in
+        let place = rest.merged several in
+        let many = place.count in
+        let long = noted.many in
+        let joined = length-append packets (remaining batch.packets) in (
+          run_facts ga gb old.setup (packets ++ remaining batch.packets),
+          told.0,
+          rest.gone,
+          record {
+            may = record {
+              told = told.1;
+              judges = subst (λ ws. AreJudges (run_facts ga gb old.setup (packets ++ remaining batch.packets))
+                  (length old.verdicts.items) ws) (sym noted.noted)
+                  (subst (λ n. AreJudges (run_facts ga gb old.setup (packets ++ remaining batch.packets)) n noted.workers) (sym many)
+                  (batch_judges ga gb (run_facts ga gb old.setup (packets ++ remaining batch.packets)) refl packets
+                  (remaining batch.packets) refl noted.workers noted.many
+                  (subst (λ n. AreWorkers ga gb (dealer_of old.setup) n noted.workers (remaining batch.packets))
+                  (first ∙ rest.count)
+                  (subst (λ (s : Setup A B R G K L). AreWorkers ga gb (dealer_of s) batch.first noted.workers (remaining batch.packets))
+                  same noted.are))));
+              before = in_place_before (run_facts ga gb old.setup packets) (remaining batch.packets) told.0 rest.gone
+                  (saids shares) old.verdicts told.1 place;
+            };
+            last = let ws = ap length noted.noted in omega arith;
+          },
+        )
+
+    -- what several said is merged, and their shares keep it no longer
+    pub rest_of_several : (judges : List ℕ)
+        → (1 < batch.setup.workers → HaveNoted ga gb (dealer_of batch.setup) batch.first (remaining batch.packets) [] judges)
+        → 1 < old.setup.workers → (merged : Vec Verdict) → AreMerged (saids shares) judges old.verdicts merged.items
+        → (kept : Vec (Share A B K L ga gb)) → HaveLetGo shares kept.items
+        → (count : ℕ) → count ≡ old.count + length (remaining batch.packets)
+        → AreAtRest (packets ++ remaining batch.packets)
+        (record { setup = old.setup; shares = kept; verdicts = merged; count = count })
+    unfolding may_merge told
+    rest_of_several judges noted several merged are kept let_go count counted =
+        let may = may_merge judges noted several in
+        let placed = are may.0 may.1 may.2 may.3 in
+        record {
+          sound = rest.sound;
+          count = longer count counted;
+          shares = let_go.count ∙ (worked.count ∙ rest.shares);
+          gone = with_shares rest.gone shares;
+          each = λ i d inside.
+              let there : i < length shares = let n = worked.count in let m = rest.shares in omega arith in
+              subst (λ vs. IsAtRestAfter ga gb (rest.gone i ++ vs) old.setup (packets ++ remaining batch.packets) i
+              (get_or kept.items i d))
+              (sym (get_or-map (λ (s : Share A B K L ga gb). s.said.items) shares i d [] there))
+              (rest_silent ga gb old.setup (rest.gone i) (packets ++ remaining batch.packets) i (get_or shares i d)
+              (get_or kept.items i d) (let_go.callers i d d there) (let_go.silent i d there) (each_after i d inside));
+          merged = λ _. in_place (run_facts ga gb old.setup (packets ++ remaining batch.packets)) told.0 rest.gone (saids shares) told.1
+              (with_shares rest.gone shares)
+              (λ w said at.
+              let s = before_map (λ (s : Share A B K L ga gb). s.said) shares w said at in
+              ap (λ vs. rest.gone w ++ vs)
+              (get_or_at (map (λ (x : Share A B K L ga gb). x.said.items) shares) w s.0.said.items []
+              (after_map (λ (x : Share A B K L ga gb). x.said.items) shares w s.0 s.1)
+              ∙ ap (λ (v : Vec Verdict). v.items) s.2))
+              merged.items placed;
+          none = λ one. absurd (omega arith);
+        }
