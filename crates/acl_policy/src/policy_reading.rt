@@ -21,7 +21,7 @@ const MOST_RULES: usize = 4096;
 
 /// Adds a rule that was read of a policy to those of its direction. `number` is its line.
 #[tactic(auto, unfolding(crate::specs::inner::Reading::Policies::rule_added))]
-fn add_rule(rules: &mut Vec<Rule>, rule: Rule, number: u64) -> Result<(), PolicyFault>
+fn add_read_rule(rules: &mut Vec<Rule>, rule: Rule, number: u64) -> Result<(), PolicyFault>
     ensures ok { OnOk result (rule_added number (map rule_facts rules.old.items) (rule_facts rule)
         ≡ Ok (map rule_facts rules.new.items)) }
     ensures fault { IfErr result
@@ -37,7 +37,7 @@ fn add_rule(rules: &mut Vec<Rule>, rule: Rule, number: u64) -> Result<(), Policy
 }
 
 // While a policy is read: whether a section of it was begun for this interface.
-fn has_begun(draft: &Draft, interface: u8) -> bool
+fn reading_has_section(draft: &Draft, interface: u8) -> bool
     ensures { result ≡ is_among interface (numbers_of (policy_so_far (draft_facts draft.now)).sections) }
 {
     has_section(draft.done.as_slice(), interface) || interface == draft.current.interface
@@ -60,7 +60,7 @@ pub fn add_line(
         None => return Err(PolicyFault::BadLine(number)),
         Some(Line::Blank) => {}
         Some(Line::Begins(interface)) => {
-            if has_begun(draft, interface) {
+            if reading_has_section(draft, interface) {
                 return Err(PolicyFault::BadLine(number));
             }
             let current = mem::replace(&mut draft.current, empty(alloc, interface));
@@ -73,10 +73,10 @@ pub fn add_line(
             draft.current.own = Some(mac);
         }
         Some(Line::Ruled(Direction::Inbound, rule)) => {
-            add_rule(&mut draft.current.inbound, rule, number)?;
+            add_read_rule(&mut draft.current.inbound, rule, number)?;
         }
         Some(Line::Ruled(Direction::Outbound, rule)) => {
-            add_rule(&mut draft.current.outbound, rule, number)?;
+            add_read_rule(&mut draft.current.outbound, rule, number)?;
         }
     }
     Ok(())

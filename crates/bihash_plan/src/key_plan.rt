@@ -72,7 +72,7 @@ pub fn larger<S: Shape>(places: &[(S::Key, u64)], size: BlockSize, key: &S::Key)
             linear: true,
         });
     }
-    if !size.linear && has_free_place(places) {
+    if !size.linear && plan_finds_free_place(places) {
         return Plan::Grow(BlockSize {
             log2: S::MAX_LOG2,
             linear: true,
@@ -82,7 +82,7 @@ pub fn larger<S: Shape>(places: &[(S::Key, u64)], size: BlockSize, key: &S::Key)
 }
 
 /// Whether some place of the block is free, as the plan of a new key asks before it is Full.
-fn has_free_place<K: Copy>(places: &[(K, u64)]) -> bool
+fn plan_finds_free_place<K: Copy>(places: &[(K, u64)]) -> bool
     requires { length places.now < 2 ^ 62 }
     ensures { IsTrue result ↔ ((i : ℕ) × IsFree places.now i) }
 {

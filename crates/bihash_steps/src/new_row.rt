@@ -6,7 +6,7 @@ ghost use Rattle.bihash_rule.specs.Callers.{IsLawfulCaller};
 ghost use Rattle.bihash_rule.specs.Views.{first_view};
 
 use crate::create_fault::CreateFault;
-use crate::row::{Caller, CallerSeat, Row};
+use crate::row_and_callers::{Caller, CallerSeat, Row};
 use crate::row_layout::row_words;
 use crate::scratch::Scratch;
 use atomic_table::Table;

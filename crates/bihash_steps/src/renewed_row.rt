@@ -7,7 +7,7 @@ ghost use Rattle.bihash_rule.specs.Views.{nothing_held};
 ghost use Rattle.bihash_steps.specs.Renewals.{AreRenewed, AreRowWords, HaveFields, IsNextWord, IsRenewed, LoadsRowWord};
 
 use crate::create_fault::CreateFault;
-use crate::row::{Caller, CallerSeat, Row};
+use crate::row_and_callers::{Caller, CallerSeat, Row};
 use crate::row_beginning::{Beginning, mark};
 use crate::scratch::Scratch;
 use atomic_table::{Mark, Table};
@@ -32,8 +32,8 @@ impl<S: Shape> Row<S> {
     }
 }
 
-// With what a renewed row begins, as `E` names it: the caller's proof picks it by these words.
-fn with_all<E: Beginning, S: Shape>(caller: &CallerSeat<S>, _words: &[u64]) -> Mark<Openings>
+// The mark that says with what a renewed row begins, as `E` names it: the caller's proof picks it by these words.
+fn renewed_mark<E: Beginning, S: Shape>(caller: &CallerSeat<S>, _words: &[u64]) -> Mark<Openings>
     ensures { result.view ≡ E.openings }
 {
     mark::<E>(&caller.seat)
@@ -79,7 +79,7 @@ pub fn reopen_row<S: Shape>(
     row.is_sound();
     let scratch = Scratch::reserve(alloc)?;
     let renewed = renewed_words(alloc, row, words)?;
-    let began = Some(with_all::<Brand, S>(&caller.seat, words));
+    let began = Some(renewed_mark::<Brand, S>(&caller.seat, words));
     let (table, seat) = Table::of_words(alloc, renewed.as_slice(), &began)?;
     let row = Row { table };
     let seat = CallerSeat {

@@ -7,7 +7,7 @@ ghost use Rattle.bihash_steps.specs.StoreSteps;
 ghost use Rattle.bihash_steps.specs.StoreSteps.{IsInStore};
 ghost use Rattle.bihash_rule.specs.declared.view.PageStore.{PageStore};
 
-use crate::row::Row;
+use crate::row_and_callers::Row;
 use crate::steps_on_page_store::PoolWord;
 use bihash_words::Shape;
 

@@ -7,7 +7,7 @@ ghost use Rattle.bihash_steps.specs.StoreSteps.{MayReplace, view_after_replace};
 ghost use Rattle.bihash_rule.specs.declared.view.LockedBucket.{LockedBucket};
 ghost use Rattle.bihash_steps.specs.Seats.{Becomes, IsAt, with_view};
 
-use crate::row::{CallerSeat, Row};
+use crate::row_and_callers::{CallerSeat, Row};
 use bihash_rule::Extent;
 use bihash_words::{BlockSize, BucketWord, Shape};
 

@@ -6,7 +6,7 @@ ghost use Rattle.bihash_rule.specs.Callers.{IsLawfulCaller, Agrees};
 ghost use Rattle.bihash_steps.specs.Steps.{parent, newcomer, IsRefused};
 ghost use Rattle.bihash_steps.specs.Seats.{with_view};
 
-use crate::row::{Caller, CallerSeat, Row};
+use crate::row_and_callers::{Caller, CallerSeat, Row};
 use crate::scratch::Scratch;
 use crate::split_fault::SplitFault;
 use bihash_words::Shape;

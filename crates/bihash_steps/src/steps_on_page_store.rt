@@ -8,7 +8,7 @@ ghost use Rattle.bihash_rule.specs.declared.view.LockedStore.{LockedStore};
 ghost use Rattle.bihash_rule.specs.declared.view.HeldBlock.{HeldBlock};
 ghost use Rattle.bihash_steps.specs.Seats.{with_view};
 
-use crate::row::{CallerSeat, Row};
+use crate::row_and_callers::{CallerSeat, Row};
 use crate::row_layout::{ALLOCATION_LOCK, USED_MARK};
 use bihash_words::Shape;
 

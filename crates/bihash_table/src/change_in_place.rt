@@ -17,7 +17,7 @@ use crate::bucket_lock::lock_if_unchanged;
 use crate::change_of_block::remove_last;
 use crate::contended::Contended;
 use crate::hashed_key::SeenBucket;
-use crate::open_bucket_search::has_other_pair;
+use crate::open_bucket_search::has_other_in_open_bucket;
 use bihash_steps::{CallerSeat, Event, Row};
 use bihash_words::{BucketWord, Change, Reply, Shape};
 use std::marker::Brand;
@@ -91,7 +91,7 @@ pub(crate) fn remove<S: Shape>(
     requires { WantsChange ⟦<S as Shape>⟧ row.now seat.old seen.now (Some pair) Remove }
     ensures { Tried ⟦<S as Shape>⟧ seat.old seat.new seen.now.hashed.key.now (Some pair.1) Remove result }
 {
-    let other = has_other_pair(row, seat, seen.word, pair.0);
+    let other = has_other_in_open_bucket(row, seat, seen.word, pair.0);
     if !lock_if_unchanged(row, seat, seen.hashed.bucket, seen.word) {
         return Err(Contended);
     }
@@ -143,7 +143,7 @@ pub(crate) fn store_key<S: Shape>(
 {
     for i in 0..S::WORDS {
         let part = S::word(seen.hashed.key, i);
-        if held_word(row, seat, seen.word, place, i) == part {
+        if word_in_place(row, seat, seen.word, place, i) == part {
             continue;
         }
         store_word(row, seat, seen.word, place, i, part);
@@ -151,7 +151,7 @@ pub(crate) fn store_key<S: Shape>(
 }
 
 // Word i of a place of the locked bucket's block, which is changed in place.
-fn held_word<S: Shape>(
+fn word_in_place<S: Shape>(
     row: &Row<S>,
     seat: &mut CallerSeat<S>,
     word: BucketWord,

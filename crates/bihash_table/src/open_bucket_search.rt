@@ -15,7 +15,7 @@ use bihash_words::{BucketWord, Shape};
 /// The place of the key's pair in the block of the open bucket, and its value. In a block that isn't
 /// linear the four places of one page are looked at.
 #[inline(always)]
-pub(crate) fn find_pair<S: Shape>(
+pub(crate) fn pair_in_open_bucket<S: Shape>(
     row: &Row<S>,
     seat: &mut CallerSeat<S>,
     word: BucketWord,
@@ -46,7 +46,7 @@ pub(crate) fn value_found(pair: Option<(usize, u64)>) -> Option<u64>
 }
 
 /// The first free place that is open to the key in the block of the open bucket.
-pub(crate) fn find_free<S: Shape>(
+pub(crate) fn free_in_open_bucket<S: Shape>(
     row: &Row<S>,
     seat: &mut CallerSeat<S>,
     word: BucketWord,
@@ -66,7 +66,7 @@ pub(crate) fn find_free<S: Shape>(
 }
 
 /// Whether a pair is at another place of the open bucket's block.
-pub(crate) fn has_other_pair<S: Shape>(
+pub(crate) fn has_other_in_open_bucket<S: Shape>(
     row: &Row<S>,
     seat: &mut CallerSeat<S>,
     word: BucketWord,
@@ -210,15 +210,15 @@ fn marks<S: Shape>(
     requires { MayRead (sizes_of S.Shape) row.now seat.old word (first + 4) }
     ensures { HasRead seat.old seat.new (AreMarks (sizes_of S.Shape) (S.words_of hashed.now.key.now) first result) }
 {
-    let a = has_last(row, seat, word, first, hashed);
-    let b = has_last(row, seat, word, first + 1, hashed);
-    let c = has_last(row, seat, word, first + 2, hashed);
-    let d = has_last(row, seat, word, first + 3, hashed);
+    let a = search_mark(row, seat, word, first, hashed);
+    let b = search_mark(row, seat, word, first + 1, hashed);
+    let c = search_mark(row, seat, word, first + 2, hashed);
+    let d = search_mark(row, seat, word, first + 3, hashed);
     (a, b, c, d)
 }
 
-// Whether the last word of the searched key is at a place of the open bucket's block.
-fn has_last<S: Shape>(
+// One mark of a search: whether the last word of the searched key is at a place of the open bucket's block.
+fn search_mark<S: Shape>(
     row: &Row<S>,
     seat: &mut CallerSeat<S>,
     word: BucketWord,

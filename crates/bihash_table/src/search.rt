@@ -5,7 +5,7 @@ ghost use Rattle.bihash_table.specs.Calls.{TellsSearch, TellsSearchTry};
 use crate::bucket_lock::load_unlocked;
 use crate::contended::Contended;
 use crate::hashed_key::HashedKey;
-use crate::open_bucket_search::{find_pair, value_found};
+use crate::open_bucket_search::{pair_in_open_bucket, value_found};
 use crate::shared_table::Sessions;
 use bihash_steps::{Caller, Event};
 use bihash_words::{Change, Reply, Shape};
@@ -26,7 +26,7 @@ impl<S: Shape> Sessions<S> {
         let Some(word) = load_unlocked(&self.row, seat, hashed.bucket) else {
             return Err(Contended);
         };
-        let pair = find_pair(&self.row, seat, word, &hashed);
+        let pair = pair_in_open_bucket(&self.row, seat, word, &hashed);
         let found = value_found(pair);
         let event = Event {
             key: hashed.key,

@@ -16,7 +16,7 @@ use crate::contended::Contended;
 use crate::entered_value::Entrant;
 use crate::hashed_key::{HashedKey, SeenBucket};
 use crate::never_expired::Never;
-use crate::open_bucket_search::{find_free, find_pair, value_found};
+use crate::open_bucket_search::{free_in_open_bucket, pair_in_open_bucket, value_found};
 use crate::shared_table::Sessions;
 use crate::worn_bucket::is_worn;
 use bihash_steps::{Caller, CallerSeat, Event, Row};
@@ -60,7 +60,7 @@ impl<S: Shape> Sessions<S> {
         let Some(word) = load_unlocked(&self.row, &mut caller.seat, hashed.bucket) else {
             return Err(Contended);
         };
-        let pair = find_pair(&self.row, &mut caller.seat, word, &hashed);
+        let pair = pair_in_open_bucket(&self.row, &mut caller.seat, word, &hashed);
         let found = value_found(pair);
         let change = patch.decide(found);
         let seen = SeenBucket { word, hashed };
@@ -175,7 +175,7 @@ fn enter_new<S: Shape, E: Expiry>(
         unreachable!();
     };
     let seat = &mut caller.seat;
-    match find_free(row, seat, seen.word, &seen.hashed) {
+    match free_in_open_bucket(row, seat, seen.word, &seen.hashed) {
         Some(place) => {
             if !lock_if_unchanged(row, seat, seen.hashed.bucket, seen.word) {
                 return Err(Contended);

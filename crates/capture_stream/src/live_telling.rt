@@ -113,7 +113,7 @@ fn tell_window<J: Tellers + Drop, W: Sink>(
 }
 
 // Whether a live capture that ends here, where its records stop after so many packets, ends within one.
-fn cut_at(stop: Stop, packets: usize) -> Result<bool, Fault>
+fn live_cut_at(stop: Stop, packets: usize) -> Result<bool, Fault>
     requires { packets < 2 ^ 63 }
     ensures { MatchResult result (IsCutAt stop) (IsLongAt stop packets) }
 {
@@ -206,7 +206,7 @@ pub fn tell_live<J: Tellers + Drop, R: Source, W: Sink>(
             Ok(told) => told,
             Err(fault) => return Err(fault),
         };
-        let truncated = match cut_at(stop, next.packets) {
+        let truncated = match live_cut_at(stop, next.packets) {
             Ok(truncated) => truncated,
             Err(fault) => return Err(fault),
         };

@@ -23,7 +23,7 @@ enum WindowJudges<J> {
 }
 
 // Those who are ahead of a window's packets judge them.
-fn judge_window<J: Judges + Drop>(judging: &mut WindowJudges<J>, records: Records<'_>)
+fn judge_window_records<J: Judges + Drop>(judging: &mut WindowJudges<J>, records: Records<'_>)
     requires { CanJudge J.became judging.old (kind.Records records) }
     ensures { HaveJudged J.became judging.old (packets_of records.entry) judging.new }
 {
@@ -142,7 +142,7 @@ pub fn judge_and_read<J: Judges + Drop, T: Threads, R: Source + Send>(
             requires { CanJudge J.became judging (kind.Records records) }
             ensures { HaveJudged J.became judging.entry (packets_of records.entry) judging.exit }
         {
-            judge_window(&mut judging, records);
+            judge_window_records(&mut judging, records);
         },
     );
     match judging {

@@ -26,6 +26,6 @@ const TIMES: Timeouts = Timeouts {
 };
 
 // What tests of policies, filters, dealing and workers answer where what they begin with was refused.
-fn refused() -> Result<(), Fail> {
+fn filter_test_refused() -> Result<(), Fail> {
     Err("what the test begins with was refused")?
 }

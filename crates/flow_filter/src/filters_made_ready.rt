@@ -16,7 +16,7 @@ use session_state::Timeouts;
 use std::alloc::{AllocError, Global};
 
 // The rules with which a filter is made ready for an interface without a section: none.
-fn no_rules<'a>() -> Ruleset<'a>
+fn empty_ready_ruleset<'a>() -> Ruleset<'a>
     ensures { rules_in result ≡ [] }
 {
     Ruleset {
@@ -32,8 +32,8 @@ fn unruled<'a>(interface: u8, times: Timeouts) -> InterfaceFilter<'a>
     InterfaceFilter {
         interface,
         own: None,
-        inbound: no_rules(),
-        outbound: no_rules(),
+        inbound: empty_ready_ruleset(),
+        outbound: empty_ready_ruleset(),
         times,
     }
 }

@@ -15,20 +15,20 @@ use crate::reason::Reason;
 use crate::rule_head_findings::head;
 use crate::unseen_characters::unseen;
 use crate::word_finding::{Finding, missing, of};
-use crate::word_readers::{interface, is_word, mac, next};
+use crate::word_readers::{is_word, read_interface_word, read_mac_word, read_next_word};
 use acl_policy::{Line, before_comment, line_of};
 
 // What is wrong with a line that begins with `mac`, by the words after it.
 fn own_line(text: &[u8]) -> Result<(), Finding<'_>>
     ensures { IfErr result (λ found. IsPairReason NoMac IsMac (words_of text.now) found.reason found.word.now) }
 {
-    let Some((word, rest)) = next(text) else {
+    let Some((word, rest)) = read_next_word(text) else {
         return Err(missing());
     };
-    if mac(word).is_none() {
+    if read_mac_word(word).is_none() {
         return Err(of(Reason::NoMac, word));
     }
-    match next(rest) {
+    match read_next_word(rest) {
         Some((extra, _)) => Err(of(Reason::Extra, extra)),
         None => Ok(()),
     }
@@ -38,13 +38,13 @@ fn own_line(text: &[u8]) -> Result<(), Finding<'_>>
 fn heading(text: &[u8]) -> Result<(), Finding<'_>>
     ensures { IfErr result (λ found. IsPairReason NoInterface IsInterface (words_of text.now) found.reason found.word.now) }
 {
-    let Some((word, rest)) = next(text) else {
+    let Some((word, rest)) = read_next_word(text) else {
         return Err(missing());
     };
-    if interface(word).is_none() {
+    if read_interface_word(word).is_none() {
         return Err(of(Reason::NoInterface, word));
     }
-    match next(rest) {
+    match read_next_word(rest) {
         Some((extra, _)) => Err(of(Reason::Extra, extra)),
         None => Ok(()),
     }
@@ -63,7 +63,7 @@ fn rule_line(text: &[u8]) -> Result<(), Finding<'_>>
 fn words_of_line(text: &[u8]) -> Result<(), Finding<'_>>
     ensures { IfErr result (λ found. IsWordsReason (words_of text.now) found.reason found.word.now) }
 {
-    let Some((word, rest)) = next(text) else {
+    let Some((word, rest)) = read_next_word(text) else {
         return Ok(());
     };
     if is_word(word, b"mac") {
@@ -79,7 +79,7 @@ fn words_of_line(text: &[u8]) -> Result<(), Finding<'_>>
 fn first_word(line: &[u8]) -> &[u8]
     ensures { IsFirst (line_words line.now) result.now }
 {
-    match next(before_comment(line)) {
+    match read_next_word(before_comment(line)) {
         Some((word, _)) => word,
         None => b"",
     }

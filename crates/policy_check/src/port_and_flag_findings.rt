@@ -6,7 +6,9 @@ ghost use Rattle.policy_check.specs.Reasons.{HasRange, IsPartReason, IsRangeReas
 
 use crate::reason::Reason;
 use crate::word_finding::{Finding, missing, of};
-use crate::word_readers::{cut, flags, is_word, next, number, range};
+use crate::word_readers::{
+    is_word, read_cut_word, read_flags_word, read_next_word, read_number_word, read_range_word,
+};
 
 // Why a word is no range of ports, types or codes, where it is none: the last number of it is too large, or it is
 // upside down, or another form.
@@ -14,12 +16,12 @@ fn range_fault(word: &[u8], most: u16) -> Reason
     requires { (range : ℕ × ℕ) → IsRange most word.now range → ⊥ }
     ensures { IsRangeReason most word.now result }
 {
-    match cut(word, b'-') {
-        None => match number(word) {
+    match read_cut_word(word, b'-') {
+        None => match read_number_word(word) {
             Some(n) if n > u32::from(most) => Reason::TooLarge(most),
             _ => Reason::NoRange,
         },
-        Some((low, high)) => match (number(low), number(high)) {
+        Some((low, high)) => match (read_number_word(low), read_number_word(high)) {
             (_, Some(n)) if n > u32::from(most) => Reason::TooLarge(most),
             (Some(a), Some(b)) if b < a => Reason::UpsideDown,
             _ => Reason::NoRange,
@@ -33,16 +35,16 @@ pub fn after_range<'a>(text: &'a [u8], name: &[u8], most: u16) -> Result<&'a [u8
     ensures wrong { IfErr result (λ found. (parts : Parts) (used : List (List ℕ)) → HasRange parts name.now most
         → IsPartReason parts (used ++ words_of text.now) found.reason found.word.now) }
 {
-    let Some((word, rest)) = next(text) else {
+    let Some((word, rest)) = read_next_word(text) else {
         return Ok(text);
     };
     if !is_word(word, name) {
         return Ok(text);
     }
-    let Some((value, rest)) = next(rest) else {
+    let Some((value, rest)) = read_next_word(rest) else {
         return Err(missing());
     };
-    match range(value, most) {
+    match read_range_word(value, most) {
         Some(_) => Ok(rest),
         None => Err(of(range_fault(value, most), value)),
     }
@@ -71,16 +73,16 @@ pub fn after_flags(text: &[u8]) -> Result<&[u8], Finding<'_>>
     ensures wrong { IfErr result (λ found. (used : List (List ℕ))
         → IsPartReason OfTcp (used ++ words_of text.now) found.reason found.word.now) }
 {
-    let Some((word, rest)) = next(text) else {
+    let Some((word, rest)) = read_next_word(text) else {
         return Ok(text);
     };
     if !is_word(word, b"flags") {
         return Ok(text);
     }
-    let Some((value, rest)) = next(rest) else {
+    let Some((value, rest)) = read_next_word(rest) else {
         return Err(missing());
     };
-    match flags(value) {
+    match read_flags_word(value) {
         Some(_) => Ok(rest),
         None => Err(of(Reason::NoFlags, value)),
     }

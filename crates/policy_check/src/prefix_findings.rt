@@ -6,7 +6,9 @@ ghost use Rattle.policy_check.specs.Reasons.{HasDottedEnd, IsEndReason, IsLong, 
 
 use crate::reason::Reason;
 use crate::word_finding::{Finding, missing, of};
-use crate::word_readers::{address, cut, next, number, prefix};
+use crate::word_readers::{
+    read_address_word, read_cut_word, read_next_word, read_number_word, read_prefix_word,
+};
 use acl_policy::width_of;
 use packet_view::Family;
 
@@ -14,10 +16,10 @@ use packet_view::Family;
 fn is_long(family: Family, word: &[u8]) -> bool
     ensures { IsTrue result → IsLong family word.now }
 {
-    let Some((front, bits)) = cut(word, b'/') else {
+    let Some((front, bits)) = read_cut_word(word, b'/') else {
         return false;
     };
-    match (address(family, front), number(bits)) {
+    match (read_address_word(family, front), read_number_word(bits)) {
         (Some(_), Some(length)) => length > u32::from(width_of(family)),
         _ => false,
     }
@@ -27,8 +29,8 @@ fn is_long(family: Family, word: &[u8]) -> bool
 fn last_piece(word: &[u8]) -> Option<&[u8]>
     ensures { IfSome result (λ piece. (front : List ℕ) × (word.now ≡ front ++ 58 ∷ piece.now)) }
 {
-    let (_, mut piece) = cut(word, b':')?;
-    'colons: while let Some((_, behind)) = cut(piece, b':') {
+    let (_, mut piece) = read_cut_word(word, b':')?;
+    'colons: while let Some((_, behind)) = read_cut_word(piece, b':') {
         piece = behind;
     }
     Some(piece)
@@ -38,7 +40,7 @@ fn last_piece(word: &[u8]) -> Option<&[u8]>
 fn before_length(word: &[u8]) -> &[u8]
     ensures { (rest : List ℕ) × (word.now ≡ result.now ++ rest) × ((rest ≡ []) ⊎ ((bits : List ℕ) × (rest ≡ 47 ∷ bits))) }
 {
-    match cut(word, b'/') {
+    match read_cut_word(word, b'/') {
         Some((address, _)) => address,
         None => word,
     }
@@ -49,7 +51,7 @@ fn dotted_end(word: &[u8]) -> Option<(u16, u16)>
     ensures { IfSome result (λ groups. HasDottedEnd word.now groups.0 groups.1) }
 {
     let piece = last_piece(word)?;
-    let number = address(Family::V4, before_length(piece))?;
+    let number = read_address_word(Family::V4, before_length(piece))?;
     Some(((number / 65536) as u16, (number % 65536) as u16))
 }
 
@@ -65,13 +67,13 @@ fn other_family(family: Family) -> Family {
 fn prefix_reason(family: Family, word: &[u8]) -> Option<Reason>
     ensures { MatchOption result ((p : ℕ × ℕ) × IsPrefix family word.now p) (IsPrefixReason family word.now) }
 {
-    let None = prefix(family, word) else {
+    let None = read_prefix_word(family, word) else {
         return None;
     };
     if is_long(family, word) {
         return Some(Reason::LongPrefix(width_of(family)));
     }
-    if let Some(_) = prefix(other_family(family), word) {
+    if let Some(_) = read_prefix_word(other_family(family), word) {
         return Some(Reason::OtherFamily);
     }
     match (family, dotted_end(word)) {
@@ -85,13 +87,13 @@ pub fn ends(family: Family, text: &[u8]) -> Result<&[u8], Finding<'_>>
     ensures right { IfOk result (λ rest. (source dest : List ℕ) × (words_of text.now ≡ source ∷ dest ∷ words_of rest.now)) }
     ensures wrong { IfErr result (λ found. IsEndReason family (words_of text.now) found.reason found.word.now) }
 {
-    let Some((source, text)) = next(text) else {
+    let Some((source, text)) = read_next_word(text) else {
         return Err(missing());
     };
     if let Some(reason) = prefix_reason(family, source) {
         return Err(of(reason, source));
     }
-    let Some((dest, text)) = next(text) else {
+    let Some((dest, text)) = read_next_word(text) else {
         return Err(missing());
     };
     match prefix_reason(family, dest) {

@@ -7,7 +7,7 @@ ghost use Rattle.policy_check.specs.Reasons.{IsPartReason, IsTrafficReason};
 use crate::port_and_flag_findings::{after_both, after_flags};
 use crate::reason::Reason;
 use crate::word_finding::{Finding, of};
-use crate::word_readers::{next, protocol};
+use crate::word_readers::{read_next_word, read_protocol_word};
 use acl_policy::icmp_number;
 use packet_view::Family;
 
@@ -20,7 +20,7 @@ fn left(text: &[u8], reason: Reason) -> Result<(), Finding<'_>>
     ensures reason { IfErr result (λ found. found.reason ≡ reason) }
     ensures word { IfErr result (λ found. (rest : List (List ℕ)) × (words_of text.now ≡ found.word.now ∷ rest)) }
 {
-    match next(text) {
+    match read_next_word(text) {
         Some((word, _)) => Err(of(reason, word)),
         None => Ok(()),
     }
@@ -78,10 +78,10 @@ fn parts(family: Family, proto: u8, text: &[u8]) -> Result<(), Finding<'_>>
 pub fn traffic(family: Family, text: &[u8]) -> Result<(), Finding<'_>>
     ensures { IfErr result (λ found. IsTrafficReason family (words_of text.now) found.reason found.word.now) }
 {
-    let Some((word, rest)) = next(text) else {
+    let Some((word, rest)) = read_next_word(text) else {
         return Ok(());
     };
-    match protocol(family, word) {
+    match read_protocol_word(family, word) {
         Some(proto) => parts(family, proto, rest),
         None => Err(of(Reason::NoProtocol, word)),
     }

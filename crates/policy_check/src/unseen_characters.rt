@@ -5,7 +5,7 @@ ghost use Rattle.policy_check.specs.Reasons.{IsUnseen, Stands};
 
 use crate::reason::Reason;
 use crate::word_finding::{Finding, of};
-use crate::word_readers::next;
+use crate::word_readers::read_next_word;
 
 // Whether a word begins with the byte order mark, a character that isn't seen.
 fn begins_with_mark(word: &[u8]) -> bool
@@ -53,7 +53,7 @@ pub fn unseen(text: &[u8]) -> Option<Finding<'_>>
     ensures word { IfSome result (λ found. Stands found.word.now (words_of text.now)) }
 {
     let mut rest = text;
-    'words: while let Some((word, more)) = next(rest) {
+    'words: while let Some((word, more)) = read_next_word(rest) {
         if let Some(reason) = unseen_in(word) {
             return Some(of(reason, word));
         }

@@ -5,7 +5,7 @@ ghost use Rattle.policy_words.specs.Traffic.{every};
 ghost use Rattle.policy_words.specs.Words.{words_of};
 
 use crate::line_words::{cut_at, next_word};
-use crate::number_parsing::{number_up_to, pair_of};
+use crate::number_parsing::{number_of_hex_pair, number_up_to};
 
 /// Every port, type or code.
 pub const EVERY: (u16, u16) = (0, u16::MAX);
@@ -30,8 +30,8 @@ pub fn flags_of_word(word: &[u8]) -> Option<(u8, u8)>
     ensures { result ≡ flags_in word.now }
 {
     let (value, mask) = cut_at(word, b'/')?;
-    let value = pair_of(value)?;
-    let mask = pair_of(mask)?;
+    let value = number_of_hex_pair(value)?;
+    let mask = number_of_hex_pair(mask)?;
     Some((value, mask))
 }
 

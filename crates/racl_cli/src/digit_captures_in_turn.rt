@@ -13,13 +13,13 @@ ghost use Rattle.racl_cli.specs.inner.Plans.{HasReached, MayJudgeContent};
 use crate::capture_header_reading::read_header;
 use crate::ended_workers::Ended;
 use crate::input_front::Marked;
-use crate::judge_by_plan::end_capture;
+use crate::judge_by_plan::end_capture_by_plan;
 use crate::run_plan::{Plan, plan_for, threads_beside, window_size};
 use crate::sized_tables_and_workers::{SizedWorkers, create_sized};
 use crate::stored_sessions::with_stored;
 use crate::workers_as_judges::Crew;
 use capture_stream::{HexDigits, Opening, Streamed, are_digits, judge_stream};
-use racl_io::{Captured, Digits, Fault, Form, Numbered, cut_digits};
+use racl_io::{Captured, Digits, Fault, Form, Numbered, cut_at_numbered_marker};
 use racl_options::Options;
 use racl_report::Judged;
 use std::alloc::Global;
@@ -65,7 +65,7 @@ impl<'t, 'f, 'b, T: Wait> Walk<'t, 'f, 'b, T> {
 }
 
 // Whether one of the captures as digits that were judged is of the interface with this number.
-fn is_seen(seen: &[u8], number: u8) -> bool
+fn is_digit_capture_seen(seen: &[u8], number: u8) -> bool
     ensures { result ≡ list_any (λ other. other == number) seen.now }
 {
     seen.iter().any(|other| *other == number)
@@ -119,10 +119,10 @@ fn judge_next<'t, 'f, 'b, T: Threads + Wait + Sync>(
         ..
     } = walk;
     let number = capture.interface;
-    if is_seen(&seen, number) {
+    if is_digit_capture_seen(&seen, number) {
         return Err(Fault::Twice(number));
     }
-    let Digits { digits, next } = cut_digits(capture.content);
+    let Digits { digits, next } = cut_at_numbered_marker(capture.content);
     let Streamed {
         judges,
         packets,
@@ -184,7 +184,7 @@ fn judge_all<'t, T: Threads + Wait + Sync>(
     match form {
         Form::Binary => unreachable!(),
         Form::Hexadecimal => match judge_digits(beside, crew, 0, content) {
-            Ok(streamed) => end_capture(streamed),
+            Ok(streamed) => end_capture_by_plan(streamed),
             Err(fault) => Err(fault),
         },
         Form::Numbered(interface) => {
@@ -194,7 +194,7 @@ fn judge_all<'t, T: Threads + Wait + Sync>(
 }
 
 // What the packets of all captures as digits met that follow a marker line of this form, by this plan.
-fn judge_content<T: Threads + Wait + Sync>(
+fn judge_digit_content<T: Threads + Wait + Sync>(
     rt: &T,
     alloc: Global,
     options: &Options,
@@ -224,7 +224,7 @@ fn judge_content<T: Threads + Wait + Sync>(
 }
 
 /// What the packets of captures as digits met, of an input of which all was read.
-pub fn judge_captures<T: Threads + Wait + Sync>(
+pub fn judge_digit_captures<T: Threads + Wait + Sync>(
     rt: &T,
     alloc: Global,
     options: &Options,
@@ -249,5 +249,5 @@ pub fn judge_captures<T: Threads + Wait + Sync>(
         filter: &ready,
         workers,
     };
-    judge_content(rt, alloc, options, plan, form, content)
+    judge_digit_content(rt, alloc, options, plan, form, content)
 }

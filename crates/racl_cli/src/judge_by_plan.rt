@@ -27,7 +27,7 @@ use std::thread::Threads;
 
 /// What workers leave who judged all packets of the only capture by a plan: the verdicts, what the report tells of it,
 /// and their callers.
-pub fn end_capture<T: Wait>(streamed: Streamed<Crew<'_, '_, T>>) -> Result<Ended, Fault>
+pub fn end_capture_by_plan<T: Wait>(streamed: Streamed<Crew<'_, '_, T>>) -> Result<Ended, Fault>
     requires { HaveJudgedSome streamed.judges.workers }
     ensures ok { IfOk result (HasEnded streamed.entry.judges.workers streamed.entry.truncated) }
     ensures fault { IfErr result (λ fault. fault ≡ Memory) }
@@ -83,7 +83,7 @@ fn judge_planned<R: Source + Send, T: Threads + Wait + Sync>(
     let crew = Crew { alloc, workers };
     let size = window_size(beside.is_some());
     match judge_stream(beside, alloc, reader, crew, opening, size) {
-        Ok(streamed) => match end_capture(streamed) {
+        Ok(streamed) => match end_capture_by_plan(streamed) {
             Ok(ended) => with_stored(rt, alloc, options, tables, ended),
             Err(fault) => Err(fault),
         },

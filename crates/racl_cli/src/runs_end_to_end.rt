@@ -9,7 +9,7 @@ ghost use Rattle.racl_cli.specs.Runs.{AnswersRight, HasRun};
 ghost use Rattle.racl_cli.specs.SavingRuns.{HasRunSaving};
 
 use crate::bytes_at_hand::AtHand;
-use crate::digit_captures_in_turn::judge_captures;
+use crate::digit_captures_in_turn::judge_digit_captures;
 use crate::input_front::{Front, Headed, Opened, open_source, read_rest};
 use crate::judge_by_plan::judge_records;
 use crate::run_plan::threads_beside;
@@ -56,7 +56,7 @@ fn judge_source<R: Source + Send, T: Threads + Wait + Sync>(
             };
             judge_records(rt, alloc, options, reader, &filter, opening)
         }
-        Opened::Digits(marked) => judge_captures(rt, alloc, options, &bytes, marked),
+        Opened::Digits(marked) => judge_digit_captures(rt, alloc, options, &bytes, marked),
     }
 }
 

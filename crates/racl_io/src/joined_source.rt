@@ -17,7 +17,7 @@ use std::io::{Chain, Cursor, Read};
 pub type Marked<R> = Chain<Cursor<Vec<u8>>, Written<R>>;
 
 // The marker line that a joined source has before a capture, behind the line feed that ends the line before.
-fn marker_line(alloc: Global, form: Form) -> Result<Vec<u8>, AllocError>
+fn joined_marker_line(alloc: Global, form: Form) -> Result<Vec<u8>, AllocError>
     ensures { IfOk result (λ line. line.items ≡ told.marker_line form) }
 {
     match form {
@@ -40,7 +40,7 @@ pub fn marked<R: Read + Drop>(
 ) -> Result<Marked<R>, AllocError>
     ensures { IfOk result (λ marked. marked_left R.remaining marked ≡ marked_bytes form (R.remaining capture)) }
 {
-    let line = marker_line(alloc, form)?;
+    let line = joined_marker_line(alloc, form)?;
     Ok(Cursor::new(line).chain(Written::new(form, capture)))
 }
 

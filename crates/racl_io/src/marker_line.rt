@@ -163,7 +163,7 @@ pub fn split_input(bytes: &[u8]) -> Option<Input<'_>>
 
 /// Cuts what follows a marker line with a number: into the digits of its capture, and the next such line with what
 /// follows it.
-pub fn cut_digits(content: &[u8]) -> Digits<'_>
+pub fn cut_at_numbered_marker(content: &[u8]) -> Digits<'_>
     ensures cut { AreCutDigits content.now result.digits.now (numbered_facts result.next) }
     ensures shorter { IfSome result.next (λ next. length next.content.now < length content.now) }
 {

@@ -21,7 +21,7 @@ const PART_BYTES: usize = 32_768;
 const SMALL_BYTES: usize = 1_048_576;
 
 // Keeps bytes that reading an input gave, behind those that were there.
-fn keep(all: &mut Vec<u8>, bytes: &[u8]) -> Result<(), AllocError>
+fn keep_while_reading(all: &mut Vec<u8>, bytes: &[u8]) -> Result<(), AllocError>
     requires { vec_len all.old ≤ most_bytes }
     ensures items { OnOk result (all.new.items ≡ all.old.items ++ bytes.now) }
     ensures room { vec_capacity all.old ≤ vec_capacity all.new }
@@ -55,7 +55,7 @@ pub fn read_until<R: Source>(reader: &mut R, all: &mut Vec<u8>, least: usize) ->
         if n == 0 {
             return Ok(true);
         }
-        keep(all, &part[..n])?;
+        keep_while_reading(all, &part[..n])?;
     }
     Ok(false)
 }

@@ -80,7 +80,7 @@ fn is_saved(saved: &Saved<'_>) -> bool
 }
 
 // Whether the options that are asked name one file for `--drops` and `--passes`, which can't get both.
-fn is_shared(drops: Option<&str>, passes: Option<&str>) -> bool
+fn is_shared_file_asked(drops: Option<&str>, passes: Option<&str>) -> bool
     ensures { result ≡ told.is_shared (text_behind drops.entry) (text_behind passes.entry) }
 {
     match (drops, passes) {
@@ -103,7 +103,7 @@ fn misfit(asked: &Asked<'_>) -> Option<&'static str>
     if is_saved(&asked.saved) && !are_files(&asked.origin) {
         return Some(NOT_SAVED);
     }
-    if is_shared(asked.saved.drops, asked.saved.passes) {
+    if is_shared_file_asked(asked.saved.drops, asked.saved.passes) {
         return Some(ONE_FILE);
     }
     if asked.options.live && !can_be_live(asked) {

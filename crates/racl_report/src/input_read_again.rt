@@ -10,7 +10,7 @@ ghost use Rattle.racl_report.specs.inner.NumberedCaptures.{AreTakenFrom, facts_o
 ghost use Rattle.racl_report.specs.inner.InputsAgain.{IsAgain};
 
 use acl_policy::{Policy, read_policy};
-use racl_io::{Digits, Form, Input, Numbered, cut_digits, decode_digits, split_input};
+use racl_io::{Digits, Form, Input, Numbered, cut_at_numbered_marker, decode_digits, split_input};
 use racl_views::CaptureBytes;
 use std::alloc::{AllocError, Global};
 
@@ -34,7 +34,7 @@ fn numbered_captures(alloc: Global, first: Numbered<'_>) -> Result<Vec<CaptureBy
         let Digits {
             digits,
             next: behind,
-        } = cut_digits(capture.content);
+        } = cut_at_numbered_marker(capture.content);
         let Ok(bytes) = decode_digits(alloc, digits) else {
             return Err(AllocError);
         };

@@ -18,7 +18,7 @@ pub struct LiveFiles {
 }
 
 // The text of the policy's file of a live run. Where it can't be had that is told, and the status is answered.
-fn policy_text(rt: &HostRuntime, alloc: Global, name: &str) -> io::Result<Result<Vec<u8>, u8>>
+fn live_policy_text(rt: &HostRuntime, alloc: Global, name: &str) -> io::Result<Result<Vec<u8>, u8>>
     ensures few { IfOk result (λ found. IfOk found (λ text. length text.items ≤ most_bytes)) }
     ensures status { IfOk result (λ found. IfErr found (λ status. (status ≡ 1) ⊎ (status ≡ 4))) }
 {
@@ -49,7 +49,7 @@ pub fn opened_live(
     ensures few { IfOk result (λ found. IfOk found (λ opened. length opened.text.items ≤ most_bytes)) }
     ensures status { IfOk result (λ found. IfErr found (λ status. (status ≡ 1) ⊎ (status ≡ 4))) }
 {
-    let text = match policy_text(rt, alloc, files.policy) {
+    let text = match live_policy_text(rt, alloc, files.policy) {
         Ok(Ok(text)) => text,
         Ok(Err(status)) => return Ok(Err(status)),
         Err(error) => return Err(error),

@@ -16,6 +16,6 @@ mod windows;
 mod windows_of_digits;
 
 // What tests of racl's crates answer where what they begin with was refused.
-fn refused() -> Result<(), Fail> {
+fn racl_test_refused() -> Result<(), Fail> {
     Err("what the test begins with was refused")?
 }

@@ -13,7 +13,7 @@ use crate::stored_flow_end::FlowEnd;
 use packet_view::Family;
 
 // The flow between two addresses, where the last word of its key is this.
-fn flow_between(family: Family, first: u128, second: u128, word: u64) -> StoredFlow
+fn flow_with_key_word(family: Family, first: u128, second: u128, word: u64) -> StoredFlow
     requires first { first < address_limit family }
     requires second { second < address_limit family }
     ensures { flow_facts result ≡ line.flow_between family first second word }
@@ -38,7 +38,7 @@ pub fn four_flow(key: [u64; 2]) -> StoredFlow
     ensures { flow_facts result ≡ line.four_flow key }
 {
     let [ends, word] = key;
-    flow_between(
+    flow_with_key_word(
         Family::V4,
         u128::from(ends >> 32),
         u128::from(ends % (1 << 32)),
@@ -59,7 +59,7 @@ pub fn six_flow(key: [u64; 5]) -> StoredFlow
     ensures { flow_facts result ≡ line.six_flow key }
 {
     let [first, first_lower, second, second_lower, word] = key;
-    flow_between(
+    flow_with_key_word(
         Family::V6,
         address_of(first, first_lower),
         address_of(second, second_lower),

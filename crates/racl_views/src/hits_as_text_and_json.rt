@@ -20,7 +20,7 @@ use crate::place_of_rule::number_at;
 use crate::reason_without_rule::Reason;
 use crate::rule_counts::count_packets;
 use crate::rule_name::RuleLine;
-use crate::rule_numbering::rule_lines;
+use crate::rule_numbering::numbered_rules;
 use crate::run_and_verdicts::Run;
 use crate::session_counts::{SessionCounts, count_sessions};
 use crate::stored_pairs::StoredPairs;
@@ -176,7 +176,7 @@ fn tell_hits(alloc: Global, view: View, hits: &[Hit]) -> Result<Vec<u8>, AllocEr
 }
 
 // Hits that are told as text or JSON: those of rules behind others, by the counts of all.
-fn push_rules(hits: &mut Vec<Hit>, counts: &[u64], rules: &[RuleLine]) -> Result<(), AllocError>
+fn push_rule_hits(hits: &mut Vec<Hit>, counts: &[u64], rules: &[RuleLine]) -> Result<(), AllocError>
     ensures { OnOk result ((deciding : List (Option RuleName)) → Count counts.now deciding
         → hits.new.items ≡ hits.old.items ++ rule_hits deciding rules.now) }
 {
@@ -194,7 +194,7 @@ fn unruled(reason: Reason, verdicts: &[Verdict]) -> Hit
 }
 
 // Hits that are told as text or JSON: those of the reasons that are no rules, behind others.
-fn push_reasons(hits: &mut Vec<Hit>, verdicts: &[Verdict]) -> Result<(), AllocError>
+fn push_reason_hits(hits: &mut Vec<Hit>, verdicts: &[Verdict]) -> Result<(), AllocError>
     ensures { OnOk result (hits.new.items ≡ hits.old.items ++ reason_hits verdicts.now) }
 {
     hits.extend_from_slice(&[
@@ -211,7 +211,7 @@ fn push_reasons(hits: &mut Vec<Hit>, verdicts: &[Verdict]) -> Result<(), AllocEr
 }
 
 // Hits that are told as text or JSON: those of sessions, by their counts, behind others.
-fn push_sessions(hits: &mut Vec<Hit>, counts: SessionCounts) -> Result<(), AllocError>
+fn push_session_hits(hits: &mut Vec<Hit>, counts: SessionCounts) -> Result<(), AllocError>
     ensures { OnOk result (hits.new.items ≡ hits.old.items ++ session_hits counts) }
 {
     hits.extend_from_slice(&[
@@ -234,9 +234,9 @@ fn hits_of(
         → hits.items ≡ rule_hits deciding rules.now ++ (reason_hits verdicts.now ++ session_hits sessions)) }
 {
     let mut hits = Vec::new(alloc);
-    push_rules(&mut hits, counts, rules)?;
-    push_reasons(&mut hits, verdicts)?;
-    push_sessions(&mut hits, sessions)?;
+    push_rule_hits(&mut hits, counts, rules)?;
+    push_reason_hits(&mut hits, verdicts)?;
+    push_session_hits(&mut hits, sessions)?;
     Ok(hits)
 }
 
@@ -254,7 +254,7 @@ pub fn hits_text(
     ensures { IfOk result (λ told. IsPolicyText run.entry.text.now (policy_facts run.entry.policy.now)
         → IsHits view times (run_facts run.entry) (stored_facts stored.now) told.items) }
 {
-    let rules = rule_lines(alloc, run.text)?;
+    let rules = numbered_rules(alloc, run.text)?;
     let counts = count_packets(alloc, run.policy, run.packets, run.verdicts)?;
     let sessions = count_sessions(times, run, stored);
     let hits = hits_of(alloc, &rules, &counts, run.verdicts, sessions)?;

@@ -184,7 +184,7 @@ pub fn push_packet(
 }
 
 // The number of the interface in the object of a truncated capture: 0 where none is named.
-fn number_of(named: Option<u8>) -> u64
+fn object_interface(named: Option<u8>) -> u64
     ensures { result ≡ unwrap_or named 0 }
 {
     match named {
@@ -198,7 +198,7 @@ pub fn push_truncation(text: Vec<u8>, captured: &Captured) -> Result<Vec<u8>, Al
     ensures { IfOk result (λ new. new.items ≡ text.items ++ object_line (truncation_object captured.now)) }
 {
     let mut object = begin(&text)?;
-    add_number(&mut object, "interface", number_of(captured.named))?;
+    add_number(&mut object, "interface", object_interface(captured.named))?;
     add_number(&mut object, "truncated_after", captured.packets as u64)?;
     end(object, text)
 }

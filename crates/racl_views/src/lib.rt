@@ -50,7 +50,7 @@ pub use flow_key::keys_tell_their_flows;
 pub use hits_as_text_and_json::hits_text;
 pub use json_report::write_objects;
 pub use rule_name::{RuleLine, RuleName};
-pub use rule_numbering::rule_lines;
+pub use rule_numbering::numbered_rules;
 pub use run_and_verdicts::Run;
 pub use sessions_as_text_and_json::sessions_text;
 pub use stored_pairs::StoredPairs;

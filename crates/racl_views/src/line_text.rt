@@ -19,7 +19,7 @@ pub fn push_numbered(piece: &mut Piece, word: &[u8], number: u64)
 }
 
 // The protocol in the text of a packet or a session: by its name, or by its number where it has none.
-fn push_name(piece: &mut Piece, family: Family, proto: u8)
+fn push_line_protocol_word(piece: &mut Piece, family: Family, proto: u8)
     requires { length piece.old + 33 ≤ 262144 }
     ensures text { piece.new ≡ piece.old ++ protocol_text family proto }
     ensures short { length piece.new ≤ length piece.old + 33 }
@@ -36,17 +36,17 @@ fn push_name(piece: &mut Piece, family: Family, proto: u8)
 }
 
 /// The protocol in the text of a packet or a session, as policies write it, behind a blank.
-pub fn push_protocol(piece: &mut Piece, family: Family, proto: u8)
+pub fn push_line_protocol(piece: &mut Piece, family: Family, proto: u8)
     requires { length piece.old + 34 ≤ 262144 }
     ensures text { piece.new ≡ piece.old ++ (codes " " ++ protocol_text family proto) }
     ensures short { length piece.new ≤ length piece.old + 34 }
 {
     piece.push(b" ");
-    push_name(piece, family, proto);
+    push_line_protocol_word(piece, family, proto);
 }
 
 /// The flags of TCP in the text of a packet or a session.
-pub fn push_flags(piece: &mut Piece, flags: u8)
+pub fn push_line_flags(piece: &mut Piece, flags: u8)
     requires { length piece.old + 9 ≤ 262144 }
     ensures text { piece.new ≡ piece.old ++ flags_text flags }
     ensures short { length piece.new ≤ length piece.old + 9 }

@@ -8,7 +8,7 @@ ghost use Rattle.racl_views.specs.ExplainedLines.{carried_told, from_told, seen_
 ghost use Rattle.racl_views.specs.PacketWords.{address_text};
 
 use crate::address_text::push_address;
-use crate::line_text::{push_flags, push_numbered, push_protocol};
+use crate::line_text::{push_line_flags, push_line_protocol, push_numbered};
 use crate::packet_entry::Entry;
 use packet_view::{Direction, Family, Fields, Frame, Tuple};
 use racl_io::Piece;
@@ -62,7 +62,7 @@ fn push_to(piece: &mut Piece, fields: Fields)
         Fields::Ports { to, .. } => push_numbered(piece, b" port ", u64::from(to)),
         Fields::Tcp { to, flags, .. } => {
             push_numbered(piece, b" port ", u64::from(to));
-            push_flags(piece, flags);
+            push_line_flags(piece, flags);
         }
         Fields::Icmp { kind, code } => {
             push_numbered(piece, b" type ", u64::from(kind));
@@ -87,7 +87,7 @@ fn push_tuple(piece: &mut Piece, tuple: &Tuple)
     ensures text { piece.new ≡ piece.old ++ tuple_told (tuple_facts tuple.now) }
     ensures short { length piece.new ≤ length piece.old + 341 }
 {
-    push_protocol(piece, tuple.family, tuple.proto);
+    push_line_protocol(piece, tuple.family, tuple.proto);
     push_end(piece, b" ", tuple.family, tuple.source);
     push_from(piece, tuple.fields);
     push_end(piece, b" to ", tuple.family, tuple.dest);

@@ -39,7 +39,7 @@ pub fn number_at(numbers: &[u64], rule: &RuleName) -> u64
 }
 
 /// Sees that a list of numbers reaches to the place of a rule. The places that come have 0.
-pub fn reach(numbers: &mut Vec<u64>, place: usize) -> Result<(), AllocError>
+pub fn reach_rule_place(numbers: &mut Vec<u64>, place: usize) -> Result<(), AllocError>
     ensures same { (k : ℕ) → get_or numbers.new.items k 0 ≡ get_or numbers.old.items k 0 }
     ensures there { OnOk result (place < length numbers.new.items) }
 {

@@ -8,7 +8,7 @@ ghost use Rattle.racl_views.specs.inner.Counts.{AreCounts};
 ghost use Rattle.racl_views.specs.Deciding.{decided_by};
 
 use crate::deciding_rule::deciding_rule;
-use crate::place_of_rule::{place, reach};
+use crate::place_of_rule::{place, reach_rule_place};
 use crate::rule_name::RuleName;
 use acl_policy::Policy;
 use flow_filter::Verdict;
@@ -20,7 +20,7 @@ fn count_one(counts: &mut Vec<u64>, place: usize) -> Result<(), AllocError>
     requires { get_or counts.old.items place 0 < 2 ^ 64 - 1 }
     ensures { OnOk result ((k : ℕ) → get_or counts.new.items k 0 ≡ get_or counts.old.items k 0 + (if place == k then 1 else 0)) }
 {
-    reach(counts, place)?;
+    reach_rule_place(counts, place)?;
     counts[place] += 1;
     Ok(())
 }

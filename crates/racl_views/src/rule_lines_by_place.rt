@@ -5,9 +5,9 @@ ghost use Rattle.racl_views.specs.Entries.{line_deciding};
 ghost use Rattle.racl_views.specs.inner.EntryLists.{AreAtPlaces};
 ghost use Rattle.racl_views.specs.inner.Tellings.{IsTableOf};
 
-use crate::place_of_rule::{number_at, place, reach};
+use crate::place_of_rule::{number_at, place, reach_rule_place};
 use crate::rule_name::{RuleLine, RuleName};
-use crate::rule_numbering::rule_lines;
+use crate::rule_numbering::numbered_rules;
 use crate::rule_table::RuleTable;
 use crate::rule_texts_in_policy::texts_of;
 use std::alloc::{AllocError, Global};
@@ -16,7 +16,7 @@ use std::alloc::{AllocError, Global};
 fn set_line(lines: &mut Vec<u64>, place: usize, line: u64) -> Result<(), AllocError>
     ensures { OnOk result ((k : ℕ) → get_or lines.new.items k 0 ≡ (if place == k then line else get_or lines.old.items k 0)) }
 {
-    reach(lines, place)?;
+    reach_rule_place(lines, place)?;
     lines[place] = line;
     Ok(())
 }
@@ -46,7 +46,7 @@ fn lines_at_places(alloc: Global, rules: &[RuleLine]) -> Result<Vec<u64>, AllocE
 pub fn rule_table(alloc: Global, text: &[u8]) -> Result<RuleTable<'_>, AllocError>
     ensures { IfOk result (IsTableOf text.now) }
 {
-    let rules = rule_lines(alloc, text)?;
+    let rules = numbered_rules(alloc, text)?;
     let lines = lines_at_places(alloc, &rules)?;
     let texts = texts_of(alloc, text)?;
     Ok(RuleTable {

@@ -29,7 +29,7 @@ fn numbered(spot: &Spot, direction: Direction, others: u64, line: u64) -> RuleLi
 }
 
 // Numbers the rule in the line behind the spot, which has this number and says this.
-fn rule_at(spot: &Spot, line: u64, said: Line) -> Option<RuleLine>
+fn numbered_rule_at(spot: &Spot, line: u64, said: Line) -> Option<RuleLine>
     requires { IsShort spot.now line }
     ensures { (before : List LineFacts) → IsBehind before spot.now → line ≡ length before + 1
         → listed result ≡ rule_here before (line_facts said) }
@@ -77,7 +77,7 @@ fn behind(spot: &Spot, line: u64, said: Line) -> Spot
 
 // What a line of the text in which rules are numbered says, where it says something.
 #[tactic(auto, unfolding(crate::specs::inner::Spots::said))]
-fn reading(line: &[u8]) -> Line
+fn line_for_numbering(line: &[u8]) -> Line
     ensures { line_facts result ≡ said line.now }
 {
     match line_of(line) {
@@ -87,13 +87,18 @@ fn reading(line: &[u8]) -> Line
 }
 
 // While rules are numbered: passes the line behind the spot, which has this number and says this.
-fn pass(rules: &mut Vec<RuleLine>, spot: &mut Spot, line: u64, said: Line) -> Result<(), AllocError>
+fn number_rules_past_line(
+    rules: &mut Vec<RuleLine>,
+    spot: &mut Spot,
+    line: u64,
+    said: Line,
+) -> Result<(), AllocError>
     requires { IsShort spot.old line }
     ensures rule { OnOk result ((before : List LineFacts) → IsBehind before spot.old → line ≡ length before + 1
         → rules.new.items ≡ rules.old.items ++ rule_here before (line_facts said)) }
     ensures behind { OnOk result ((before : List LineFacts) → IsBehind before spot.old → IsBehind (line_facts said ∷ before) spot.new) }
 {
-    if let Some(rule) = rule_at(spot, line, said) {
+    if let Some(rule) = numbered_rule_at(spot, line, said) {
         rules.push(rule)?;
     }
     *spot = behind(spot, line, said);
@@ -101,7 +106,7 @@ fn pass(rules: &mut Vec<RuleLine>, spot: &mut Spot, line: u64, said: Line) -> Re
 }
 
 // Numbers the rules of a policy's text that is UTF-8, with their lines.
-fn rules_in(alloc: Global, text: &str) -> Result<Vec<RuleLine>, AllocError>
+fn numbered_rules_in(alloc: Global, text: &str) -> Result<Vec<RuleLine>, AllocError>
     ensures { IfOk result (λ rules. rules.items ≡ rules_from [] (map said (lines text.now))) }
 {
     let mut rules = Vec::new(alloc);
@@ -113,17 +118,22 @@ fn rules_in(alloc: Global, text: &str) -> Result<Vec<RuleLine>, AllocError>
     let mut number = 0;
     for line in text.lines() {
         number += 1;
-        pass(&mut rules, &mut spot, number, reading(line.as_bytes()))?;
+        number_rules_past_line(
+            &mut rules,
+            &mut spot,
+            number,
+            line_for_numbering(line.as_bytes()),
+        )?;
     }
     Ok(rules)
 }
 
 /// Numbers the rules of a policy's text in the order of their lines. An `Err` says that memory ran out.
-pub fn rule_lines(alloc: Global, text: &[u8]) -> Result<Vec<RuleLine>, AllocError>
+pub fn numbered_rules(alloc: Global, text: &[u8]) -> Result<Vec<RuleLine>, AllocError>
     ensures { IfOk result (λ rules. (policy : PolicyFacts) → IsPolicyText text.now policy → AreRules text.now rules.items) }
 {
     match str::from_utf8(text) {
-        Ok(text) => rules_in(alloc, text),
+        Ok(text) => numbered_rules_in(alloc, text),
         Err(_) => Ok(Vec::new(alloc)),
     }
 }

@@ -13,7 +13,7 @@ use std::alloc::{AllocError, Global};
 const MOST_SHOWN: usize = 200;
 
 // The text of a policy's line from its first word on, where what is shown of a rule begins.
-fn after_blanks(text: &[u8]) -> &[u8]
+fn rule_text_after_blanks(text: &[u8]) -> &[u8]
     ensures { result.now ≡ from_word text.now }
 {
     match word_start(text) {
@@ -23,7 +23,7 @@ fn after_blanks(text: &[u8]) -> &[u8]
 }
 
 // The text of a policy's line without the blanks at its end, which aren't shown of a rule.
-fn before_blanks(text: &[u8]) -> &[u8]
+fn rule_text_before_blanks(text: &[u8]) -> &[u8]
     ensures { result.now ≡ without_end text.now }
 {
     let mut kept = text;
@@ -52,7 +52,7 @@ fn rule_text(line: &[u8]) -> RuleText<'_>
     ensures { shown_of result ≡ RuleTexts.rule_text line.now }
 {
     RuleText {
-        text: front(before_blanks(after_blanks(before_comment(line)))),
+        text: front(rule_text_before_blanks(rule_text_after_blanks(before_comment(line)))),
     }
 }
 

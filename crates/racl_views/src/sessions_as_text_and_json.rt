@@ -14,7 +14,7 @@ use crate::address_text::push_address;
 use crate::flow_key::{four_flow, six_flow};
 use crate::json_fields::{add_address, add_number, begin, end};
 use crate::line_room::Room;
-use crate::line_text::{pass_on, push_flags, push_numbered, push_protocol};
+use crate::line_text::{pass_on, push_line_flags, push_line_protocol, push_numbered};
 use crate::stored_flow::StoredFlow;
 use crate::stored_flow_end::FlowEnd;
 use crate::stored_pairs::StoredPairs;
@@ -42,7 +42,7 @@ fn push_end_flags(piece: &mut Piece, proto: u8, flags: u8)
     ensures short { length piece.new ≤ length piece.old + 9 }
 {
     if proto == 6 {
-        push_flags(piece, flags);
+        push_line_flags(piece, flags);
     }
 }
 
@@ -65,7 +65,7 @@ fn push_flow(piece: &mut Piece, flow: &StoredFlow)
     ensures short { length piece.new ≤ length piece.old + 76 }
 {
     push_numbered(piece, b"session interface ", u64::from(flow.interface));
-    push_protocol(piece, flow.family, flow.proto);
+    push_line_protocol(piece, flow.family, flow.proto);
 }
 
 // The last second in which a session is live, as it is told in lines and objects.

@@ -11,7 +11,7 @@ use std::test::Fail;
 type Small = Tiny<4, 8>;
 
 // What tests of steps answer where a row or a split was refused.
-fn refused() -> Result<(), Fail> {
+fn steps_refused() -> Result<(), Fail> {
     Err("a row or a caller was refused")?
 }
 
@@ -35,11 +35,11 @@ fn split(
 #[test]
 fn rows_of_both_flow_shapes_open(rt: HostRuntime) -> Result<(), Fail> {
     let Ok((four, mut first)) = open_row::<ShapeV4>(rt.alloc()) else {
-        return refused();
+        return steps_refused();
     };
     assert_eq!(rt; four.load_count(&mut first.seat), 1);
     let Ok((six, mut first)) = open_row::<ShapeV6>(rt.alloc()) else {
-        return refused();
+        return steps_refused();
     };
     assert_eq!(rt; six.load_count(&mut first.seat), 1);
     Ok(())
@@ -58,11 +58,11 @@ fn counts(row: &Row<Small>, caller: &mut Caller<Small>) -> (u64, u64)
 #[test]
 fn a_split_makes_a_caller(rt: HostRuntime) -> Result<(), Fail> {
     let Ok((row, mut first)) = open_row::<Small>(rt.alloc()) else {
-        return refused();
+        return steps_refused();
     };
     assert_eq!(rt; counts(&row, &mut first), (1, 1));
     let Some((mut first, mut second)) = split(rt.alloc(), &row, first) else {
-        return refused();
+        return steps_refused();
     };
     assert_eq!(rt; counts(&row, &mut second), (2, 1));
     assert_eq!(rt; counts(&row, &mut first), (2, 1));
@@ -73,10 +73,10 @@ fn a_split_makes_a_caller(rt: HostRuntime) -> Result<(), Fail> {
 #[test]
 fn callers_that_meet_keep_their_numbers(rt: HostRuntime) -> Result<(), Fail> {
     let Ok((row, first)) = open_row::<Small>(rt.alloc()) else {
-        return refused();
+        return steps_refused();
     };
     let Some((first, second)) = split(rt.alloc(), &row, first) else {
-        return refused();
+        return steps_refused();
     };
     let (first, second) = row.meet(first, second);
     assert_eq!(rt; (first.seat.numbers(), second.seat.numbers()), (1, 1));
@@ -89,14 +89,14 @@ fn callers_that_meet_keep_their_numbers(rt: HostRuntime) -> Result<(), Fail> {
 #[test]
 fn a_caller_takes_in_another(rt: HostRuntime) -> Result<(), Fail> {
     let Ok((row, first)) = open_row::<Small>(rt.alloc()) else {
-        return refused();
+        return steps_refused();
     };
     let Some((first, second)) = split(rt.alloc(), &row, first) else {
-        return refused();
+        return steps_refused();
     };
     let both = row.join(first, second);
     let Some((both, third)) = split(rt.alloc(), &row, both) else {
-        return refused();
+        return steps_refused();
     };
     let (mut both, mut third) = row.meet(both, third);
     assert_eq!(rt; counts(&row, &mut both), (3, 2));
@@ -110,7 +110,7 @@ fn a_caller_takes_in_another(rt: HostRuntime) -> Result<(), Fail> {
 #[test]
 fn lone_caller_takes_both_locks_and_opens_them(rt: HostRuntime) -> Result<(), Fail> {
     let Ok((row, mut first)) = open_row::<Small>(rt.alloc()) else {
-        return refused();
+        return steps_refused();
     };
     let seat = &mut first.seat;
     let word = row.load_bucket(seat, 1);
@@ -129,13 +129,13 @@ fn lone_caller_takes_both_locks_and_opens_them(rt: HostRuntime) -> Result<(), Fa
 
 // Steps on callers of a row: each new one counts one more, until there are as many as there may be.
 #[test]
-fn sixty_third_split_makes_the_last_caller(rt: HostRuntime) -> Result<(), Fail> {
+fn split_steps_end_at_64_callers(rt: HostRuntime) -> Result<(), Fail> {
     let Ok((row, mut caller)) = open_row::<Small>(rt.alloc()) else {
-        return refused();
+        return steps_refused();
     };
     for made in 2..65u64 {
         let Some((old, mut new)) = split(rt.alloc(), &row, caller) else {
-            return refused();
+            return steps_refused();
         };
         assert_eq!(rt; row.load_count(&mut new.seat), made);
         caller = old;

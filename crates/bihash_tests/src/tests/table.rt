@@ -9,9 +9,9 @@ use bihash_words::{Add, AddIfAbsent, Delete, Reply, Shape, Tiny, Touch};
 use std::alloc::Global;
 use std::test::Fail;
 
+mod block_growth;
 mod closing;
 mod exhaustion;
-mod one_caller;
 mod open_reads;
 mod recycling;
 mod renewal;
@@ -36,7 +36,7 @@ enum Call {
 type Row = (Call, [u64; 2], Reply, (u64, u64));
 
 // Shared by tests of the table: what they answer where a table, a split or a renewal was refused.
-fn refused() -> Result<(), Fail> {
+fn table_refused() -> Result<(), Fail> {
     Err("a table or a caller was refused")?
 }
 
@@ -161,7 +161,7 @@ fn block<const P: u64, const L: u64>(
 
 // Shared by tests of the table: drops a caller that has the lock of bucket 0, and the allocation lock where that is
 // asked for. False: it did not get one of them.
-fn drop_with_locks(table: &Sessions<Eight>, mut caller: Caller<Eight>, and_pool: bool) -> bool
+fn drop_with_table_locks(table: &Sessions<Eight>, mut caller: Caller<Eight>, and_pool: bool) -> bool
     requires own { caller.seat.row ≡ table.now.row }
     requires free { caller.seat.view.holds ≡ nothing_held }
 {
@@ -192,7 +192,7 @@ fn ends_with<const P: u64, const L: u64>(
 
 // Shared by tests of the table: the table, which can't be closed while there is the second caller, and both callers
 // joined. `None`: it was closed.
-fn stays_open<S: Shape>(
+fn table_stays_open<S: Shape>(
     alloc: Global,
     table: Sessions<S>,
     first: Caller<S>,

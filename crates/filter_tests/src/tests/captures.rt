@@ -1,6 +1,6 @@
 //! Captures byte by byte, with the packets that the format gives them, of which `checks/rows/captures.txt` has more.
 use super::frames::UDP;
-use super::refused;
+use super::filter_test_refused;
 use packet_view::{
     Order, Packet, PacketBursts, Packets, Piece, Stop, capture_header, check_capture,
     front_records, next_record, read_capture,
@@ -72,7 +72,7 @@ fn finds_the_whole_records_at_the_front(rt: HostRuntime) {
 #[test]
 fn reads_the_packets_of_a_capture(rt: HostRuntime) -> Result<(), Fail> {
     let Ok(capture) = read_capture(rt.alloc(), &BIG, 0) else {
-        return refused();
+        return filter_test_refused();
     };
     assert!(rt; !capture.truncated);
     assert_eq!(rt; front_of_list(&capture.packets), (1, Some(100), 0));
@@ -83,7 +83,7 @@ fn reads_the_packets_of_a_capture(rt: HostRuntime) -> Result<(), Fail> {
 #[test]
 fn takes_the_packets_of_a_capture_where_they_stand(rt: HostRuntime) -> Result<(), Fail> {
     let Ok(checked) = check_capture(&LITTLE[..197], 0) else {
-        return refused();
+        return filter_test_refused();
     };
     assert!(rt; checked.truncated);
     let records = Packets::Records(checked.records);
@@ -144,13 +144,13 @@ fn takes_packets_that_are_found_ahead(rt: HostRuntime) -> Result<(), Fail> {
         }
     }
     let Ok(checked) = check_capture(&bytes, 0) else {
-        return refused();
+        return filter_test_refused();
     };
     assert_eq!(rt; checked.records.count(), 150);
     assert!(rt; !checked.truncated);
     assert!(rt; are_numbered(PacketBursts::new(Packets::Records(checked.records))));
     let Ok(capture) = read_capture(rt.alloc(), &bytes, 0) else {
-        return refused();
+        return filter_test_refused();
     };
     assert!(rt; are_listed_by_number(&capture.packets));
     Ok(())

@@ -1,7 +1,7 @@
 //! Packets whose workers were worked out by hand.
 ghost use Rattle.std.specs.Prelude.{◌≤◌, ◌<◌, ◌+◌, ◌^◌, length};
 
-use super::refused;
+use super::filter_test_refused;
 use bihash_words::{ShapeV4, ShapeV6, flow_shapes_are_sound};
 use flow_dealing::Dealing;
 use packet_dealing::{Dealer, DealtChunk, DealtPacket, deal_packets, worker_of_packet};
@@ -138,12 +138,12 @@ fn deals_packets_of_several_flows(rt: HostRuntime) -> Result<(), Fail> {
         seen(120, &frames[4]),
     ];
     let Ok(parts) = deal(&rt, rt.alloc(), Dealing::Bucket, 3, 0, &packets) else {
-        return refused();
+        return filter_test_refused();
     };
     assert_eq!(rt; parts.len(), 3);
     expect_packets(&rt, parts, &packets, [1, 2, 1, 0, 2, 2, 0]);
     let Ok(parts) = deal(&rt, rt.alloc(), Dealing::Round, 2, 5, &packets) else {
-        return refused();
+        return filter_test_refused();
     };
     assert_eq!(rt; parts.len(), 2);
     expect_packets(&rt, parts, &packets, [1, 0, 1, 0, 1, 0, 1]);

@@ -3,7 +3,7 @@ ghost use Rattle.std.specs.Prelude.{IsTrue};
 ghost use Rattle.packet_view.specs.Addresses.{fields_suit};
 ghost use Rattle.packet_view.specs.declared.tuple.Family.TheVariants as Family;
 
-use super::{TIMES, refused};
+use super::{TIMES, filter_test_refused};
 use acl_policy::{Action, read_policy};
 use flow_filter::{Filter, Verdict, verdict_of_rules};
 use packet_view::{Direction, Family, Fields, Mac, Tuple};
@@ -11,7 +11,7 @@ use std::alloc::{AllocError, Global};
 use std::test::Fail;
 
 /// A packet from 10.0.0.2 to 10.0.0.1, for which tests ask a filter's rules.
-fn tuple(proto: u8, fields: Fields) -> Tuple
+fn filtered_tuple(proto: u8, fields: Fields) -> Tuple
     requires fits { IsTrue (fields_suit Family.V4 proto fields) }
 {
     Tuple {
@@ -39,7 +39,7 @@ fn filter_of(alloc: Global, text: &[u8]) -> Option<Filter> {
 #[test]
 fn a_filter_is_ready(rt: HostRuntime) -> Result<(), Fail> {
     let Some(filter) = filter_of(rt.alloc(), b"mac 02:00:00:0a:0b:ff\n") else {
-        return refused();
+        return filter_test_refused();
     };
     let ready = filter.ready(0);
     assert_eq!(rt; ready.own, Some(Mac([2, 0, 0, 10, 11, 255])));
@@ -61,22 +61,22 @@ fn many_rules(alloc: Global) -> Result<Vec<u8>, AllocError> {
 #[test]
 fn prepared_rules_decide_as_the_listed_ones(rt: HostRuntime) -> Result<(), Fail> {
     let Ok(text) = many_rules(rt.alloc()) else {
-        return refused();
+        return filter_test_refused();
     };
     let Some(filter) = filter_of(rt.alloc(), text.as_slice()) else {
-        return refused();
+        return filter_test_refused();
     };
     let Ok(prepared) = filter.prepare(rt.alloc(), 10_000) else {
-        return refused();
+        return filter_test_refused();
     };
     let Some(first) = prepared.first() else {
-        return refused();
+        return filter_test_refused();
     };
     assert!(rt; first.inbound.is_some() && first.outbound.is_none());
     let Ok(all) = filter.ready_with(rt.alloc(), &prepared) else {
-        return refused();
+        return filter_test_refused();
     };
-    let udp = tuple(17, Fields::Ports { from: 80, to: 1000 });
+    let udp = filtered_tuple(17, Fields::Ports { from: 80, to: 1000 });
     for ready in [filter.ready(0), *all.at(0)] {
         let inbound = ready.rules_of(Direction::Inbound);
         assert_eq!(rt; inbound.first_match(&udp), Some((70, Action::Permit)));
@@ -90,15 +90,15 @@ fn rules_of_two_interfaces(rt: HostRuntime) -> Result<(), Fail> {
     let text = b"mac 02:00:00:00:00:01\nin deny ipv4 any any tcp\n\
         interface 2\nmac 02:00:00:00:00:02\nin permit ipv4 any any udp\n";
     let Some(filter) = filter_of(rt.alloc(), text) else {
-        return refused();
+        return filter_test_refused();
     };
     let Ok(prepared) = filter.prepare(rt.alloc(), 10) else {
-        return refused();
+        return filter_test_refused();
     };
     let Ok(all) = filter.ready_with(rt.alloc(), &prepared) else {
-        return refused();
+        return filter_test_refused();
     };
-    let udp = tuple(17, Fields::Ports { from: 80, to: 1000 });
+    let udp = filtered_tuple(17, Fields::Ports { from: 80, to: 1000 });
     for (number, own, rule) in [
         (0, Some(1), None),
         (1, None, None),

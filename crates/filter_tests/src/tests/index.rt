@@ -1,12 +1,12 @@
 //! Prepared rules, and which of equal ones decides.
 use super::matching::{later_fragment, rule};
-use super::{EVERY, refused};
+use super::{EVERY, filter_test_refused};
 use acl_policy::Action;
 use rule_index::{RuleIndex, worth_preparing};
 use std::test::Fail;
 
 /// Asks of an index of rules, which a test made, nothing but that threads may share it.
-fn shared<T: Sync>(value: &T) -> &T {
+fn shared_index<T: Sync>(value: &T) -> &T {
     value
 }
 
@@ -14,9 +14,9 @@ fn shared<T: Sync>(value: &T) -> &T {
 #[test]
 fn no_rules(rt: HostRuntime) -> Result<(), Fail> {
     let Ok(none) = RuleIndex::new(rt.alloc(), &[]) else {
-        return refused();
+        return filter_test_refused();
     };
-    assert_eq!(rt; shared(&none).first_match(&later_fragment(6)), None);
+    assert_eq!(rt; shared_index(&none).first_match(&later_fragment(6)), None);
     Ok(())
 }
 
@@ -34,7 +34,7 @@ fn first_of_equal_rules(rt: HostRuntime) -> Result<(), Fail> {
         rules.push(next)?;
     }
     let Ok(index) = RuleIndex::new(rt.alloc(), &rules) else {
-        return refused();
+        return filter_test_refused();
     };
     for (proto, first) in [
         (6, Some((0, Action::Deny))),

@@ -1,6 +1,6 @@
 //! A policy's text with what it says, and the texts of faults. `checks/rows/policies.txt` has the lines that are refused,
 //! and which packets a line takes.
-use super::{EVERY, refused};
+use super::{EVERY, filter_test_refused};
 use acl_policy::{Action, PolicyFault, Rule, add_line, empty_draft, read_policy};
 use packet_view::{Family, Mac};
 use std::test::Fail;
@@ -13,10 +13,10 @@ fn whole_policy(rt: HostRuntime) -> Result<(), Fail> {
         in\tpermit ipv4 any 10.0.0.1/32 icmp type 8\n\
         in deny ipv6 any any";
     let Ok(read) = read_policy(rt.alloc(), text) else {
-        return refused();
+        return filter_test_refused();
     };
     let Some(policy) = read.section(0) else {
-        return refused();
+        return filter_test_refused();
     };
     assert_eq!(rt; policy.own, Some(Mac([2, 0, 0, 10, 11, 255])));
     assert_eq!(rt; policy.inbound.len(), 2);
@@ -45,12 +45,12 @@ fn sections_of_two_interfaces(rt: HostRuntime) -> Result<(), Fail> {
         out deny ipv4 any any\n\
         out permit ipv4 any any udp\n";
     let Ok(policy) = read_policy(rt.alloc(), text) else {
-        return refused();
+        return filter_test_refused();
     };
     assert_eq!(rt; policy.sections.len(), 2);
     for (number, own, rules) in [(0, 1, 1), (2, 2, 2)] {
         let Some(section) = policy.section(number) else {
-            return refused();
+            return filter_test_refused();
         };
         assert_eq!(rt; section.own, Some(Mac([2, 0, 0, 0, 0, own])));
         assert_eq!(rt; section.outbound.len(), rules);
@@ -73,10 +73,10 @@ fn bits_beyond_a_length(rt: HostRuntime) -> Result<(), Fail> {
         in deny ipv4 010.000.00.1/8 any\n\
         in deny ipv6 0001:2::7:0/064 any\n";
     let Ok(read) = read_policy(rt.alloc(), text) else {
-        return refused();
+        return filter_test_refused();
     };
     let Some(policy) = read.section(0) else {
-        return refused();
+        return filter_test_refused();
     };
     assert_eq!(rt; policy.inbound.len(), 3);
     let groups = 0x0001_0002_0000_0000_0000_0000_0007_0000;
@@ -106,7 +106,7 @@ fn a_line_at_fault_leaves_the_policy(rt: HostRuntime) -> Result<(), Fail> {
 
 /// The message for each fault of reading a policy.
 #[test]
-fn texts_of_faults(rt: HostRuntime) -> Result<(), Fail> {
+fn policy_fault_texts(rt: HostRuntime) -> Result<(), Fail> {
     let (memory, text) = (PolicyFault::Memory, PolicyFault::NotUtf8);
     let (line, rule) = (PolicyFault::BadLine(3), PolicyFault::TooMany(4097));
     assert_eq!(rt;

@@ -16,7 +16,7 @@ pub const NAMES: &str =
     "mac 02:00:00:00:00:01\nout permit+reflect ipv4 10.0.0.1 any udp dport 53\n";
 
 // The filter of this policy, for tests of packets through session tables.
-pub fn filter_of(alloc: Global, text: &str) -> Result<Filter, PolicyFault> {
+pub fn filter_for_session_tables(alloc: Global, text: &str) -> Result<Filter, PolicyFault> {
     match read_policy(alloc, text.as_bytes()) {
         Ok(policy) => Ok(Filter {
             policy,
@@ -81,7 +81,7 @@ fn first_wrong<A: Shape, B: Shape>(
 fn first_wrong_of_new<A: Shape>(alloc: Global, rows: &[Row]) -> Option<Option<usize>>
     requires shapes { AreShapes ⟦<A as Shape>⟧ ⟦<ShapeV6 as Shape>⟧ }
 {
-    let Ok(filter) = filter_of(alloc, NAMES) else {
+    let Ok(filter) = filter_for_session_tables(alloc, NAMES) else {
         return None;
     };
     let Ok((tables, mut callers)) = create_tables::<A, ShapeV6>(alloc) else {
@@ -98,7 +98,7 @@ fn first_wrong_of_renewed<A: Shape>(
 ) -> Option<Option<usize>>
     requires shapes { AreShapes ⟦<A as Shape>⟧ ⟦<ShapeV6 as Shape>⟧ }
 {
-    let Ok(filter) = filter_of(alloc, NAMES) else {
+    let Ok(filter) = filter_for_session_tables(alloc, NAMES) else {
         return None;
     };
     let Ok((tables, mut callers)) = create_tables::<A, ShapeV6>(alloc) else {
@@ -115,7 +115,7 @@ fn first_wrong_of_renewed<A: Shape>(
 fn judged<A: Shape, R: Wait>(rt: &R, alloc: Global, frame: &[u8]) -> Option<Verdict>
     requires shapes { AreShapes ⟦<A as Shape>⟧ ⟦<ShapeV6 as Shape>⟧ }
 {
-    let Ok(filter) = filter_of(alloc, NAMES) else {
+    let Ok(filter) = filter_for_session_tables(alloc, NAMES) else {
         return None;
     };
     let Ok((tables, mut callers)) = create_tables::<A, ShapeV6>(alloc) else {

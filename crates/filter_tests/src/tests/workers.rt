@@ -1,8 +1,8 @@
 //! Workers that run at once, and what their verdicts have in common.
 ghost use Rattle.std.specs.Prelude.{◌≤◌, ◌+◌, length};
 
-use super::refused;
-use super::session_tables::{NAMES, answer, filter_of, request};
+use super::filter_test_refused;
+use super::session_tables::{NAMES, answer, filter_for_session_tables, request};
 use bihash_words::{ShapeV4, ShapeV6, flow_shapes_are_sound};
 use flow_workers::{
     Dealing, Filter, Gate, RunFault, Setup, Verdict, Workers, close_tables, create_tables,
@@ -184,8 +184,8 @@ fn verdicts_on_parts<R: Threads + Wait + Sync, G: Gate + Sync>(
 #[test]
 fn workers(rt: HostRuntime) -> Result<(), Fail> {
     let alloc = rt.alloc();
-    let Ok(filter) = filter_of(alloc, NAMES) else {
-        return refused();
+    let Ok(filter) = filter_for_session_tables(alloc, NAMES) else {
+        return filter_test_refused();
     };
     let frames = [request(2), answer(2), answer(3)];
     let packets = [
@@ -207,7 +207,7 @@ fn workers(rt: HostRuntime) -> Result<(), Fail> {
     ];
     let gate = Meeting::new(true);
     let Ok(found) = verdicts(&rt, alloc, &filter, &packets, 2, &gate, Dealing::Round) else {
-        return refused();
+        return filter_test_refused();
     };
     assert!(rt; !gate.gave_up.load(Ordering::SeqCst));
     let wanted = [Verdict::Reflect(1), Verdict::ByDefault, Verdict::ByDefault];
@@ -220,8 +220,8 @@ fn workers(rt: HostRuntime) -> Result<(), Fail> {
 #[test]
 fn both_before(rt: HostRuntime) -> Result<(), Fail> {
     let alloc = rt.alloc();
-    let Ok(filter) = filter_of(alloc, NAMES) else {
-        return refused();
+    let Ok(filter) = filter_for_session_tables(alloc, NAMES) else {
+        return filter_test_refused();
     };
     let foreign = [2, 0, 0, 0, 0, 2, 2, 0, 0, 0, 0, 1, 8, 6];
     let mut odd = request(2);
@@ -242,7 +242,7 @@ fn both_before(rt: HostRuntime) -> Result<(), Fail> {
     for dealing in [Dealing::Round, Dealing::Bucket] {
         let gate = Meeting::new(false);
         let Ok(found) = verdicts(&rt, alloc, &filter, &packets, 2, &gate, dealing) else {
-            return refused();
+            return filter_test_refused();
         };
         assert!(rt; !gate.gave_up.load(Ordering::SeqCst));
         assert_eq!(rt; found.as_slice(), wanted.as_slice());
@@ -255,8 +255,8 @@ fn both_before(rt: HostRuntime) -> Result<(), Fail> {
 #[test]
 fn packets_of_parts_are_numbered_on(rt: HostRuntime) -> Result<(), Fail> {
     let alloc = rt.alloc();
-    let Ok(filter) = filter_of(alloc, NAMES) else {
-        return refused();
+    let Ok(filter) = filter_for_session_tables(alloc, NAMES) else {
+        return filter_test_refused();
     };
     let frames = [request(2), answer(3), answer(2), request(3)];
     let first = [
@@ -289,7 +289,7 @@ fn packets_of_parts_are_numbered_on(rt: HostRuntime) -> Result<(), Fail> {
     };
     let Ok((found, four, others)) = verdicts_on_parts(&rt, alloc, &filter, &gate, &first, &second)
     else {
-        return refused();
+        return filter_test_refused();
     };
     let wanted = [
         Verdict::Reflect(1),

@@ -8,7 +8,7 @@ use Rattle.bihash_rule.specs.Callers.{IsLawfulCaller}
 use Rattle.bihash_steps.specs.Seats.{CallerState}
 use Rattle.bihash_steps.specs.Steps.{IsToldWhole}
 use Rattle.bihash_rule.specs.Views.{nothing_held}
-use Rattle.bihash_steps.specs.declared.row.Caller.{Caller}
+use Rattle.bihash_steps.specs.declared.row_and_callers.Caller.{Caller}
 use Rattle.bihash_rule.specs.declared.view.View.{View}
 use Rattle.bihash_table.specs.declared.shared_table.Sessions.{Sessions}
 use Rattle.session_state.specs.declared.timeouts.Timeouts.{Timeouts}

@@ -4,7 +4,7 @@ use flow_filter::Verdict;
 use packet_view::{Direction, Packets};
 use racl_io::Shown;
 use racl_views::{
-    CaptureBytes, RuleLine, RuleName, Run, StoredPairs, View, hits_text, packets_in, rule_lines,
+    CaptureBytes, RuleLine, RuleName, Run, StoredPairs, View, hits_text, numbered_rules, packets_in,
     sessions_text,
 };
 use session_state::Timeouts;
@@ -12,7 +12,7 @@ use std::alloc::{AllocError, Global};
 use std::test::Fail;
 
 // For tests of hits: a policy whose rules stand in the lines 2, 4 and 5.
-fn rules() -> &'static [u8] {
+fn hits_rules() -> &'static [u8] {
     b"mac 02:00:00:00:00:01\n\
     out permit+reflect ipv4 any any udp\n\n\
     in deny ipv4 10.0.0.3 any\n\
@@ -20,7 +20,7 @@ fn rules() -> &'static [u8] {
 }
 
 // For tests of hits: a capture of a request, from the own address, and of a packet of a stranger.
-fn capture() -> &'static [u8] {
+fn hits_capture() -> &'static [u8] {
     b"\xd4\xc3\xb2\xa1\x02\0\x04\0\0\0\0\0\0\0\0\0\0\0\x04\0\x01\0\0\0\
     \x64\0\0\0\0\0\0\0\x2a\0\0\0\x2a\0\0\0\
     \x02\0\0\0\0\x02\x02\0\0\0\0\x01\x08\0\
@@ -117,7 +117,7 @@ fn stored_of(
 fn run_of<'a>(policy: &'a Policy, packets: Packets<'a>) -> Run<'a> {
     Run {
         policy,
-        text: rules(),
+        text: hits_rules(),
         packets,
         verdicts: &VERDICTS,
         captures: &[],
@@ -130,9 +130,9 @@ fn hits_told(alloc: Global, times: Timeouts, view: View) -> Result<Vec<u8>, Fail
     let mut captures = Vec::new(alloc);
     captures.push(CaptureBytes {
         interface: 0,
-        bytes: Vec::from_slice(alloc, capture())?,
+        bytes: Vec::from_slice(alloc, hits_capture())?,
     })?;
-    let policy = read_policy(alloc, rules())?;
+    let policy = read_policy(alloc, hits_rules())?;
     let packets = packets_in(alloc, &captures)?;
     let run = run_of(&policy, Packets::Slice(&packets));
     let request = [([0x0a00_0001_0a00_0002, 0x03e8_0035_1100_0000], 100)];
@@ -149,7 +149,7 @@ fn rules_and_what_they_decided(rt: HostRuntime) -> Result<(), Fail> {
         rule(Direction::Outbound, 2, 5),
     ];
     assert_eq!(rt;
-        rule_lines(rt.alloc(), rules())?.as_slice(),
+        numbered_rules(rt.alloc(), hits_rules())?.as_slice(),
         wanted.as_slice()
     );
     for (times, view, told) in HITS {

@@ -1,7 +1,7 @@
 //! A policy and captures from readers, and what files are that are no captures of Ethernet.
 ghost use Rattle.std.specs.Prelude.{◌≡◌, IfSome};
 
-use super::refused;
+use super::racl_test_refused;
 use racl_cli::remark;
 use racl_io::{Fault, Form, FrontKept, Joined, Other, marked, other_file, read_until};
 use std::alloc::Global;
@@ -9,7 +9,7 @@ use std::io::Read;
 use std::test::Fail;
 
 // For tests of first bytes: 24 bytes that begin with these and have this link field.
-fn header(magic: [u8; 4], link: [u8; 4]) -> [u8; 24] {
+fn first_bytes(magic: [u8; 4], link: [u8; 4]) -> [u8; 24] {
     let mut bytes = [0; 24];
     bytes[..4].copy_from_slice(&magic);
     bytes[20..].copy_from_slice(&link);
@@ -48,7 +48,7 @@ fn joined(alloc: Global) -> Option<Joined<&'static [u8]>>
 #[test]
 fn readers_are_one_source(rt: HostRuntime) -> Result<(), Fail> {
     let Some(mut joined) = joined(rt.alloc()) else {
-        return refused();
+        return racl_test_refused();
     };
     let mut all = Vec::new(rt.alloc());
     assert_eq!(rt; read_until(&mut joined, &mut all, 21), Ok(false));
@@ -97,16 +97,16 @@ fn first_bytes_tell_other_files(rt: HostRuntime) {
         ([0xa1, 0xb2, 0x3c, 0x4d], [0, 0, 1, 20], Some(Other::Cooked)),
     ];
     for (magic, link, other) in CASES {
-        assert_eq!(rt; other_file(&header(magic, link)), other);
+        assert_eq!(rt; other_file(&first_bytes(magic, link)), other);
     }
-    let pcapng = header([0x0a, 0x0d, 0x0d, 0x0a], [0; 4]);
+    let pcapng = first_bytes([0x0a, 0x0d, 0x0d, 0x0a], [0; 4]);
     assert_eq!(rt; told_of_fewer(&pcapng), None);
 }
 
 /// First bytes of files that are no captures of Ethernet: after which faults this is told.
 #[test]
 fn a_remark_is_made_where_the_header_is_wrong(rt: HostRuntime) {
-    let pcapng = header([0x0a, 0x0d, 0x0d, 0x0a], [0; 4]);
+    let pcapng = first_bytes([0x0a, 0x0d, 0x0d, 0x0a], [0; 4]);
     assert_eq!(rt; remark(&Err(Fault::Magic), &pcapng), Some(Other::Pcapng));
     assert_eq!(rt; remark(&Err(Fault::LinkType), &pcapng), Some(Other::Pcapng));
     assert_eq!(rt; remark(&Err(Fault::Short), &pcapng), None);

@@ -26,7 +26,7 @@ packets 11 pass 4 drop 7
 
 /// Reports on a capture without a number, which ends within a record.
 #[test]
-fn a_line_for_each_verdict(rt: HostRuntime) -> Result<(), Fail> {
+fn a_report_line_per_verdict(rt: HostRuntime) -> Result<(), Fail> {
     const VERDICTS: [Verdict; 11] = [
         Verdict::Session,
         Verdict::Reflect(1),
@@ -66,7 +66,7 @@ packets 3 pass 2 drop 1
 
 /// Reports on captures of two interfaces, of which the first ends within a record.
 #[test]
-fn a_part_for_each_capture(rt: HostRuntime) -> Result<(), Fail> {
+fn a_report_part_per_capture(rt: HostRuntime) -> Result<(), Fail> {
     const VERDICTS: [Verdict; 3] = [Verdict::Reflect(1), Verdict::ByDefault, Verdict::Session];
     const CAPTURES: [Captured; 2] = [
         Captured {

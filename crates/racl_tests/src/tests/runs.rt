@@ -4,7 +4,7 @@ use racl_io::Shown;
 use session_state::Timeouts;
 
 mod live;
-mod transfers;
+mod slow_and_failing_devices;
 
 // For tests of runs: a whole input with a request, its answer, and an answer that nobody asked for.
 fn whole_input() -> &'static [u8] {

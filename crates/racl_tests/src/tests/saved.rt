@@ -69,7 +69,7 @@ const LONGER: [u8; 16] = [0, 0, 0, 2, 0, 0, 0, 0, 0, 1, 0x11, 0x70, 0, 1, 0x11, 
 
 /// Saved packets: one that has more bytes than the room where they are gathered, between two that fit.
 #[test]
-fn records_longer_than_what_is_gathered(rt: HostRuntime) -> Result<(), Fail> {
+fn long_records_are_saved(rt: HostRuntime) -> Result<(), Fail> {
     let mut bytes = Vec::from_slice(rt.alloc(), HEADER)?;
     for (record, len) in [(LONG, 60_000), (LONGER, 70_000), (LONG, 60_000)] {
         bytes.extend_from_slice(&record)?;

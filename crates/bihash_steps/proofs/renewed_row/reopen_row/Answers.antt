@@ -20,24 +20,24 @@ renewed_words-requires-clause-fields g c = has_fields (sizes_of g.S.Shape) _ _ c
 pub of_words-requires : goal.of_words-requires
 of_words-requires g c =
     let z = sizes_of g.S.Shape in
-    subst (λ (o : Openings). WordRule z (opening c.as_slice.result.now [] (opening_view z o))) (sym c.with_all.ensures)
-    (reopens z _ _ c.requires.words c.requires.free c.as_slice.result.now
+    subst (λ (o : Openings). WordRule z (opening c.as_slice.result.now [] (opening_view z o)))
+    (sym c.renewed_mark.ensures) (reopens z _ _ c.requires.words c.requires.free c.as_slice.result.now
     (subst (AreRenewed z _) (sym c.as_slice.ensures.value) c.in_ok-renewed.ensures))
 
 pub returns-clause-renewed : goal.returns-clause-renewed
 returns-clause-renewed g c =
     let z = sizes_of g.S.Shape in
-    subst (IsRenewed z _) (sym (ap (λ (m : ViewOfSeat). m.0) c.in_ok-table.ensures.4 ∙ ap (opening_view z) c.with_all.ensures))
+    subst (IsRenewed z _) (sym (ap (λ (m : ViewOfSeat). m.0) c.in_ok-table.ensures.4 ∙ ap (opening_view z) c.renewed_mark.ensures))
     (is_renewed z _ _ c.requires.words c.requires.free)
 
 pub returns-clause-mark : goal.returns-clause-mark
 returns-clause-mark g c = ap (λ (m : ViewOfSeat). m.0.known.openings.used) c.in_ok-table.ensures.4
-    ∙ ap (λ (o : Openings). o.used) c.with_all.ensures
+    ∙ ap (λ (o : Openings). o.used) c.renewed_mark.ensures
 
 pub returns-clause-lawful : goal.returns-clause-lawful
 returns-clause-lawful g c =
     let z = sizes_of g.S.Shape in
-    subst (IsLawfulCaller z) (sym (ap (λ (m : ViewOfSeat). m.0) c.in_ok-table.ensures.4 ∙ ap (opening_view z) c.with_all.ensures))
+    subst (IsLawfulCaller z) (sym (ap (λ (m : ViewOfSeat). m.0) c.in_ok-table.ensures.4 ∙ ap (opening_view z) c.renewed_mark.ensures))
     (renewed_lawful z _ _ c.requires.words c.requires.free)
 
 pub invariant_of-seat : goal.invariant_of-seat

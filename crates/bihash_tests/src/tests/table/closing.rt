@@ -1,6 +1,6 @@
 //! Tables that end: empty, with pairs, and with a caller too many.
 use super::Call::{Add, Remove};
-use super::{Row, ends_with, first_wrong, refused, stays_open, two_callers};
+use super::{Row, ends_with, first_wrong, table_refused, table_stays_open, two_callers};
 use bihash_table::create;
 use bihash_words::Reply::Changed;
 use bihash_words::Tiny;
@@ -13,7 +13,7 @@ type Small = Tiny<8, 64>;
 #[test]
 fn an_empty_table_closes_without_pairs(rt: HostRuntime) -> Result<(), Fail> {
     let Ok((table, caller)) = create::<Small>(rt.alloc()) else {
-        return refused();
+        return table_refused();
     };
     assert!(rt; ends_with(rt.alloc(), table, caller, &[]));
     Ok(())
@@ -23,7 +23,7 @@ fn an_empty_table_closes_without_pairs(rt: HostRuntime) -> Result<(), Fail> {
 #[test]
 fn pairs_come_in_the_order_of_their_words(rt: HostRuntime) -> Result<(), Fail> {
     let Ok((table, mut caller)) = create::<Small>(rt.alloc()) else {
-        return refused();
+        return table_refused();
     };
     const ROWS: [Row; 10] = [
         (Add(1), [2, 1], Changed(None), (0, 1)),
@@ -56,10 +56,10 @@ fn pairs_come_in_the_order_of_their_words(rt: HostRuntime) -> Result<(), Fail> {
 #[test]
 fn a_stranger_keeps_the_table_open(rt: HostRuntime) -> Result<(), Fail> {
     let Some((table, first, second)) = two_callers::<Small>(rt.alloc()) else {
-        return refused();
+        return table_refused();
     };
-    let Some((table, both)) = stays_open(rt.alloc(), table, first, second) else {
-        return refused();
+    let Some((table, both)) = table_stays_open(rt.alloc(), table, first, second) else {
+        return table_refused();
     };
     assert!(rt; ends_with(rt.alloc(), table, both, &[]));
     Ok(())

@@ -1,6 +1,6 @@
 //! Tables that run out of writes and pages.
 use super::Call::{Add, AddIfAbsent, Remove, Search, Touch};
-use super::{Eight, Row, block, fill, first_wrong, has, refused};
+use super::{Eight, Row, block, fill, first_wrong, has, table_refused};
 use bihash_table::create;
 use bihash_words::Reply::{Changed, Kept, NoPages, Worn};
 use bihash_words::Tiny;
@@ -11,7 +11,7 @@ use std::test::Fail;
 #[test]
 fn one_page_worn(rt: HostRuntime) -> Result<(), Fail> {
     let Ok((table, mut caller)) = create::<Tiny<1, 5>>(rt.alloc()) else {
-        return refused();
+        return table_refused();
     };
     const ROWS: [Row; 7] = [
         (Add(7), [0, 0], Changed(None), (0, 1)),
@@ -30,7 +30,7 @@ fn one_page_worn(rt: HostRuntime) -> Result<(), Fail> {
 #[test]
 fn worn_then_page_free(rt: HostRuntime) -> Result<(), Fail> {
     let Ok((table, mut caller)) = create::<Tiny<1, 4>>(rt.alloc()) else {
-        return refused();
+        return table_refused();
     };
     const ROWS: [Row; 6] = [
         (Add(7), [0, 0], Changed(None), (0, 1)),
@@ -48,7 +48,7 @@ fn worn_then_page_free(rt: HostRuntime) -> Result<(), Fail> {
 #[test]
 fn worn(rt: HostRuntime) -> Result<(), Fail> {
     let Ok((table, mut caller)) = create::<Tiny<8, 3>>(rt.alloc()) else {
-        return refused();
+        return table_refused();
     };
     const ROWS: [Row; 10] = [
         (Add(7), [0, 0], Changed(None), (0, 1)),
@@ -70,7 +70,7 @@ fn worn(rt: HostRuntime) -> Result<(), Fail> {
 #[test]
 fn pages_used_up(rt: HostRuntime) -> Result<(), Fail> {
     let Ok((table, mut caller)) = create::<Tiny<2, 1000>>(rt.alloc()) else {
-        return refused();
+        return table_refused();
     };
     assert!(rt; fill(&table, &mut caller, &[0, 2, 4, 6, 1]));
     assert_eq!(rt; block(&table, &mut caller, 1), (2, 0, false));
@@ -90,7 +90,7 @@ fn pages_used_up(rt: HostRuntime) -> Result<(), Fail> {
 #[test]
 fn no_pages_at_the_limit(rt: HostRuntime) -> Result<(), Fail> {
     let Ok((table, mut caller)) = create::<Eight>(rt.alloc()) else {
-        return refused();
+        return table_refused();
     };
     assert!(rt; fill(&table, &mut caller, &[0, 4, 8, 12, 16, 24]));
     const REFUSED: [Row; 1] = [(Add(32), [32, 0], NoPages { log2: 2, left: 3 }, (0, 6))];

@@ -3,7 +3,7 @@ ghost use Rattle.std.specs.Prelude.{◌≡◌};
 ghost use Rattle.bihash_rule.specs.Views.{nothing_held};
 
 use super::Call::{Add, Remove, Search};
-use super::{Eight, Row, block, first_wrong, refused, two_callers};
+use super::{Eight, Row, block, first_wrong, table_refused, two_callers};
 use bihash_steps::Event;
 use bihash_table::{Caller, Sessions};
 use bihash_words::Reply::{Changed, Kept};
@@ -12,7 +12,7 @@ use std::marker::Brand;
 use std::test::Fail;
 
 // For the test of an open read: whether the page of key 0 in bucket 0 goes to key 1 in bucket 1.
-fn gives_page_away(table: &Sessions<Eight>, caller: &mut Caller<Eight>) -> bool
+fn moves_page_under_read(table: &Sessions<Eight>, caller: &mut Caller<Eight>) -> bool
     requires own { caller.old.seat.row ≡ table.now.row }
     requires free { caller.old.seat.view.holds ≡ nothing_held }
     ensures own { caller.new.seat.row ≡ table.now.row }
@@ -55,7 +55,7 @@ fn refuses_moved_page(
     if high != 0 {
         return None;
     }
-    if !gives_page_away(table, first) {
+    if !moves_page_under_read(table, first) {
         return None;
     }
     let value = row.load_open(seat, 1, 2);
@@ -76,7 +76,7 @@ fn refuses_moved_page(
 #[test]
 fn read_across_a_moved_page(rt: HostRuntime) -> Result<(), Fail> {
     let Some((table, mut first, mut second)) = two_callers::<Eight>(rt.alloc()) else {
-        return refused();
+        return table_refused();
     };
     const ADDED: [Row; 1] = [(Add(7), [0, 0], Changed(None), (0, 1))];
     assert_eq!(rt; first_wrong(&table, &mut first, &ADDED), None);

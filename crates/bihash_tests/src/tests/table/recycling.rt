@@ -4,7 +4,7 @@ ghost use Rattle.std.specs.Thread.{IsSync};
 ghost use Rattle.bihash_rule.specs.Views.{nothing_held};
 
 use super::Call::Search;
-use super::{Eight, Row, block, fill, first_wrong, has, refused, two_callers};
+use super::{Eight, Row, block, fill, first_wrong, has, table_refused, two_callers};
 use bihash_table::{Caller, Contended, Sessions, create, stamp};
 use bihash_words::Reply::{Changed, Full, Kept};
 use bihash_words::{Add, Expiry, Reply};
@@ -60,7 +60,7 @@ const KEYS: [u32; 16] = [0, 2, 4, 6, 8, 10, 12, 14, 16, 18, 20, 22, 24, 26, 28, 
 #[test]
 fn recycled_pair(rt: HostRuntime) -> Result<(), Fail> {
     let Ok((table, mut caller)) = create::<Eight>(rt.alloc()) else {
-        return refused();
+        return table_refused();
     };
     let caller = &mut caller;
     assert!(rt; fill(&table, caller, &KEYS));
@@ -95,7 +95,7 @@ impl Expiry for BelowHundred {
 #[test]
 fn two_recyclers(rt: HostRuntime) -> Result<(), Fail> {
     let Some((table, mut first, second)) = two_callers::<Eight>(rt.alloc()) else {
-        return refused();
+        return table_refused();
     };
     assert!(rt; fill(&table, &mut first, &KEYS));
     let (mut both, all_new) = recycle_both(&rt, &table, first, second);

@@ -3,7 +3,7 @@ ghost use Rattle.std.specs.Prelude.{◌≡◌, IfSome};
 ghost use Rattle.bihash_rule.specs.Views.{nothing_held};
 
 use super::Call::{Add, Search, Touch};
-use super::{Eight, Row, ends_with, first_wrong, refused, two_callers};
+use super::{Eight, Row, ends_with, first_wrong, table_refused, two_callers};
 use bihash_table::{Caller, RenewFault, Sessions, create, stamp};
 use bihash_words::Reply::{Changed, Kept, Worn};
 use bihash_words::{Shape, Tiny};
@@ -31,7 +31,7 @@ fn renew<S: Shape>(
 #[test]
 fn renewed_worn_table(rt: HostRuntime) -> Result<(), Fail> {
     let Ok((table, mut caller)) = create::<Tiny<8, 3>>(rt.alloc()) else {
-        return refused();
+        return table_refused();
     };
     const WORN: [Row; 5] = [
         (Add(7), [0, 0], Changed(None), (0, 1)),
@@ -42,7 +42,7 @@ fn renewed_worn_table(rt: HostRuntime) -> Result<(), Fail> {
     ];
     assert_eq!(rt; first_wrong(&table, &mut caller, &WORN), None);
     let Some((table, mut caller)) = renew(rt.alloc(), table, caller) else {
-        return refused();
+        return table_refused();
     };
     assert_eq!(rt; stamp(&caller), None);
     const RENEWED: [Row; 4] = [
@@ -53,7 +53,7 @@ fn renewed_worn_table(rt: HostRuntime) -> Result<(), Fail> {
     ];
     assert_eq!(rt; first_wrong(&table, &mut caller, &RENEWED), None);
     let Some((table, mut caller)) = renew(rt.alloc(), table, caller) else {
-        return refused();
+        return table_refused();
     };
     assert_eq!(rt; stamp(&caller), None);
     const AGAIN: [Row; 1] = [(Search, [0, 0], Kept(Some(10)), (0, 0))];
@@ -87,15 +87,15 @@ fn stays_worn(
 #[test]
 fn renew_strangers(rt: HostRuntime) -> Result<(), Fail> {
     let Some((table, mut first, second)) = two_callers::<Eight>(rt.alloc()) else {
-        return refused();
+        return table_refused();
     };
     const ADDED: [Row; 1] = [(Add(5), [2, 0], Changed(None), (0, 1))];
     assert_eq!(rt; first_wrong(&table, &mut first, &ADDED), None);
     let Some((table, both)) = stays_worn(rt.alloc(), table, first, second) else {
-        return refused();
+        return table_refused();
     };
     let Some((table, caller)) = renew(rt.alloc(), table, both) else {
-        return refused();
+        return table_refused();
     };
     assert!(rt; ends_with(rt.alloc(), table, caller, &[([2, 0], 5)]));
     Ok(())
@@ -105,16 +105,16 @@ fn renew_strangers(rt: HostRuntime) -> Result<(), Fail> {
 #[test]
 fn renew_after_many_callers(rt: HostRuntime) -> Result<(), Fail> {
     let Ok((table, mut caller)) = create::<Eight>(rt.alloc()) else {
-        return refused();
+        return table_refused();
     };
     'splits: for _ in 1..64u32 {
         let Ok((old, new)) = table.split(rt.alloc(), caller) else {
-            return refused();
+            return table_refused();
         };
         caller = table.join(old, new);
     }
     let Some((table, caller)) = renew(rt.alloc(), table, caller) else {
-        return refused();
+        return table_refused();
     };
     assert!(rt; table.split(rt.alloc(), caller).is_ok());
     Ok(())

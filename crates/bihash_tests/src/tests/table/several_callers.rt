@@ -1,8 +1,8 @@
 //! The worked rows of several callers.
 use super::Call::{Add, Remove, Search, Touch};
 use super::{
-    Call, Eight, Row, answer, drop_with_locks, ends_with, first_wrong, refused, stays_open,
-    two_callers,
+    Call, Eight, Row, answer, drop_with_table_locks, ends_with, first_wrong, table_refused,
+    table_stays_open, two_callers,
 };
 use bihash_table::{CloseFault, Contended, SplitFault, create, stamp};
 use bihash_words::Reply::{Changed, Kept};
@@ -12,7 +12,7 @@ use std::test::Fail;
 #[test]
 fn two_callers_without_a_meeting(rt: HostRuntime) -> Result<(), Fail> {
     let Some((table, mut first, mut second)) = two_callers::<Eight>(rt.alloc()) else {
-        return refused();
+        return table_refused();
     };
     assert_eq!(rt; stamp(&second), None);
     const ADDED: [Row; 1] = [(Add(7), [0, 0], Changed(None), (0, 1))];
@@ -33,11 +33,11 @@ fn two_callers_without_a_meeting(rt: HostRuntime) -> Result<(), Fail> {
 #[test]
 fn all_callers_split(rt: HostRuntime) -> Result<(), Fail> {
     let Ok((table, mut caller)) = create::<Eight>(rt.alloc()) else {
-        return refused();
+        return table_refused();
     };
     'splits: for _ in 1..64u32 {
         let Ok((old, _)) = table.split(rt.alloc(), caller) else {
-            return refused();
+            return table_refused();
         };
         caller = old;
     }
@@ -50,15 +50,15 @@ fn all_callers_split(rt: HostRuntime) -> Result<(), Fail> {
 
 // Several callers: one is lone, and may end the table, once the other is joined into it.
 #[test]
-fn close(rt: HostRuntime) -> Result<(), Fail> {
+fn two_callers_join_to_close(rt: HostRuntime) -> Result<(), Fail> {
     let Some((table, mut first, second)) = two_callers::<Eight>(rt.alloc()) else {
-        return refused();
+        return table_refused();
     };
     const ADDED: [Row; 1] = [(Add(5), [2, 0], Changed(None), (0, 1))];
     assert_eq!(rt; first_wrong(&table, &mut first, &ADDED), None);
     assert!(rt; !table.is_lone(&mut first));
-    let Some((table, mut both)) = stays_open(rt.alloc(), table, first, second) else {
-        return refused();
+    let Some((table, mut both)) = table_stays_open(rt.alloc(), table, first, second) else {
+        return table_refused();
     };
     assert!(rt; table.is_lone(&mut both));
     assert!(rt; ends_with(rt.alloc(), table, both, &[([2, 0], 5)]));
@@ -69,9 +69,9 @@ fn close(rt: HostRuntime) -> Result<(), Fail> {
 #[test]
 fn dropped_lock_holder(rt: HostRuntime) -> Result<(), Fail> {
     let Some((table, mut first, second)) = two_callers::<Eight>(rt.alloc()) else {
-        return refused();
+        return table_refused();
     };
-    assert!(rt; drop_with_locks(&table, second, false));
+    assert!(rt; drop_with_table_locks(&table, second, false));
     assert_eq!(rt; answer(&table, &mut first, Search, &[0, 0]), Err(Contended));
     assert_eq!(rt; answer(&table, &mut first, Remove, &[0, 0]), Err(Contended));
     assert_eq!(rt; stamp(&first), None);
@@ -88,9 +88,9 @@ fn dropped_lock_holder(rt: HostRuntime) -> Result<(), Fail> {
 #[test]
 fn dropped_pool_holder(rt: HostRuntime) -> Result<(), Fail> {
     let Some((table, mut first, second)) = two_callers::<Eight>(rt.alloc()) else {
-        return refused();
+        return table_refused();
     };
-    assert!(rt; drop_with_locks(&table, second, true));
+    assert!(rt; drop_with_table_locks(&table, second, true));
     assert_eq!(rt; answer(&table, &mut first, Add(3), &[1, 0]), Err(Contended));
     assert_eq!(rt; stamp(&first), None);
     const FOUND: [Row; 1] = [(Search, [1, 0], Kept(None), (1, 0))];
@@ -102,7 +102,7 @@ fn dropped_pool_holder(rt: HostRuntime) -> Result<(), Fail> {
 #[test]
 fn callers_that_met_keep_their_stamps(rt: HostRuntime) -> Result<(), Fail> {
     let Some((table, mut first, mut second)) = two_callers::<Eight>(rt.alloc()) else {
-        return refused();
+        return table_refused();
     };
     const BY_FIRST: [Row; 1] = [(Call::Add(7), [0, 0], Changed(None), (0, 1))];
     assert_eq!(rt; first_wrong(&table, &mut first, &BY_FIRST), None);

@@ -5,7 +5,7 @@ ghost use Rattle.bihash_words.specs.declared.patch.Change.TheVariants.{Keep};
 ghost use Rattle.bihash_rule.specs.Views.{nothing_held};
 
 use super::Call::{Add, Search};
-use super::{Eight, Row, answer, first_wrong, refused, two_callers};
+use super::{Eight, Row, answer, first_wrong, table_refused, two_callers};
 use bihash_table::{Caller, Sessions};
 use bihash_words::Reply::{Changed, Kept};
 use bihash_words::{Change, Patch, Reply, Tiny};
@@ -24,7 +24,7 @@ type OnePage = Tiny<1, 100000>;
 #[test]
 fn two_writers(rt: HostRuntime) -> Result<(), Fail> {
     let Some((table, first, second)) = two_callers::<Deep>(rt.alloc()) else {
-        return refused();
+        return table_refused();
     };
     let (mut both, all_changed) = write_both(&rt, &table, first, second);
     assert!(rt; all_changed);
@@ -119,7 +119,7 @@ impl Patch for KeepsLate {
 #[test]
 fn kept_beside_read(rt: HostRuntime) -> Result<(), Fail> {
     let Some((table, mut first, second)) = two_callers::<Eight>(rt.alloc()) else {
-        return refused();
+        return table_refused();
     };
     const ADDED: [Row; 1] = [(Add(7), [0, 0], Changed(None), (0, 1))];
     assert_eq!(rt; first_wrong(&table, &mut first, &ADDED), None);
@@ -165,10 +165,10 @@ const ROUNDS: u32 = 10_000;
 #[test]
 fn page_given_away_under_readers(rt: HostRuntime) -> Result<(), Fail> {
     let Some((table, first, second)) = two_callers::<OnePage>(rt.alloc()) else {
-        return refused();
+        return table_refused();
     };
     let Ok((second, third)) = table.split(rt.alloc(), second) else {
-        return refused();
+        return table_refused();
     };
     let (mut all, as_written) = write_and_read(&rt, &table, first, second, third);
     assert!(rt; as_written);

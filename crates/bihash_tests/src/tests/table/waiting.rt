@@ -2,7 +2,7 @@
 ghost use Rattle.std.specs.Prelude.{◌≡◌};
 ghost use Rattle.bihash_rule.specs.Views.{nothing_held};
 
-use super::{Call, Eight, Row, refused};
+use super::{Call, Eight, Row, table_refused};
 use bihash_table::{Caller, Sessions, create, stamp};
 use bihash_words::Reply::{Changed, Kept};
 use bihash_words::{Add, AddIfAbsent, Delete, Reply, Touch};
@@ -94,7 +94,7 @@ fn first_wrong_waiting<R: Wait>(
 #[test]
 fn fixed_calls(rt: HostRuntime) -> Result<(), Fail> {
     let Ok((table, mut caller)) = create::<Eight>(rt.alloc()) else {
-        return refused();
+        return table_refused();
     };
     const ROWS: [Row; 11] = [
         (Call::Touch(6), [0, 0], Kept(None), (0, 0)),
@@ -120,7 +120,7 @@ fn fixed_calls(rt: HostRuntime) -> Result<(), Fail> {
 #[test]
 fn updates_by_each_fixed_patch(rt: HostRuntime) -> Result<(), Fail> {
     let Ok((table, mut caller)) = create::<Eight>(rt.alloc()) else {
-        return refused();
+        return table_refused();
     };
     const ROWS: [Row; 10] = [
         (Call::Touch(2), [1, 5], Kept(None), (1, 0)),

@@ -14,6 +14,6 @@ pub returns-in-Some-prefix_reason-2-clause-wrong : goal.returns-in-Some-prefix_r
 returns-in-Some-prefix_reason-2-clause-wrong c =
     let words = words_of c.args.text.now in
     let told = c.of-in-Some-prefix_reason-2 in
-    let split = two_words words _ (words_of c.in-Some-next.text.now) c.in-Some.source.now c.in-Some-next.dest.now c.in-Some.ensures c.in-Some-next.ensures in
-    said (IsEndReason c.args.family words) told.result.reason c.in-Some-prefix_reason-2.reason told.result.word.now c.in-Some-next.dest.now told.ensures.reason told.ensures.word
-    (end_reason c.args.family words c.in-Some-next.dest.now c.in-Some-prefix_reason-2.reason c.in-Some-prefix_reason-2.ensures (inr (c.in-Some.source.now, words_of c.in-Some-next.text.now, split)))
+    let split = two_words words _ (words_of c.in-Some-read_next_word.text.now) c.in-Some.source.now c.in-Some-read_next_word.dest.now c.in-Some.ensures c.in-Some-read_next_word.ensures in
+    said (IsEndReason c.args.family words) told.result.reason c.in-Some-prefix_reason-2.reason told.result.word.now c.in-Some-read_next_word.dest.now told.ensures.reason told.ensures.word
+    (end_reason c.args.family words c.in-Some-read_next_word.dest.now c.in-Some-prefix_reason-2.reason c.in-Some-prefix_reason-2.ensures (inr (c.in-Some.source.now, words_of c.in-Some-read_next_word.text.now, split)))

@@ -9,7 +9,8 @@ returns-in-None c =
     said (IsTrafficReason c.args.family (words_of c.args.text.now)) c.of.result.reason NoProtocol c.of.result.word.now c.in-Some.word.now c.of.ensures.reason c.of.ensures.word
     (words_of c.in-Some.rest.now, c.in-Some.ensures, c.in-None.ensures)
 
-pub returns-in-Some-protocol : goal.returns-in-Some-protocol
-returns-in-Some-protocol c =
+pub returns-in-Some-read_protocol_word : goal.returns-in-Some-read_protocol_word
+returns-in-Some-read_protocol_word c =
     traffic_wrong (λ found. found.reason) (λ found. found.word.now) c.args.family (words_of c.args.text.now) (words_of c.in-Some.rest.now) c.in-Some.word.now
-    c.in-Some-protocol.proto c.in-Some.ensures c.in-Some-protocol.ensures c.parts.result c.parts.ensures
+    c.in-Some-read_protocol_word.proto c.in-Some.ensures c.in-Some-read_protocol_word.ensures
+    c.parts.result c.parts.ensures

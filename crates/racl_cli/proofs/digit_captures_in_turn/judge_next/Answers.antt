@@ -5,16 +5,16 @@ use Rattle.racl_io.specs.Inputs.{numbered_facts}
 use Rattle.racl_cli.proofs.TakenLemmas.{among, digits_within, few_taken, not_among, own_fault, second_of_one}
 use Rattle.racl_cli.proofs.digit_captures_in_turn.judge_next.Goals as goal
 
-pub returns-then-is_seen-clause-fault : goal.returns-then-is_seen-clause-fault
-returns-then-is_seen-clause-fault g c =
+pub returns-then-is_digit_capture_seen-clause-fault : goal.returns-then-is_digit_capture_seen-clause-fault
+returns-then-is_digit_capture_seen-clause-fault g c =
     let number = c.args.capture.interface in
     let any =
-    subst (λ (seen : List ℕ). list_any (λ other. other == number) seen ≡ true) c.deref.ensures.value (sym c.if-is_seen.ensures) in
+    subst (λ (seen : List ℕ). list_any (λ other. other == number) seen ≡ true) c.deref.ensures.value (sym c.if-is_digit_capture_seen.ensures) in
     inr (second_of_one c.args.walk.seen.items number c.args.capture.content.now (among number c.args.walk.seen.items any))
 
 pub judge_digits-requires : goal.judge_digits-requires
 judge_digits-requires g c =
-    let within = digits_within c.args.capture.content.now c.cut_digits.result.digits.now (numbered_facts c.cut_digits.result.next) c.cut_digits.ensures.cut in
+    let within = digits_within c.args.capture.content.now c.cut_at_numbered_marker.result.digits.now (numbered_facts c.cut_at_numbered_marker.result.next) c.cut_at_numbered_marker.ensures.cut in
     (search rules, record { packets = c.requires.packets; rest = c.requires.rest; few = let few = c.requires.few in omega arith })
 
 pub returns-in-Err-clause-fault : goal.returns-in-Err-clause-fault
@@ -22,12 +22,12 @@ returns-in-Err-clause-fault g c =
     let number = c.args.capture.interface in
     let seen = c.args.walk.seen.items in
     let none =
-    subst (λ (seen : List ℕ). list_any (λ other. other == number) seen ≡ false) c.deref.ensures.value (sym c.if-is_seen.ensures) in
+    subst (λ (seen : List ℕ). list_any (λ other. other == number) seen ≡ false) c.deref.ensures.value (sym c.if-is_digit_capture_seen.ensures) in
     elim c.in-Err.ensures.fault [
       | inl memory ↦ inl memory
       | inr of ↦
-          inr (own_fault seen number c.args.capture.content.now c.cut_digits.result.digits.now (numbered_facts c.cut_digits.result.next)
-          c.cut_digits.ensures.cut (not_among number seen none) _ of)
+          inr (own_fault seen number c.args.capture.content.now c.cut_at_numbered_marker.result.digits.now (numbered_facts c.cut_at_numbered_marker.result.next)
+          c.cut_at_numbered_marker.ensures.cut (not_among number seen none) _ of)
     ]
 
 pub returns-clause-ok : goal.returns-clause-ok
@@ -35,13 +35,13 @@ returns-clause-ok g c =
     let number = c.args.capture.interface in
     let seen = c.args.walk.seen.items in
     let none =
-    subst (λ (seen : List ℕ). list_any (λ other. other == number) seen ≡ false) c.deref.ensures.value (sym c.if-is_seen.ensures) in
-    let digits = c.cut_digits.result.digits.now in
+    subst (λ (seen : List ℕ). list_any (λ other. other == number) seen ≡ false) c.deref.ensures.value (sym c.if-is_digit_capture_seen.ensures) in
+    let digits = c.cut_at_numbered_marker.result.digits.now in
     let streamed = c.in-Ok.streamed in
     let has = c.in-Ok.ensures.ok in
     record {
       digits = digits;
-      cut = c.cut_digits.ensures.cut;
+      cut = c.cut_at_numbered_marker.ensures.cut;
       packets = has.packets;
       captured = record { named = Some number; packets = streamed.packets; truncated = streamed.truncated };
       taken = record {
@@ -56,6 +56,6 @@ returns-clause-ok g c =
       seen = c.in_ok-insert.ensures.items;
       by = has.by;
       rest = has.rest;
-      few = few_taken number c.args.capture.content.now digits has.capture (numbered_facts c.cut_digits.result.next) has.packets streamed.truncated
-          c.cut_digits.ensures.cut has.spelt has.records;
+      few = few_taken number c.args.capture.content.now digits has.capture (numbered_facts c.cut_at_numbered_marker.result.next) has.packets streamed.truncated
+          c.cut_at_numbered_marker.ensures.cut has.spelt has.records;
     }

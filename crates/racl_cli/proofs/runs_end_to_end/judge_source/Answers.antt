@@ -32,5 +32,5 @@ returns-in-Bytes-clause-within g c =
 pub returns-in-Digits-clause-within : goal.returns-in-Digits-clause-within
 returns-in-Digits-clause-within g c =
     let has = c.in-Ok.ensures.ok in
-    within_more _ _ c.args.reader.now c.open_source.new.reader _ c.in-Ok.front.bytes.items c.judge_captures.result has.consumed has.few
-    c.in-Ok.ensures.within.failed (within_unread _ _ _ c.open_source.new.reader c.args.options.now _ c.judge_captures.result c.judge_captures.ensures)
+    within_more _ _ c.args.reader.now c.open_source.new.reader _ c.in-Ok.front.bytes.items c.judge_digit_captures.result has.consumed has.few
+    c.in-Ok.ensures.within.failed (within_unread _ _ _ c.open_source.new.reader c.args.options.now _ c.judge_digit_captures.result c.judge_digit_captures.ensures)

@@ -4,8 +4,8 @@ use Rattle.std.proofs.lemmas.Result.{err_from_is_err_and}
 use Rattle.racl_io.proofs.TransferLemmas.{gave_more}
 use Rattle.racl_io.proofs.reading_and_writing.read_until.Goals as goal
 
-pub returns-in_err-keep-clause-within : goal.returns-in_err-keep-clause-within
-returns-in_err-keep-clause-within g c =
+pub returns-in_err-keep_while_reading-clause-within : goal.returns-in_err-keep_while_reading-clause-within
+returns-in_err-keep_while_reading-clause-within g c =
     let p = err_from_is_err_and c.from_residual.result c.from_residual.ensures.1 in
     let (read, consumed, appended) = c.reading.invariant.read in
     let part = take c.in-Ok.n c.read.new.buf in

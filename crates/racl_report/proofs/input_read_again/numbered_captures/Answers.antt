@@ -9,7 +9,7 @@ captures-preserved c = λ packets told taken.
     let all = c.captures-2.all.items in
     let amid = subst (λ next. AreAmid all (numbered_facts next) packets) c.in-Some.is (c.captures-2.invariant packets told taken) in
     amid_more all _ (record { interface = c.in-Some.capture.interface; bytes = c.in-Ok.bytes }) c.in-Some.capture.content.now
-    c.cut_digits.result.digits.now (numbered_facts c.cut_digits.result.next) packets amid c.cut_digits.ensures.cut c.in-Ok.ensures.ok
+    c.cut_at_numbered_marker.result.digits.now (numbered_facts c.cut_at_numbered_marker.result.next) packets amid c.cut_at_numbered_marker.ensures.cut c.in-Ok.ensures.ok
     c.in_ok-push.ensures.items
 
 pub returns : goal.returns

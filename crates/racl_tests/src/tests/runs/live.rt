@@ -1,6 +1,6 @@
 //! A capture that is told while it comes.
 use super::DEFAULTS;
-use super::transfers::{Drip, trickling};
+use super::slow_and_failing_devices::{Drip, trickling};
 use racl_cli::{Fault, run_live};
 use racl_io::decode_digits;
 use std::test::Fail;

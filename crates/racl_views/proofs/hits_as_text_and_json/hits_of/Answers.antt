@@ -8,7 +8,7 @@ returns c = λ deciding counted.
     let rules = rule_hits deciding c.args.rules.now in
     let reasons = reason_hits c.args.verdicts.now in
     let sessions = session_hits c.args.sessions in
-    let first = c.in_ok-push_rules.ensures deciding counted ∙ ap (λ (hs : List Hit). hs ++ rules) c.new-hits.ensures.items in
-    c.in_ok-push_sessions.ensures
-    ∙ ap (λ (hs : List Hit). hs ++ sessions) (c.in_ok-push_reasons.ensures ∙ ap (λ (hs : List Hit). hs ++ reasons) first)
+    let first = c.in_ok-push_rule_hits.ensures deciding counted ∙ ap (λ (hs : List Hit). hs ++ rules) c.new-hits.ensures.items in
+    c.in_ok-push_session_hits.ensures
+    ∙ ap (λ (hs : List Hit). hs ++ sessions) (c.in_ok-push_reason_hits.ensures ∙ ap (λ (hs : List Hit). hs ++ reasons) first)
     ∙ append_assoc rules reasons sessions

@@ -9,13 +9,13 @@ use Rattle.bihash_table.proofs.SeenBuckets.{seen_ahead, seen_first, seen_records
 use Rattle.bihash_table.proofs.Tries.{over_seen, update_answered_over}
 use Rattle.bihash_table.proofs.shared_table.Sessions.try_add_or_recycle.Goals as goal
 
-pub find_pair-pair-requires : goal.find_pair-pair-requires
-find_pair-pair-requires g c = may_read (own_through c.args.caller.now.seat _ _ c.load_unlocked.ensures.same c.requires.own) c.in-Some.ensures.opened.has
+pub pair_in_open_bucket-pair-requires : goal.pair_in_open_bucket-pair-requires
+pair_in_open_bucket-pair-requires g c = may_read (own_through c.args.caller.now.seat _ _ c.load_unlocked.ensures.same c.requires.own) c.in-Some.ensures.opened.has
 
 pub make-requires-clause-found : goal.make-requires-clause-found
 make-requires-clause-found g c = record {
-  own = own_through c.load_unlocked.new.seat _ _ c.find_pair-pair.ensures.same (own_through c.args.caller.now.seat _ _ c.load_unlocked.ensures.same c.requires.own);
-  seen = seen_first (sizes_of g.S.Shape) _ _ _ _ c.find_pair-pair.ensures.saw c.in-Some.ensures.opened.has;
+  own = own_through c.load_unlocked.new.seat _ _ c.pair_in_open_bucket-pair.ensures.same (own_through c.args.caller.now.seat _ _ c.load_unlocked.ensures.same c.requires.own);
+  seen = seen_first (sizes_of g.S.Shape) _ _ _ _ c.pair_in_open_bucket-pair.ensures.saw c.in-Some.ensures.opened.has;
 }
 
 pub returns : goal.returns
@@ -23,15 +23,15 @@ returns g c =
     let z = sizes_of g.S.Shape in
     let s = c.args.caller.now.seat in
     let x = c.load_unlocked.new.seat in
-    let y = c.find_pair-pair.new.seat in
+    let y = c.pair_in_open_bucket-pair.new.seat in
     let t = c.make.new.caller.seat in
     let hashed = c.of-hashed.result in
-    let found = value_of c.find_pair-pair.result in
+    let found = value_of c.pair_in_open_bucket-pair.result in
     let change = c.decide-change.result in
     let r = c.make.result in
-    let same = same_through s x y _ c.load_unlocked.ensures.same c.find_pair-pair.ensures.same in
-    let ahead = seen_ahead z s.view x.view y.view hashed.bucket c.in-Some.word c.in-Some.ensures.opened c.find_pair-pair.ensures.saw in
-    let locks = ap locks_of (seen_records z s.view x.view y.view hashed.bucket c.in-Some.word c.in-Some.ensures.opened c.find_pair-pair.ensures.saw) in
+    let same = same_through s x y _ c.load_unlocked.ensures.same c.pair_in_open_bucket-pair.ensures.same in
+    let ahead = seen_ahead z s.view x.view y.view hashed.bucket c.in-Some.word c.in-Some.ensures.opened c.pair_in_open_bucket-pair.ensures.saw in
+    let locks = ap locks_of (seen_records z s.view x.view y.view hashed.bucket c.in-Some.word c.in-Some.ensures.opened c.pair_in_open_bucket-pair.ensures.saw) in
     let is_expired = g.E.Expiry.is_expired c.args.expiry.now in
     let all : TriedOver g.S.Shape s t hashed.key.now found change is_expired r
     = over_seen g.S.Shape s y t hashed.bucket hashed.key.now found change is_expired same ahead (sym hashed.home) locks r c.make.ensures in

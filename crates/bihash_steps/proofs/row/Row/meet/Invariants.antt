@@ -1,4 +1,0 @@
-use Rattle.bihash_steps.proofs.row.Row.meet.Given as goal
-
-abbrev pub ghosts-cut : goal.ghosts-cut
-ghosts-cut g a = record { kept = a.kept }

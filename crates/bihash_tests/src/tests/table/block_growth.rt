@@ -1,0 +1,121 @@
+//! Block growth, by the worked rows of one caller: blocks that grow, turn linear, and are full.
+ghost use Rattle.std.specs.Prelude.{◌≡◌};
+ghost use Rattle.bihash_rule.specs.Views.{nothing_held};
+
+use super::Call::{Add, Remove, Search};
+use super::{Eight, Row, block, fill, first_wrong, has, table_refused};
+use bihash_steps::PoolWord;
+use bihash_table::{Caller, Sessions, create};
+use bihash_words::Reply::{Changed, Full, Kept};
+use bihash_words::{Shape, Tiny};
+use std::test::Fail;
+
+// For tests of block growth: how many returned pages there are, and how many pages were ever handed out. `None`: the
+// allocation lock is held.
+fn pages_after_growth<S: Shape>(table: &Sessions<S>, caller: &mut Caller<S>) -> Option<(u64, u64)>
+    requires own { caller.old.seat.row ≡ table.now.row }
+    requires free { caller.old.seat.view.holds ≡ nothing_held }
+    ensures own { caller.new.seat.row ≡ table.now.row }
+    ensures free { caller.new.seat.view.holds ≡ nothing_held }
+{
+    let row = &table.row;
+    let seat = &mut caller.seat;
+    if !row.pool_lock(seat) {
+        return None;
+    }
+    let returned = row.pool_load(seat, PoolWord::Count(0));
+    let used = row.pool_load(seat, PoolWord::Used);
+    row.pool_unlock(seat);
+    Some((returned, used))
+}
+
+// Block growth: the block of a bucket grows from one page to two, and the old page is returned.
+#[test]
+fn block_grows_to_two_pages(rt: HostRuntime) -> Result<(), Fail> {
+    let Ok((table, mut caller)) = create::<Eight>(rt.alloc()) else {
+        return table_refused();
+    };
+    const ADDED: [Row; 5] = [
+        (Add(100), [0, 0], Changed(None), (0, 1)),
+        (Add(101), [2, 0], Changed(None), (0, 2)),
+        (Add(102), [4, 0], Changed(None), (0, 3)),
+        (Add(103), [6, 0], Changed(None), (0, 4)),
+        (Add(104), [8, 0], Changed(None), (0, 5)),
+    ];
+    assert_eq!(rt; first_wrong(&table, &mut caller, &ADDED), None);
+    assert_eq!(rt; block(&table, &mut caller, 0), (2, 1, false));
+    // Page 1 is free, and five pages were never used.
+    assert_eq!(rt; pages_after_growth(&table, &mut caller), Some((1, 3)));
+    const FOUND: [Row; 5] = [
+        (Search, [0, 0], Kept(Some(100)), (0, 5)),
+        (Search, [2, 0], Kept(Some(101)), (0, 5)),
+        (Search, [4, 0], Kept(Some(102)), (0, 5)),
+        (Search, [6, 0], Kept(Some(103)), (0, 5)),
+        (Search, [8, 0], Kept(Some(104)), (0, 5)),
+    ];
+    assert_eq!(rt; first_wrong(&table, &mut caller, &FOUND), None);
+    Ok(())
+}
+
+// Block growth: the block of a bucket grows from one page to four, since its keys don't fit two.
+#[test]
+fn block_grows_to_four_pages(rt: HostRuntime) -> Result<(), Fail> {
+    let Ok((table, mut caller)) = create::<Eight>(rt.alloc()) else {
+        return table_refused();
+    };
+    assert!(rt; fill(&table, &mut caller, &[0, 4, 8, 12, 16]));
+    assert_eq!(rt; block(&table, &mut caller, 0), (2, 2, false));
+    assert_eq!(rt; pages_after_growth(&table, &mut caller), Some((1, 5)));
+    assert!(rt; has(&table, &mut caller, &[0, 4, 8, 12, 16]));
+    Ok(())
+}
+
+// Block growth: keys that all name one page get a linear block, where the others are found once one is removed.
+#[test]
+fn block_grows_linear(rt: HostRuntime) -> Result<(), Fail> {
+    let Ok((table, mut caller)) = create::<Eight>(rt.alloc()) else {
+        return table_refused();
+    };
+    assert!(rt; fill(&table, &mut caller, &[0, 8, 16, 24, 32]));
+    assert_eq!(rt; block(&table, &mut caller, 0), (2, 1, true));
+    assert!(rt; has(&table, &mut caller, &[0, 8, 16, 24, 32]));
+    const ROWS: [Row; 2] = [
+        (Remove, [8, 0], Changed(Some(8)), (0, 6)),
+        (Search, [8, 0], Kept(None), (0, 6)),
+    ];
+    assert_eq!(rt; first_wrong(&table, &mut caller, &ROWS), None);
+    assert!(rt; has(&table, &mut caller, &[0, 16, 24, 32]));
+    Ok(())
+}
+
+// Block growth: a bucket with as many pairs as it may have refuses one more, and keeps them.
+#[test]
+fn grown_block_is_full(rt: HostRuntime) -> Result<(), Fail> {
+    let Ok((table, mut caller)) = create::<Eight>(rt.alloc()) else {
+        return table_refused();
+    };
+    const KEYS: [u32; 16] = [
+        0, 8, 16, 24, 32, 40, 48, 56, 64, 72, 80, 88, 96, 104, 112, 120,
+    ];
+    assert!(rt; fill(&table, &mut caller, &KEYS));
+    const ROWS: [Row; 2] = [
+        (Add(128), [128, 0], Full, (0, 16)),
+        (Search, [128, 0], Kept(None), (0, 16)),
+    ];
+    assert_eq!(rt; first_wrong(&table, &mut caller, &ROWS), None);
+    assert!(rt; has(&table, &mut caller, &KEYS));
+    Ok(())
+}
+
+// Block growth at the limit: a block of four pages is laid out anew as a linear one, in the last four pages that were
+// never used.
+#[test]
+fn block_turns_linear_at_limit(rt: HostRuntime) -> Result<(), Fail> {
+    let Ok((table, mut caller)) = create::<Tiny<9, 1000>>(rt.alloc()) else {
+        return table_refused();
+    };
+    assert!(rt; fill(&table, &mut caller, &[0, 4, 8, 12, 16, 24, 32]));
+    assert_eq!(rt; block(&table, &mut caller, 0), (6, 2, true));
+    assert!(rt; has(&table, &mut caller, &[0, 4, 8, 12, 16, 24, 32]));
+    Ok(())
+}

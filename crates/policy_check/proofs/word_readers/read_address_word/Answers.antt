@@ -1,0 +1,10 @@
+use Rattle.policy_words.proofs.PrefixLaws.{address_in-complete, address_in-sound}
+use Rattle.policy_words.specs.Prefixes.{IsAddress}
+use Rattle.policy_words.specs.inner.Reading.Prefixes.{address_in}
+use Rattle.policy_check.proofs.ReaderLemmas.{read_as}
+use Rattle.policy_check.proofs.word_readers.read_address_word.Goals as goal
+
+pub returns-clause-value : goal.returns-clause-value
+returns-clause-value c =
+    let w = c.args.word.now in
+    read_as (address_in c.args.family w) c.address_of.result (IsAddress c.args.family w) c.address_of.ensures.value (λ n found. address_in-sound c.args.family w n found) (λ n is. address_in-complete c.args.family w n is)

@@ -1,0 +1,10 @@
+use Rattle.policy_words.proofs.PrefixLaws.{prefix_in-complete, prefix_in-sound}
+use Rattle.policy_words.specs.Prefixes.{IsPrefix}
+use Rattle.policy_words.specs.inner.Reading.Prefixes.{prefix_in}
+use Rattle.policy_check.proofs.ReaderLemmas.{read_as}
+use Rattle.policy_check.proofs.word_readers.read_prefix_word.Goals as goal
+
+pub returns : goal.returns
+returns c =
+    let w = c.args.word.now in
+    read_as (prefix_in c.args.family w) c.prefix_of.result (IsPrefix c.args.family w) c.prefix_of.ensures.value (λ p found. prefix_in-sound c.args.family w p found) (λ p is. prefix_in-complete c.args.family w p is)

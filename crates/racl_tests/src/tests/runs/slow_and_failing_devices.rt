@@ -1,0 +1,169 @@
+//! Devices that move a byte at a time, and devices that fail.
+ghost use Rattle.std.specs.Prelude.{◌≡◌, None};
+
+use super::{DEFAULTS, whole_input, whole_report};
+use racl_cli::{Device, DeviceFault, Fault, Sink, Source, Totals, run, status};
+use std::alloc::Global;
+
+/// Gives one byte a read. Once it has made its reads it fails, and then goes on.
+#[derive(Drop)]
+pub struct Drip<'a> {
+    pub rest: &'a [u8],
+    pub reads: usize,
+    pub failures: u64,
+}
+
+impl Source for Drip<'_> {
+    ghost bytes = { λ _. None };
+
+    ghost failures = { λ d. d.failures };
+
+    // For tests of slow and failing devices: a read of one byte, or a failing one.
+    fn read(&mut self, buf: &mut [u8]) -> Result<usize, DeviceFault> {
+        if self.reads == 0 {
+            self.failures += 1;
+            self.reads = usize::MAX;
+            return Err(DeviceFault);
+        }
+        self.reads -= 1;
+        let count = self.rest.len().min(buf.len()).min(1);
+        buf[..count].copy_from_slice(&self.rest[..count]);
+        self.rest = &self.rest[count..];
+        Ok(count)
+    }
+}
+
+/// Takes one byte a write. Once it has made its writes it fails, and then goes on.
+#[derive(Drop)]
+pub struct Trickle {
+    pub taken: Vec<u8>,
+    writes: usize,
+    pub failures: u64,
+}
+
+impl Sink for Trickle {
+    ghost bytes = { λ _. None };
+
+    ghost failures = { λ t. t.failures };
+
+    // For tests of slow and failing devices: a write of one byte, or a failing one.
+    fn write(&mut self, buf: &[u8]) -> Result<usize, DeviceFault> {
+        let Some(first) = buf.first() else {
+            self.failures += 1;
+            return Ok(0);
+        };
+        if self.writes == 0 || self.taken.push(*first).is_err() {
+            self.failures += 1;
+            self.writes = usize::MAX;
+            return Err(DeviceFault);
+        }
+        self.writes -= 1;
+        Ok(1)
+    }
+}
+
+/// Takes no byte.
+#[derive(Drop)]
+struct Stopped {
+    failures: u64,
+}
+
+impl Sink for Stopped {
+    ghost bytes = { λ _. None };
+
+    ghost failures = { λ s. s.failures };
+
+    // For tests of slow and failing devices: a write that takes no byte.
+    fn write(&mut self, _buf: &[u8]) -> Result<usize, DeviceFault> {
+        self.failures += 1;
+        Ok(0)
+    }
+}
+
+/// For tests of slow and failing devices: a device that takes one byte a write, and makes so many writes.
+pub fn trickling(alloc: Global, writes: usize) -> Trickle
+    ensures { result.failures ≡ 0 }
+{
+    Trickle {
+        taken: Vec::new(alloc),
+        writes,
+        failures: 0,
+    }
+}
+
+/// A run on devices that are neither slow nor failing.
+#[test]
+fn a_run_on_unfailing_devices(rt: HostRuntime) {
+    let alloc = rt.alloc();
+    let mut reader = Device::new(whole_input());
+    let mut writer = Device::new(Vec::new(alloc));
+    let outcome = run(&rt, alloc, &DEFAULTS, &mut reader, &mut writer);
+    let totals = Totals {
+        packets: 3,
+        passed: 2,
+        dropped: 1,
+        truncated: false,
+    };
+    assert_eq!(rt; outcome, Ok(totals));
+    assert_eq!(rt; status(&outcome), 0);
+    assert_eq!(rt; writer.inner.as_slice(), whole_report());
+}
+
+/// A run on slow devices: a read and a write for each byte.
+#[test]
+fn one_byte_at_a_time(rt: HostRuntime) {
+    let alloc = rt.alloc();
+    let mut reader = Drip {
+        rest: whole_input(),
+        reads: usize::MAX,
+        failures: 0,
+    };
+    let mut writer = trickling(alloc, usize::MAX);
+    let outcome = run(&rt, alloc, &DEFAULTS, &mut reader, &mut writer);
+    assert_eq!(rt; status(&outcome), 0);
+    assert_eq!(rt; writer.taken.as_slice(), whole_report());
+}
+
+/// Runs on failing devices: wherever a read fails, nothing is written.
+#[test]
+fn runs_with_failing_reads(rt: HostRuntime) {
+    let alloc = rt.alloc();
+    let input = whole_input();
+    for reads in 0..=input.len() {
+        let mut reader = Drip {
+            rest: input,
+            reads,
+            failures: 0,
+        };
+        let mut writer = trickling(alloc, usize::MAX);
+        let outcome = run(&rt, alloc, &DEFAULTS, &mut reader, &mut writer);
+        assert_eq!(rt; outcome, Err(Fault::Read), "after {reads} reads");
+        assert_eq!(rt; reader.failures, 1, "after {reads} reads");
+        assert_eq!(rt; writer.taken.len(), 0, "after {reads} reads");
+    }
+}
+
+/// Runs on failing devices: wherever a write fails, the report was written up to there.
+#[test]
+fn runs_with_failing_writes(rt: HostRuntime) {
+    let alloc = rt.alloc();
+    let report = whole_report();
+    for writes in 0..report.len() {
+        let mut reader = Device::new(whole_input());
+        let mut writer = trickling(alloc, writes);
+        let outcome = run(&rt, alloc, &DEFAULTS, &mut reader, &mut writer);
+        assert_eq!(rt; outcome, Err(Fault::Write), "after {writes} writes");
+        assert_eq!(rt; writer.failures, 1, "after {writes} writes");
+        assert_eq!(rt; writer.taken.as_slice(), &report[..writes]);
+    }
+}
+
+/// Runs on failing devices: one that takes no byte of the report.
+#[test]
+fn a_write_of_nothing_is_a_failed_one(rt: HostRuntime) {
+    let mut reader = Device::new(whole_input());
+    let mut writer = Stopped { failures: 0 };
+    let outcome = run(&rt, rt.alloc(), &DEFAULTS, &mut reader, &mut writer);
+    assert_eq!(rt; outcome, Err(Fault::Write));
+    assert_eq!(rt; writer.failures, 1);
+}

@@ -1,6 +1,0 @@
-use Rattle.racl_views.proofs.LineLemmas.{policy_rules_of}
-use Rattle.racl_views.proofs.rule_numbering.rule_lines.Goals as goal
-
-pub returns-in-Ok : goal.returns-in-Ok
-returns-in-Ok c =
-    policy_rules_of (λ v. v.items) c.rules_in.result c.args.text.now c.in-Ok.text.now c.in-Ok.ensures.cases.0 c.rules_in.ensures
