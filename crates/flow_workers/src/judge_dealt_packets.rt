@@ -30,7 +30,7 @@ fn judge_chunk<'a, A: Shape, B: Shape, R: Wait, G: Gate>(
 }
 
 // Judges the packets that are dealt to a worker, by its share.
-fn work_on<'a, A: Shape, B: Shape, R: Wait, G: Gate>(
+fn judge_dealt_to<'a, A: Shape, B: Shape, R: Wait, G: Gate>(
     batch: &Batch<'_, '_, 'a, A, B, R, G>,
     dealt: Dealt<'_, 'a>,
     worker: usize,
@@ -50,7 +50,7 @@ fn work_on<'a, A: Shape, B: Shape, R: Wait, G: Gate>(
 }
 
 /// Judges the packets of a worker.
-pub fn work<'t, 'f, 'a, A: Shape, B: Shape, R: Wait, G: Gate>(
+pub fn judge_dealt_packets<'t, 'f, 'a, A: Shape, B: Shape, R: Wait, G: Gate>(
     job: Job<'t, 'f, 'a, A, B, R, G>,
 ) -> Result<Share<A, B>, AllocError>
     requires { CanWork ⟦<A as Shape>⟧ ⟦<B as Shape>⟧ job }
@@ -62,7 +62,7 @@ pub fn work<'t, 'f, 'a, A: Shape, B: Shape, R: Wait, G: Gate>(
         worker,
         mut share,
     } = job;
-    match work_on(&batch, dealt, worker, &mut share) {
+    match judge_dealt_to(&batch, dealt, worker, &mut share) {
         Ok(()) => Ok(share),
         Err(error) => Err(error),
     }

@@ -2,16 +2,17 @@
 #![tactic(auto)]
 
 mod gate;
+mod judge_alone;
 mod judge_dealt_packets;
 mod judge_in_one_thread;
 mod judge_in_threads;
-mod judge_keeping_no_verdict;
 mod lone_caller;
 mod packet_plan;
 mod packet_verdict;
 mod run_at_once;
 mod run_fault;
 mod session_tables;
+mod share_splitting;
 mod table_closing;
 mod table_renewal;
 mod table_update;

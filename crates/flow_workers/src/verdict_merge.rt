@@ -76,7 +76,7 @@ pub fn place_verdicts<A: Shape, B: Shape>(
 }
 
 /// The shares keep what their workers said no longer.
-pub fn keep_no_verdicts<A: Shape, B: Shape>(shares: &mut Vec<Share<A, B>>)
+pub fn let_go_merged<A: Shape, B: Shape>(shares: &mut Vec<Share<A, B>>)
     ensures { HaveLetGo shares.old.items shares.new.items }
 {
     for worker in 0..shares.len() {

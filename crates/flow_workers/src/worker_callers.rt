@@ -79,7 +79,7 @@ pub fn join_all<S: Shape>(table: &Sessions<S>, mut callers: Vec<Caller<S>>) -> C
 }
 
 /// The callers of all workers, in their order, as one that made each write that it knows.
-pub fn join_whole<S: Shape, R: Wait>(
+pub fn join_worker_callers<S: Shape, R: Wait>(
     rt: &R,
     table: &Sessions<S>,
     callers: Vec<Caller<S>>,

@@ -1,6 +1,6 @@
 //! A worker before its turn and after it.
 use crate::gate::Gate;
-use crate::judge_dealt_packets::work;
+use crate::judge_dealt_packets::judge_dealt_packets;
 use crate::worker_share::{Job, Share};
 use bihash_words::Shape;
 use packet_dealing::Task;
@@ -23,7 +23,7 @@ impl<'t, 'f, 'a, A: Shape, B: Shape, R: Wait, G: Gate> Task for Turn<'t, 'f, 'a,
 
     fn run(self) -> Turn<'t, 'f, 'a, A, B, R, G> {
         match self {
-            Turn::Ahead(job) => Turn::Over(work(job)),
+            Turn::Ahead(job) => Turn::Over(judge_dealt_packets(job)),
             Turn::Over(done) => Turn::Over(done),
         }
     }

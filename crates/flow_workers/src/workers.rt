@@ -1,57 +1,21 @@
 //! Workers that judge packets in batches.
-ghost use Rattle.std.specs.Prelude.{◌≡◌, [], IfOk};
-ghost use Rattle.flow_workers.specs.inner.Shares.{AreSplit, MaySplit};
-
 use crate::gate::Gate;
 use crate::judge_in_one_thread::judge_together;
 use crate::judge_in_threads::judge_in_threads;
 use crate::run_fault::RunFault;
-use crate::session_tables::{Callers, Tables};
-use crate::verdict_merge::{all_verdicts, keep_no_verdicts, place_verdicts};
-use crate::worker_callers::{join_whole, split_both};
+use crate::session_tables::Callers;
+use crate::share_splitting::split_shares;
+use crate::verdict_merge::{all_verdicts, let_go_merged, place_verdicts};
+use crate::worker_callers::join_worker_callers;
 use crate::worker_results::results_of;
 use crate::worker_setup::Setup;
 use crate::worker_share::{Batch, Share, WorkerResults};
 use bihash_words::Shape;
 use flow_filter::Verdict;
 use packet_view::Packets;
-use std::alloc::{AllocError, Global};
+use std::alloc::Global;
 use std::sync::Wait;
 use std::thread::Threads;
-
-// A new one among workers: its share with these callers, which judged nothing.
-fn unused<A: Shape, B: Shape>(alloc: Global, callers: Callers<A, B>) -> Share<A, B>
-    ensures callers { result.callers ≡ callers }
-    ensures silent { result.said.items ≡ [] }
-{
-    Share {
-        callers,
-        said: Vec::new(alloc),
-    }
-}
-
-// The shares of so many new workers, each with callers of its own. A worker keeps the callers that were split, and the
-// new ones are split on: so the workers' numbers are in the order of their turns.
-fn split_shares<A: Shape, B: Shape, R: Wait>(
-    rt: &R,
-    alloc: Global,
-    tables: &Tables<A, B>,
-    callers: Callers<A, B>,
-    workers: usize,
-) -> Result<Vec<Share<A, B>>, AllocError>
-    requires { MaySplit tables.now callers workers }
-    ensures { IfOk result (λ v. AreSplit tables.now workers v.items) }
-{
-    let mut left = callers;
-    let mut shares = Vec::new(alloc);
-    for _ in 1..workers {
-        let (own, next) = split_both(rt, alloc, tables, left)?;
-        left = next;
-        shares.push(unused(alloc, own))?;
-    }
-    shares.push(unused(alloc, left))?;
-    Ok(shares)
-}
 
 /// Workers, and what they have after the packets that they judged so far.
 #[derive(Drop)]
@@ -102,8 +66,8 @@ impl<'t, 'f, A: Shape, B: Shape, R: Wait, G: Gate> Workers<'t, 'f, A, B, R, G> {
         } = self;
         let WorkerResults { four, six, said } = results_of(alloc, shares)?;
         let callers = Callers {
-            four: join_whole(setup.rt, &setup.tables.four, four),
-            six: join_whole(setup.rt, &setup.tables.six, six),
+            four: join_worker_callers(setup.rt, &setup.tables.four, four),
+            six: join_worker_callers(setup.rt, &setup.tables.six, six),
         };
         Ok((all_verdicts(verdicts, said), callers))
     }
@@ -137,7 +101,7 @@ where
         let Workers {
             setup,
             shares,
-            verdicts,
+            mut verdicts,
             count,
         } = self;
         let next = count + packets.count();
@@ -153,10 +117,9 @@ where
             judge_in_threads(alloc, batch, shares, &mut judges)
         };
         let mut shares = judged?;
-        let mut verdicts = verdicts;
         if !setup.is_alone() {
             verdicts = place_verdicts(verdicts, judges.as_slice(), shares.as_slice())?;
-            keep_no_verdicts(&mut shares);
+            let_go_merged(&mut shares);
         }
         Ok(Workers {
             setup,

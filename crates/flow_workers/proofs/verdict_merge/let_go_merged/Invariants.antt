@@ -1,6 +1,6 @@
 use Rattle.std.proofs.Common.{◌≡◌, ◌<◌, ℕ, [], length}
 use Rattle.std.specs.Prelude.{slice_index_or}
-use Rattle.flow_workers.proofs.verdict_merge.keep_no_verdicts.Given as goal
+use Rattle.flow_workers.proofs.verdict_merge.let_go_merged.Given as goal
 
 abbrev pub invariant-loop-worker : goal.invariant-loop-worker
 invariant-loop-worker g l = record {

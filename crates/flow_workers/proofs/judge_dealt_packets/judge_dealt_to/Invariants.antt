@@ -1,7 +1,7 @@
 use Rattle.std.proofs.Common.{◌≤◌, drop, length}
 use Rattle.packet_view.specs.CheckedCaptures.{remaining}
 use Rattle.flow_workers.specs.inner.Jobs.{AreDealtFrom, HasWorkedOn}
-use Rattle.flow_workers.proofs.judge_dealt_packets.work_on.Given as goal
+use Rattle.flow_workers.proofs.judge_dealt_packets.judge_dealt_to.Given as goal
 
 abbrev pub invariant-loop-chunk : goal.invariant-loop-chunk
 invariant-loop-chunk g l = record {

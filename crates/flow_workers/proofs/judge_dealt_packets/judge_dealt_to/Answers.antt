@@ -3,7 +3,7 @@ use Rattle.packet_view.specs.CheckedCaptures.{remaining}
 use Rattle.packet_dealing.proofs.DealtLists.{none_left}
 use Rattle.flow_workers.specs.inner.Jobs.{AreDealtFrom, IsChunkAt}
 use Rattle.flow_workers.proofs.DealtLemmas.{all_taken, chunk_few, chunk_first, chunks_behind, worked_on, worked_to}
-use Rattle.flow_workers.proofs.judge_dealt_packets.work_on.Goals as goal
+use Rattle.flow_workers.proofs.judge_dealt_packets.judge_dealt_to.Goals as goal
 
 pub loop-chunk-init : goal.loop-chunk-init
 loop-chunk-init g c = record {

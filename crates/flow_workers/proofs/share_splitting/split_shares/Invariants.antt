@@ -1,7 +1,7 @@
 use Rattle.std.proofs.Common.{◌≡◌, ◌<◌, ◌+◌, ℕ, length}
 use Rattle.std.specs.Prelude.{slice_index_or}
 use Rattle.flow_workers.specs.inner.Shares.{AreFresh, IsUnused}
-use Rattle.flow_workers.proofs.workers.split_shares.Given as goal
+use Rattle.flow_workers.proofs.share_splitting.split_shares.Given as goal
 
 abbrev pub invariant-loop : goal.invariant-loop
 invariant-loop g l = record {

@@ -2,7 +2,7 @@ use Rattle.std.proofs.Common.{arith, length, refl, sym, subst}
 use Rattle.std.specs.Prelude.{slice_index_or}
 use Rattle.flow_workers.specs.inner.Shares.{AreFresh, IsUnused}
 use Rattle.flow_workers.proofs.TurnLemmas.{below_push, push_count}
-use Rattle.flow_workers.proofs.workers.split_shares.Goals as goal
+use Rattle.flow_workers.proofs.share_splitting.split_shares.Goals as goal
 
 pub loop-preserved : goal.loop-preserved
 loop-preserved g c =
@@ -16,8 +16,8 @@ loop-preserved g c =
           (sym c.in_ok-push.ensures.items)
           (below_push (λ k share. IsUnused c.args.tables.now share) c.loop.shares.items _ inv.each
           (record {
-            callers = subst (AreFresh c.args.tables.now) (sym c.unused.ensures.callers) c.in_ok-own.ensures.0;
-            silent = c.unused.ensures.silent;
+            callers = subst (AreFresh c.args.tables.now) (sym c.unused_share.ensures.callers) c.in_ok-own.ensures.0;
+            silent = c.unused_share.ensures.silent;
           }) i d (omega arith));
     }
 
@@ -35,7 +35,7 @@ returns g c =
           (sym c.in_ok-push-2.ensures.items)
           (below_push (λ k share. IsUnused c.args.tables.now share) c.loop.shares.items _ inv.each
           (record {
-            callers = subst (AreFresh c.args.tables.now) (sym c.unused-2.ensures.callers) inv.callers;
-            silent = c.unused-2.ensures.silent;
+            callers = subst (AreFresh c.args.tables.now) (sym c.unused_share-2.ensures.callers) inv.callers;
+            silent = c.unused_share-2.ensures.silent;
           }) i d (omega arith));
     }

@@ -1,6 +1,6 @@
 use Rattle.std.proofs.Common.{◌∙◌}
 use Rattle.flow_workers.proofs.WorkerCallerLemmas.{same_traces}
-use Rattle.flow_workers.proofs.worker_callers.join_whole.Goals as goal
+use Rattle.flow_workers.proofs.worker_callers.join_worker_callers.Goals as goal
 
 pub returns : goal.returns
 returns g c = record {
