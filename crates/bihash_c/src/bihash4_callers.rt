@@ -4,7 +4,7 @@ ghost use Rattle.bihash_words.specs.Sizes.{sizes_of};
 ghost use Rattle.bihash_table.specs.Calls.{TellsLone};
 ghost use Rattle.bihash_c.specs.Contents.{IsFirst};
 ghost use Rattle.bihash_c.specs.EitherSizes.{AreOfOneTable, Calls, CreateTold, HasCaller, JoinTold, MeetTold, OfLarge, OfSmall, SplitTold, StampTold, nothing};
-ghost use Rattle.bihash_c.specs.Handles4.{HasPlace, content_in};
+ghost use Rattle.bihash_c.specs.Handles4.{content_in};
 
 use crate::answer_numbers::{DONE, MEMORY, Stamp};
 use crate::either_size::EitherSize;
@@ -128,13 +128,4 @@ pub extern "C" fn bihash4_stamp(alloc: Global, handle: &mut Handle4) -> Stamp
     let stamp = place.as_ref().content.stamp();
     handle.put(place);
     stamp
-}
-
-/// Lets go of what the handle has: a caller, which isn't joined then, or the pairs of a closed table.
-#[unsafe(no_mangle)]
-pub extern "C" fn bihash4_free(alloc: Global, handle: &mut Handle4)
-    requires { HasPlace handle.old.place }
-    ensures { content_in handle.new.place ≡ nothing }
-{
-    drop(handle.take(alloc));
 }

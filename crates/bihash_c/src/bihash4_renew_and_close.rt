@@ -1,8 +1,9 @@
-//! What C calls at the end of a table of IPv4 flows: it is renewed, or closed and its pairs read.
+//! What C calls at the end of a table of IPv4 flows: it is renewed, or closed and its pairs read, and its handles
+//! are let go of.
 ghost use Rattle.std.specs.Prelude.{◌≡◌};
 ghost use Rattle.bihash_words.specs.Sizes.{sizes_of};
-ghost use Rattle.bihash_c.specs.EitherSizes.{CloseTold, CountTold, GivesPair, HasCaller, HasPairs, RenewTold};
-ghost use Rattle.bihash_c.specs.Handles4.{content_in};
+ghost use Rattle.bihash_c.specs.EitherSizes.{CloseTold, CountTold, GivesPair, HasCaller, HasPairs, RenewTold, nothing};
+ghost use Rattle.bihash_c.specs.Handles4.{HasPlace, content_in};
 
 use crate::handle4::Handle4;
 use crate::pair4::Pair4;
@@ -65,4 +66,13 @@ pub extern "C" fn bihash4_pair_at(
     let found = place.as_ref().content.pair(at);
     handle.put(place);
     pair.give(found)
+}
+
+/// Lets go of what the handle has: a caller, which isn't joined then, or the pairs of a closed table.
+#[unsafe(no_mangle)]
+pub extern "C" fn bihash4_free(alloc: Global, handle: &mut Handle4)
+    requires { HasPlace handle.old.place }
+    ensures { content_in handle.new.place ≡ nothing }
+{
+    drop(handle.take(alloc));
 }

@@ -1,8 +1,9 @@
-//! What C calls at the end of a table of IPv6 flows: it is renewed, or closed and its pairs read.
+//! What C calls at the end of a table of IPv6 flows: it is renewed, or closed and its pairs read, and its handles
+//! are let go of.
 ghost use Rattle.std.specs.Prelude.{◌≡◌};
 ghost use Rattle.bihash_words.specs.Sizes.{sizes_of};
-ghost use Rattle.bihash_c.specs.EitherSizes.{CloseTold, CountTold, GivesPair, HasCaller, HasPairs, RenewTold};
-ghost use Rattle.bihash_c.specs.Handles6.{content_in};
+ghost use Rattle.bihash_c.specs.EitherSizes.{CloseTold, CountTold, GivesPair, HasCaller, HasPairs, RenewTold, nothing};
+ghost use Rattle.bihash_c.specs.Handles6.{HasPlace, content_in};
 
 use crate::handle6::Handle6;
 use crate::pair6::Pair6;
@@ -65,4 +66,13 @@ pub extern "C" fn bihash6_pair_at(
     let found = place.as_ref().content.pair(at);
     handle.put(place);
     pair.give(found)
+}
+
+/// Lets go of what the handle has: a caller, which isn't joined then, or the pairs of a closed table.
+#[unsafe(no_mangle)]
+pub extern "C" fn bihash6_free(alloc: Global, handle: &mut Handle6)
+    requires { HasPlace handle.old.place }
+    ensures { content_in handle.new.place ≡ nothing }
+{
+    drop(handle.take(alloc));
 }

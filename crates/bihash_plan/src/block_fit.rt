@@ -7,7 +7,7 @@ ghost use Rattle.bihash_plan.specs.Searches.{IsPlace, IsRange, MayHavePages, May
 ghost use Rattle.bihash_plan.specs.Plans.{Fits, HasRoom, keys_of};
 ghost use Rattle.bihash_plan.specs.inner.Tallies.{FitsWindow, IsCounted};
 
-use crate::block_pages::{open_places, page, page_count};
+use crate::block_pages::{open_page_places, page, page_count};
 use bihash_words::{BlockSize, FREE, PAGE_PLACES, Shape};
 
 /// How many pages are counted at a time: as many as the largest block of the flow tables has.
@@ -35,7 +35,7 @@ pub(crate) fn has_room<S: Shape>(
         return fits::<S>(places, key, log2);
     }
     // A page's pairs go to pages that no other page's go to, so only the key's page can overflow.
-    let (from, to) = open_places::<S>(places.len(), size, key);
+    let (from, to) = open_page_places::<S>(places.len(), size, key);
     has_other_page::<S>(places, from, to, key, log2)
 }
 
@@ -104,7 +104,7 @@ fn has_other_page<S: Shape>(
 {
     let own = page::<S>(key, log2);
     for i in from..to {
-        if !names_page::<S>(places, i, log2, own) {
+        if !names_page_in_fit::<S>(places, i, log2, own) {
             return true;
         }
     }
@@ -112,7 +112,7 @@ fn has_other_page<S: Shape>(
 }
 
 // Whether the key that the place shows names the page, in a block that its keys are to fit.
-fn names_page<S: Shape>(places: &[(S::Key, u64)], i: usize, log2: u64, own: usize) -> bool
+fn names_page_in_fit<S: Shape>(places: &[(S::Key, u64)], i: usize, log2: u64, own: usize) -> bool
     requires pages { MayHavePages ⟦<S as Shape>⟧ log2 }
     requires place { IsPlace places.now i }
     ensures { IsTrue result ↔ NamesPage (paging_of ⟦<S as Shape>⟧) log2 own places.now i }

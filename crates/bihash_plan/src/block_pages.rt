@@ -25,7 +25,11 @@ pub fn page_count(log2: u64) -> usize
 
 /// The places of a block that are open to the key, those of its page or all, as the first of them and the one after the
 /// last.
-pub(crate) fn open_places<S: Shape>(count: usize, size: BlockSize, key: &S::Key) -> (usize, usize)
+pub(crate) fn open_page_places<S: Shape>(
+    count: usize,
+    size: BlockSize,
+    key: &S::Key,
+) -> (usize, usize)
     requires { MayHavePlaces ⟦<S as Shape>⟧ size.log2 count }
     ensures { AreOpenPlaces size.linear (page_of (paging_of ⟦<S as Shape>⟧) size.log2 key.now) count result.0 result.1 }
 {

@@ -78,7 +78,7 @@ pub(crate) fn row_words<S: Shape>() -> usize
 
 impl<S: Shape> Row<S> {
     /// How many words the row has by its layout, which a lone caller loads for a renewed row or a close.
-    pub fn word_count(&self) -> usize
+    pub fn layout_word_count(&self) -> usize
         ensures { result ≡ all_words (sizes_of S.Shape) }
     {
         self.table.word_count()

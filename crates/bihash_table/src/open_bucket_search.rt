@@ -134,13 +134,13 @@ fn pair_in_page<S: Shape>(
     ensures { HasRead seat.old seat.new (IsPairAmong (sizes_of S.Shape) (S.words_of hashed.now.key.now) (4 * page) (4 * (page + 1)) result) }
 {
     let first = PAGE_PLACES * page;
-    let mut marks = marks(row, seat, word, first, hashed);
-    'marked: while count_marks(marks) > 0 {
-        let place = first + first_mark(marks);
+    let mut marks = search_marks(row, seat, word, first, hashed);
+    'marked: while count_search_marks(marks) > 0 {
+        let place = first + first_search_mark(marks);
         if let Some(value) = value_at(row, seat, word, place, hashed) {
             return Some((place, value));
         }
-        marks = later_marks(marks);
+        marks = later_search_marks(marks);
     }
     None
 }
@@ -167,7 +167,7 @@ fn pair_in_pages<S: Shape>(
 }
 
 // How many of the four marks are set that a search of an open bucket's page makes. Their sum is compared at once.
-fn count_marks(marks: (bool, bool, bool, bool)) -> u64
+fn count_search_marks(marks: (bool, bool, bool, bool)) -> u64
     ensures { result ≡ set_count marks }
 {
     let (a, b, c, d) = marks;
@@ -175,7 +175,7 @@ fn count_marks(marks: (bool, bool, bool, bool)) -> u64
 }
 
 // Which of the four marks that a search of an open bucket's page makes is the first that is set, where one is.
-fn first_mark(marks: (bool, bool, bool, bool)) -> usize
+fn first_search_mark(marks: (bool, bool, bool, bool)) -> usize
     ensures first { result ≡ first_set marks }
     ensures inside { result < 4 }
 {
@@ -192,7 +192,7 @@ fn first_mark(marks: (bool, bool, bool, bool)) -> usize
 }
 
 // The marks that a search of an open bucket's page makes, but the first that is set.
-fn later_marks(marks: (bool, bool, bool, bool)) -> (bool, bool, bool, bool)
+fn later_search_marks(marks: (bool, bool, bool, bool)) -> (bool, bool, bool, bool)
     ensures { result ≡ later_set marks }
 {
     let (a, b, c, d) = marks;
@@ -200,7 +200,7 @@ fn later_marks(marks: (bool, bool, bool, bool)) -> (bool, bool, bool, bool)
 }
 
 // At which of the four places of a page of an open bucket's block the last word of the searched key stands.
-fn marks<S: Shape>(
+fn search_marks<S: Shape>(
     row: &Row<S>,
     seat: &mut CallerSeat<S>,
     word: BucketWord,

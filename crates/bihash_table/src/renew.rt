@@ -38,7 +38,7 @@ impl<S: Shape> Sessions<S> {
         if self.row.load_count(&mut caller.seat) != caller.seat.numbers() {
             return Err((RenewFault::Strangers, self, caller));
         }
-        match reopen(&self.row, &mut caller, alloc) {
+        match renew_table(&self.row, &mut caller, alloc) {
             Ok((row, first)) => Ok((Sessions { row }, first)),
             Err(_) => Err((RenewFault::Memory, self, caller)),
         }
@@ -46,7 +46,7 @@ impl<S: Shape> Sessions<S> {
 }
 
 /// The row of the renewed table, which begins with what this one came to, and its caller 1.
-fn reopen<S: Shape>(
+fn renew_table<S: Shape>(
     row: &Row<S>,
     caller: &mut Caller<S>,
     alloc: Global,
@@ -71,7 +71,7 @@ pub(crate) fn read_words<S: Shape>(
     ensures noted { HasNoted (sizes_of S.Shape) seat.old seat.new }
     ensures words { IfOk result (λ words. AreRowWords (sizes_of S.Shape) seat.new.view words.items) }
 {
-    let count = row.word_count();
+    let count = row.layout_word_count();
     let mut words = Vec::with_capacity(alloc, count)?;
     for at in 0..count {
         words.push(row.load_lone(seat, at))?;

@@ -18,7 +18,7 @@ use Rattle.packet_view.proofs.RecordListLemmas.{packets_count, records_within}
 use Rattle.flow_filter.specs.declared.verdict.Verdict.{Verdict}
 use Rattle.racl_io.specs.declared.fault.Fault.{Fault}
 use Rattle.racl_io.specs.declared.fault.Fault.TheVariants as fault
-use Rattle.racl_io.specs.declared.report_totals.Totals.{Totals}
+use Rattle.racl_io.specs.declared.totals_and_truncation.Totals.{Totals}
 use Rattle.racl_io.specs.Reports.{is_truncated, lines_from, passed, report_of, totals_line, totals_of, truncation_line}
 use Rattle.racl_io.specs.Sinks.{GotFront, HasPutFront}
 use Rattle.racl_io.proofs.ReportLemmas.{cut_at, lines_of_both, passed_of_both, totals_counted}

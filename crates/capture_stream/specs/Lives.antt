@@ -6,8 +6,8 @@ use Rattle.packet_view.specs.declared.capture.Order.{Order}
 use Rattle.flow_filter.specs.declared.verdict.Verdict.{Verdict}
 use Rattle.racl_io.specs.declared.fault.Fault.{Fault}
 use Rattle.racl_io.specs.declared.fault.Fault.TheVariants.{LongRecord, Memory, Read, TooLarge, Write}
-use Rattle.racl_io.specs.declared.report_totals.Captured.{Captured}
-use Rattle.racl_io.specs.declared.report_totals.Totals.{Totals}
+use Rattle.racl_io.specs.declared.totals_and_truncation.Captured.{Captured}
+use Rattle.racl_io.specs.declared.totals_and_truncation.Totals.{Totals}
 use Rattle.racl_io.specs.Reports.{lines_from, report_of, totals_of}
 use Rattle.racl_io.specs.Sinks.{GotFront}
 

@@ -27,7 +27,7 @@ static VALUES: [u8; 256] = [
 ];
 
 // The value of a digit of a source, in either case: by a table, since no processor foresees the branches of a test.
-fn digit_value(b: u8) -> Option<u8>
+fn value_of_hex_digit(b: u8) -> Option<u8>
     ensures value { result ≡ hex_digit_value b }
     ensures few { IfSome result (λ value. value < 16) }
 {
@@ -41,7 +41,7 @@ fn are_all_digits(content: &[u8]) -> bool
 {
     content
         .iter()
-        .all(|b| is_blank(*b) || digit_value(*b).is_some())
+        .all(|b| is_blank(*b) || value_of_hex_digit(*b).is_some())
 }
 
 // How many digits a source has among its blanks.
@@ -67,7 +67,7 @@ fn next_digit(content: &[u8]) -> Option<(u8, &[u8])>
     let mut left = content;
     'blanks: while let Some((b, rest)) = left.split_first() {
         if !is_blank(*b) {
-            return Some((digit_value(*b)?, rest));
+            return Some((value_of_hex_digit(*b)?, rest));
         }
         left = rest;
     }

@@ -9,8 +9,8 @@ use crate::windows_of_records::{Found, find_records};
 use flow_filter::Verdict;
 use packet_view::{Order, Packets, Records, Stop};
 use racl_io::{
-    Captured, Fault, Piece, Place, Sink, Source, Totals, write_lines, write_totals,
-    write_truncation,
+    Captured, Fault, Piece, Place, Sink, Source, Totals, write_totals, write_truncation,
+    write_whole_report_lines,
 };
 use std::alloc::{AllocError, Global};
 
@@ -103,7 +103,7 @@ fn tell_window<J: Tellers + Drop, W: Sink>(
         Ok(judged) => judged,
         Err(_) => return Err(Fault::Memory),
     };
-    match write_lines(writer, piece, place, &verdicts) {
+    match write_whole_report_lines(writer, piece, place, &verdicts) {
         Ok(more) => {
             next.passed += more;
             Ok((next, stop))
@@ -155,7 +155,7 @@ fn totals_at<J>(live: &Live<J>, truncated: bool) -> Totals
 }
 
 // Live telling ends with what stands behind the lines of all packets of a capture.
-fn write_end<W: Sink>(writer: &mut W, piece: &mut Piece, totals: &Totals) -> Result<(), Fault>
+fn write_live_end<W: Sink>(writer: &mut W, piece: &mut Piece, totals: &Totals) -> Result<(), Fault>
     requires { W.failures writer.old < 2 ^ 64 - 1 }
     ensures { HasPutFront W.bytes W.failures writer.old writer.new (end_text totals.now) result }
 {
@@ -216,7 +216,7 @@ pub fn tell_live<J: Tellers + Drop, R: Source, W: Sink>(
         };
         if n == 0 {
             let totals = totals_at(&next, truncated);
-            return match write_end(writer, &mut piece, &totals) {
+            return match write_live_end(writer, &mut piece, &totals) {
                 Ok(()) => Ok(totals),
                 Err(fault) => Err(fault),
             };

@@ -10,7 +10,7 @@ use bihash_words::{Shape, bucket_of};
 use session_state::{Flow, FlowKey};
 
 // The bucket by which the packets of a flow get their worker, by the words of the flow's key.
-fn bucket_in<S: Shape>(words: &[u64]) -> u64
+fn worker_bucket_in<S: Shape>(words: &[u64]) -> u64
     requires sound { IsSound (sizes_of ⟦<S as Shape>⟧) }
     requires counted { length words.now ≡ S.WORDS }
     ensures { result ≡ Sizes.bucket_of (sizes_of ⟦<S as Shape>⟧) words.now }
@@ -19,15 +19,15 @@ fn bucket_in<S: Shape>(words: &[u64]) -> u64
 }
 
 // The bucket by which the packets of a flow get their worker, in the table of the flow's family.
-fn bucket<A: Shape, B: Shape>(key: FlowKey) -> u64
+fn worker_bucket<A: Shape, B: Shape>(key: FlowKey) -> u64
     requires four { IsSound (sizes_of ⟦<A as Shape>⟧) }
     requires six { IsSound (sizes_of ⟦<B as Shape>⟧) }
     requires keys { IsFlowLayout (layout_of ⟦<A as Shape>⟧ ⟦<B as Shape>⟧) }
     ensures { result ≡ (home_of (layout_of ⟦<A as Shape>⟧ ⟦<B as Shape>⟧) key).bucket }
 {
     match key {
-        FlowKey::Four(words) => bucket_in::<A>(words.as_slice()),
-        FlowKey::Six(words) => bucket_in::<B>(words.as_slice()),
+        FlowKey::Four(words) => worker_bucket_in::<A>(words.as_slice()),
+        FlowKey::Six(words) => worker_bucket_in::<B>(words.as_slice()),
     }
 }
 
@@ -66,7 +66,7 @@ pub fn worker_of<A: Shape, B: Shape>(
         (Dealing::Round, _) => number % workers,
         (Dealing::Bucket, None) => 0,
         (Dealing::Bucket, Some(flow)) => remainder(
-            bucket::<A, B>(flow.key),
+            worker_bucket::<A, B>(flow.key),
             workers as u64,
         ) as usize,
     }

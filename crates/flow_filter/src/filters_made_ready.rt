@@ -8,7 +8,7 @@ ghost use Rattle.flow_filter.specs.Rulesets.{rules_in};
 
 use crate::filter::Filter;
 use crate::interface_filters::{InterfaceFilter, InterfaceFilters};
-use crate::rule_indexes::{RuleIndexes, index_of, searched};
+use crate::rule_indexes::{RuleIndexes, index_of, rules_with_index};
 use crate::rule_search::RuleSearch;
 use crate::ruleset::Ruleset;
 use acl_policy::Section;
@@ -69,8 +69,8 @@ fn indexed<'a>(
     InterfaceFilter {
         interface: section.interface,
         own: section.own,
-        inbound: searched(&section.inbound, &prepared.inbound),
-        outbound: searched(&section.outbound, &prepared.outbound),
+        inbound: rules_with_index(&section.inbound, &prepared.inbound),
+        outbound: rules_with_index(&section.outbound, &prepared.outbound),
         times,
     }
 }

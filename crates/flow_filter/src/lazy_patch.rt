@@ -16,7 +16,7 @@ use crate::ruleset::Ruleset;
 use crate::session_or_rules::Decider;
 use crate::session_update::patch_of;
 use crate::verdict::Verdict;
-use crate::verdict_by_rules::{found_in, verdict_without_session};
+use crate::verdict_by_rules::{found_for_verdict, verdict_without_session};
 use acl_policy::Action;
 use bihash_words::{Change, Patch, Reply};
 use packet_view::Tuple;
@@ -62,7 +62,7 @@ struct Decided<D: HasReading> {
 // so it is kept out of their way, and what they are told by stays out of memory.
 #[cold]
 #[inline(never)]
-fn ask_rules(rules: Ruleset<'_>, tuple: Tuple) -> Option<(usize, Action)>
+fn ask_rules_lazily(rules: Ruleset<'_>, tuple: Tuple) -> Option<(usize, Action)>
     ensures only { (other : Ruling) → IsRuling (rules_in rules.entry) (tuple_facts tuple) other → other ≡ result }
     ensures decided { IsRuling (rules_in rules.entry) (tuple_facts tuple) result }
     ensures few { ForSome result (λ decided. decided.0 < most_rules) }
@@ -108,7 +108,7 @@ impl<'a, D: HasReading> LazyPatch<'a, D> {
     #[inline(always)]
     fn ask(&self) -> Decided<D> {
         Decided {
-            ruling: ask_rules(
+            ruling: ask_rules_lazily(
                 self.filter.rules_of(self.packet.direction),
                 tuple_copy(self.packet.tuple),
             ),
@@ -175,7 +175,7 @@ impl<'a, D: HasReading> LazyPatch<'a, D> {
     pub fn verdict(&self, reply: Reply) -> Verdict
         ensures { result ≡ verdict_of (facts_of ⟦<D as HasReading>⟧ self.now) D.ruling (found_by reply) reply }
     {
-        if self.is_live(found_in(reply)) {
+        if self.is_live(found_for_verdict(reply)) {
             return Verdict::Session;
         }
         let ruling = self.ruling();

@@ -34,7 +34,7 @@ pub fn index_of(
 }
 
 /// Rules of one direction that are searched by their index, where the filter has indexes.
-pub fn searched<'a>(rules: &'a [Rule], index: &'a Option<RuleIndex>) -> Ruleset<'a>
+pub fn rules_with_index<'a>(rules: &'a [Rule], index: &'a Option<RuleIndex>) -> Ruleset<'a>
     requires few { length rules.now ≤ most_rules }
     requires index { ForSome index.now (λ index. index.rules.items ≡ rules.now) }
     ensures { rules_in result ≡ map rule_facts rules.now }

@@ -48,7 +48,7 @@ fn verdict_reflected(ruling: Option<(usize, Action)>, reply: Reply) -> Verdict
 }
 
 /// The value that was found, by the reply, where a verdict by rules follows from it.
-pub fn found_in(reply: Reply) -> Option<u64>
+pub fn found_for_verdict(reply: Reply) -> Option<u64>
     ensures { result ≡ found_by reply }
 {
     match reply {

@@ -11,7 +11,7 @@ use packet_view::{PacketBursts, Packets};
 use std::alloc::AllocError;
 
 // The packets from the first of the dealt chunk on, where so many stand before it.
-fn skip<'a>(packets: Packets<'a>, count: usize) -> Packets<'a>
+fn skip_to_chunk<'a>(packets: Packets<'a>, count: usize) -> Packets<'a>
     ensures { remaining result ≡ drop count (remaining packets.entry) }
 {
     let mut rest = packets;
@@ -27,7 +27,7 @@ pub fn deal_chunk<'a, A: Shape, B: Shape>(job: Job<'a, A, B>) -> Result<DealtChu
     ensures { IfOk result (IsChunkOfJob ⟦<A as Shape>⟧ ⟦<B as Shape>⟧ job.entry) }
 {
     let mut chunk = job.chunk;
-    let mut packets = PacketBursts::new(skip(job.packets, job.first));
+    let mut packets = PacketBursts::new(skip_to_chunk(job.packets, job.first));
     for at in job.first..job.next {
         let Some(packet) = packets.next() else {
             unreachable!()

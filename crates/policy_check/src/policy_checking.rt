@@ -21,7 +21,7 @@ fn is_memory(fault: PolicyFault) -> bool
 }
 
 // The policy that the draft of a check comes to at its end.
-fn finished(draft: Draft) -> Result<Policy, AllocError>
+fn checked_policy(draft: Draft) -> Result<Policy, AllocError>
     ensures { IfOk result (λ policy. policy_facts policy ≡ policy_so_far (draft_facts draft)) }
 {
     let Draft {
@@ -55,12 +55,12 @@ fn check_lines(alloc: Global, text: &str) -> Result<Checked<'_>, AllocError>
             }
         }
     }
-    let policy = finished(draft)?;
+    let policy = checked_policy(draft)?;
     Ok(Checked { complaints, policy })
 }
 
 // The check of a policy's text: the number of the line in which it stops being UTF-8, behind these bytes.
-fn line_after(bytes: &[u8]) -> u64
+fn line_in_checked_policy(bytes: &[u8]) -> u64
     ensures { result ≡ length (filter (λ b. b == 10) bytes.now) + 1 }
 {
     let mut count = 0;
@@ -84,7 +84,7 @@ fn broken<'a>(alloc: Global, line: u64) -> Result<Checked<'a>, AllocError>
         reason: Reason::NotUtf8,
         word: b"",
     })?;
-    let policy = finished(empty_draft(alloc))?;
+    let policy = checked_policy(empty_draft(alloc))?;
     Ok(Checked { complaints, policy })
 }
 
@@ -96,5 +96,5 @@ pub fn check_policy(alloc: Global, text: &[u8]) -> Result<Checked<'_>, AllocErro
         Ok(text) => return check_lines(alloc, text),
         Err(error) => error,
     };
-    broken(alloc, line_after(&text[..error.valid_up_to()]))
+    broken(alloc, line_in_checked_policy(&text[..error.valid_up_to()]))
 }

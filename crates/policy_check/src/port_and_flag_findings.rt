@@ -7,7 +7,7 @@ ghost use Rattle.policy_check.specs.Reasons.{HasRange, IsPartReason, IsRangeReas
 use crate::reason::Reason;
 use crate::word_finding::{Finding, missing, of};
 use crate::word_readers::{
-    is_word, read_cut_word, read_flags_word, read_next_word, read_number_word, read_range_word,
+    read_cut_word, read_flags_word, read_next_word, read_number_word, read_range_word, read_word_is,
 };
 
 // Why a word is no range of ports, types or codes, where it is none: the last number of it is too large, or it is
@@ -38,7 +38,7 @@ pub fn after_range<'a>(text: &'a [u8], name: &[u8], most: u16) -> Result<&'a [u8
     let Some((word, rest)) = read_next_word(text) else {
         return Ok(text);
     };
-    if !is_word(word, name) {
+    if !read_word_is(word, name) {
         return Ok(text);
     }
     let Some((value, rest)) = read_next_word(rest) else {
@@ -76,7 +76,7 @@ pub fn after_flags(text: &[u8]) -> Result<&[u8], Finding<'_>>
     let Some((word, rest)) = read_next_word(text) else {
         return Ok(text);
     };
-    if !is_word(word, b"flags") {
+    if !read_word_is(word, b"flags") {
         return Ok(text);
     }
     let Some((value, rest)) = read_next_word(rest) else {

@@ -47,7 +47,7 @@ fn before_length(word: &[u8]) -> &[u8]
 }
 
 // While a prefix is checked: the two groups that stand for the IPv4 address in which its IPv6 address ends.
-fn dotted_end(word: &[u8]) -> Option<(u16, u16)>
+fn dotted_end_of_wrong_prefix(word: &[u8]) -> Option<(u16, u16)>
     ensures { IfSome result (λ groups. HasDottedEnd word.now groups.0 groups.1) }
 {
     let piece = last_piece(word)?;
@@ -56,7 +56,7 @@ fn dotted_end(word: &[u8]) -> Option<(u16, u16)>
 }
 
 // The other family, of which a rule's wrong prefix may be.
-fn other_family(family: Family) -> Family {
+fn other_family_of_prefix(family: Family) -> Family {
     match family {
         Family::V4 => Family::V6,
         Family::V6 => Family::V4,
@@ -73,10 +73,10 @@ fn prefix_reason(family: Family, word: &[u8]) -> Option<Reason>
     if is_long(family, word) {
         return Some(Reason::LongPrefix(width_of(family)));
     }
-    if let Some(_) = read_prefix_word(other_family(family), word) {
+    if let Some(_) = read_prefix_word(other_family_of_prefix(family), word) {
         return Some(Reason::OtherFamily);
     }
-    match (family, dotted_end(word)) {
+    match (family, dotted_end_of_wrong_prefix(word)) {
         (Family::V6, Some((high, low))) => Some(Reason::DottedEnd(high, low)),
         _ => Some(Reason::NoPrefix),
     }

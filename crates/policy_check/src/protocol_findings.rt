@@ -16,7 +16,7 @@ const TCP: u8 = 6;
 const UDP: u8 = 17;
 
 // What is the matter with a word that is left behind a rule's protocol and its parts.
-fn left(text: &[u8], reason: Reason) -> Result<(), Finding<'_>>
+fn left_after_protocol(text: &[u8], reason: Reason) -> Result<(), Finding<'_>>
     ensures reason { IfErr result (λ found. found.reason ≡ reason) }
     ensures word { IfErr result (λ found. (rest : List (List ℕ)) × (words_of text.now ≡ found.word.now ∷ rest)) }
 {
@@ -32,7 +32,7 @@ fn tcp_parts(text: &[u8]) -> Result<(), Finding<'_>>
 {
     match after_both(text, b"sport", b"dport", u16::MAX) {
         Ok(text) => match after_flags(text) {
-            Ok(text) => left(text, Reason::NoTcpPart),
+            Ok(text) => left_after_protocol(text, Reason::NoTcpPart),
             Err(found) => Err(found),
         },
         Err(found) => Err(found),
@@ -44,7 +44,7 @@ fn udp_parts(text: &[u8]) -> Result<(), Finding<'_>>
     ensures { IfErr result (λ found. IsPartReason OfUdp (words_of text.now) found.reason found.word.now) }
 {
     match after_both(text, b"sport", b"dport", u16::MAX) {
-        Ok(text) => left(text, Reason::NoUdpPart),
+        Ok(text) => left_after_protocol(text, Reason::NoUdpPart),
         Err(found) => Err(found),
     }
 }
@@ -54,7 +54,7 @@ fn icmp_parts(text: &[u8]) -> Result<(), Finding<'_>>
     ensures { IfErr result (λ found. IsPartReason OfIcmp (words_of text.now) found.reason found.word.now) }
 {
     match after_both(text, b"type", b"code", u16::from(u8::MAX)) {
-        Ok(text) => left(text, Reason::NoIcmpPart),
+        Ok(text) => left_after_protocol(text, Reason::NoIcmpPart),
         Err(found) => Err(found),
     }
 }
@@ -70,7 +70,7 @@ fn parts(family: Family, proto: u8, text: &[u8]) -> Result<(), Finding<'_>>
     } else if proto == icmp_number(family) {
         icmp_parts(text)
     } else {
-        left(text, Reason::NoParts)
+        left_after_protocol(text, Reason::NoParts)
     }
 }
 

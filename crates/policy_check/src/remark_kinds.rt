@@ -12,18 +12,18 @@ pub enum Remark {
     #[error("interface {0} has no mac line, so none of its out rules is looked at")]
     NoMac(u8),
     /// This rule of this direction never decides: the last one named takes all its packets.
-    #[error("interface {0}: {way} rule {2} never decides, since rule {3} takes all its packets", way = way(*.1))]
+    #[error("interface {0}: {way} rule {2} never decides, since rule {3} takes all its packets", way = direction_in_remark(*.1))]
     Shadowed(u8, Direction, u64, u64),
     /// The source of this rule has bits behind the length of its prefix.
-    #[error("interface {0}: the source of {way} rule {2} has bits behind its prefix, which aren't looked at", way = way(*.1))]
+    #[error("interface {0}: the source of {way} rule {2} has bits behind its prefix, which aren't looked at", way = direction_in_remark(*.1))]
     SourceBits(u8, Direction, u64),
     /// So has its destination.
-    #[error("interface {0}: the destination of {way} rule {2} has bits behind its prefix, which aren't looked at", way = way(*.1))]
+    #[error("interface {0}: the destination of {way} rule {2} has bits behind its prefix, which aren't looked at", way = direction_in_remark(*.1))]
     DestBits(u8, Direction, u64),
 }
 
 // The word that a remark has for the direction of its rule.
-fn way(direction: Direction) -> &'static str {
+fn direction_in_remark(direction: Direction) -> &'static str {
     match direction {
         Direction::Inbound => "in",
         Direction::Outbound => "out",

@@ -27,7 +27,7 @@ fn has_bits(family: Family, prefix: (u128, u8)) -> bool
 }
 
 // The rules of a direction of a section, on which remarks are made.
-fn rules(section: &Section, direction: Direction) -> &[Rule]
+fn rules_for_remarks(section: &Section, direction: Direction) -> &[Rule]
     ensures { map rule_facts result.now ≡ rules_of direction (section_facts section.now) }
 {
     match direction {
@@ -54,7 +54,7 @@ fn shadow(section: &Section, direction: Direction, place: usize) -> Option<Remar
     requires { place < length (rules_of direction (section_facts section.now)) }
     ensures { IfSome result (IsRuleRemark (section_facts section.now) direction place) }
 {
-    let first = taker(rules(section, direction), place)?;
+    let first = taker(rules_for_remarks(section, direction), place)?;
     Some(Remark::Shadowed(
         section.interface,
         direction,
@@ -68,7 +68,7 @@ fn source_bits(section: &Section, direction: Direction, place: usize) -> Option<
     requires { place < length (rules_of direction (section_facts section.now)) }
     ensures { IfSome result (IsRuleRemark (section_facts section.now) direction place) }
 {
-    let rule = rules(section, direction)[place];
+    let rule = rules_for_remarks(section, direction)[place];
     if has_bits(rule.family, rule.source) {
         Some(Remark::SourceBits(section.interface, direction, place as u64 + 1))
     } else {
@@ -81,7 +81,7 @@ fn dest_bits(section: &Section, direction: Direction, place: usize) -> Option<Re
     requires { place < length (rules_of direction (section_facts section.now)) }
     ensures { IfSome result (IsRuleRemark (section_facts section.now) direction place) }
 {
-    let rule = rules(section, direction)[place];
+    let rule = rules_for_remarks(section, direction)[place];
     if has_bits(rule.family, rule.dest) {
         Some(Remark::DestBits(section.interface, direction, place as u64 + 1))
     } else {
@@ -106,7 +106,7 @@ fn add_rules(
 ) -> Result<(), AllocError>
     ensures { OnOk result (Adds (IsSectionRemark (section_facts section.now)) all.old.items all.new.items) }
 {
-    for place in 0..rules(section, direction).len() {
+    for place in 0..rules_for_remarks(section, direction).len() {
         add(all, source_bits(section, direction, place))?;
         add(all, dest_bits(section, direction, place))?;
         add(all, shadow(section, direction, place))?;

@@ -5,7 +5,9 @@ ghost use Rattle.policy_check.specs.Reasons.{HasHead, IsHeadReason};
 
 use crate::reason::Reason;
 use crate::word_finding::{Finding, missing, of};
-use crate::word_readers::{read_action_word, read_direction_word, read_family_word, read_next_word};
+use crate::word_readers::{
+    read_action_word, read_direction_word, read_family_word, read_next_word,
+};
 use packet_view::Family;
 
 /// The family of a rule, and the text after its head; what is wrong with the words of the head, where that is so.

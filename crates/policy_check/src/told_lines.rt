@@ -20,49 +20,49 @@ pub struct Told {
 const MOST_SHOWN: usize = 80;
 
 // Adds a piece to the text that a check tells.
-fn push_text(out: &mut Vec<u8>, text: &str) -> Result<(), AllocError> {
+fn push_told_text(out: &mut Vec<u8>, text: &str) -> Result<(), AllocError> {
     out.extend_from_slice(text.as_bytes())?;
     Ok(())
 }
 
 // Adds the word of a complaint to the text that a check tells, with each byte that isn't a sign of ASCII as its number,
 // so that it is seen.
-fn push_word(alloc: Global, out: &mut Vec<u8>, word: &[u8]) -> Result<(), AllocError> {
+fn push_told_word(alloc: Global, out: &mut Vec<u8>, word: &[u8]) -> Result<(), AllocError> {
     for byte in &word[..word.len().min(MOST_SHOWN)] {
         if *byte > 32 && *byte < 127 {
             out.push(*byte)?;
         } else {
-            push_text(out, format!(in alloc; "\\x{:02x}", *byte)?.as_str())?;
+            push_told_text(out, format!(in alloc; "\\x{:02x}", *byte)?.as_str())?;
         }
     }
     if word.len() > MOST_SHOWN {
-        push_text(out, "..")?;
+        push_told_text(out, "..")?;
     }
     Ok(())
 }
 
 // Adds the line of a complaint to the text that a check tells.
-fn push_complaint(
+fn push_told_complaint(
     alloc: Global,
     out: &mut Vec<u8>,
     told: &Complaint<'_>,
 ) -> Result<(), AllocError> {
-    push_text(out, format!(in alloc; "line {}", told.line)?.as_str())?;
+    push_told_text(out, format!(in alloc; "line {}", told.line)?.as_str())?;
     if !told.word.is_empty() {
-        push_text(out, ": `")?;
-        push_word(alloc, out, told.word)?;
-        push_text(out, "`")?;
+        push_told_text(out, ": `")?;
+        push_told_word(alloc, out, told.word)?;
+        push_told_text(out, "`")?;
     }
-    push_text(out, format!(in alloc; " {}\n", told.reason)?.as_str())
+    push_told_text(out, format!(in alloc; " {}\n", told.reason)?.as_str())
 }
 
 // Adds the line of a remark to the text that a check tells.
-fn push_remark(alloc: Global, out: &mut Vec<u8>, remark: &Remark) -> Result<(), AllocError> {
-    push_text(out, format!(in alloc; "remark: {remark}\n")?.as_str())
+fn push_told_remark(alloc: Global, out: &mut Vec<u8>, remark: &Remark) -> Result<(), AllocError> {
+    push_told_text(out, format!(in alloc; "remark: {remark}\n")?.as_str())
 }
 
 // How many rules a policy has, which the text of a check tells in its last line.
-fn told_rule_count(policy: &Policy) -> usize {
+fn rule_count_in_told_line(policy: &Policy) -> usize {
     let mut count: usize = 0;
     for section in &policy.sections {
         count = count
@@ -73,30 +73,30 @@ fn told_rule_count(policy: &Policy) -> usize {
 }
 
 // Adds the lines that are told of a policy: the remarks on it, and then how many rules and sections it has.
-fn push_policy(alloc: Global, out: &mut Vec<u8>, policy: &Policy) -> Result<(), AllocError> {
+fn push_told_policy(alloc: Global, out: &mut Vec<u8>, policy: &Policy) -> Result<(), AllocError> {
     let remarks = remarks_on(alloc, policy)?;
     for remark in &remarks {
-        push_remark(alloc, out, remark)?;
+        push_told_remark(alloc, out, remark)?;
     }
-    let rules = told_rule_count(policy);
+    let rules = rule_count_in_told_line(policy);
     let sections = policy.sections.len();
-    push_text(
+    push_told_text(
         out,
         format!(in alloc; "policy: rules {rules} sections {sections}\n")?.as_str(),
     )
 }
 
 // Adds what the text of a check tells where there is no policy: each complaint, and then how many lines are wrong.
-fn push_complaints(
+fn push_told_complaints(
     alloc: Global,
     out: &mut Vec<u8>,
     checked: &Checked<'_>,
 ) -> Result<(), AllocError> {
     for told in &checked.complaints {
-        push_complaint(alloc, out, told)?;
+        push_told_complaint(alloc, out, told)?;
     }
     let lines = checked.complaints.len();
-    push_text(
+    push_told_text(
         out,
         format!(in alloc; "no policy: wrong lines {lines}\n")?.as_str(),
     )
@@ -111,9 +111,9 @@ pub fn tell(alloc: Global, text: &[u8]) -> Result<Told, AllocError>
     let is_policy = checked.complaints.is_empty();
     let mut out = Vec::new(alloc);
     if is_policy {
-        push_policy(alloc, &mut out, &checked.policy)?;
+        push_told_policy(alloc, &mut out, &checked.policy)?;
     } else {
-        push_complaints(alloc, &mut out, &checked)?;
+        push_told_complaints(alloc, &mut out, &checked)?;
     }
     Ok(Told {
         text: out,

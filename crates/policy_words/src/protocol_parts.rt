@@ -47,7 +47,7 @@ pub fn protocol_of(family: Family, word: &[u8]) -> Option<u8>
 
 /// The ranges that may follow a protocol, and the text after them: ports, or a type and a code.
 #[tactic(auto, unfolding(crate::specs::inner::Reading::Traffic::protocol_ranges_in))]
-fn protocol_ranges(
+fn protocol_part_ranges(
     family: Family,
     proto: u8,
     text: &[u8],
@@ -66,7 +66,7 @@ fn protocol_ranges(
 
 /// The flags that may follow a protocol, and the text after them.
 #[tactic(auto, unfolding(crate::specs::inner::Reading::Traffic::protocol_flags_in))]
-fn protocol_flags(family: Family, proto: u8, text: &[u8]) -> Option<((u8, u8), &[u8])>
+fn protocol_part_flags(family: Family, proto: u8, text: &[u8]) -> Option<((u8, u8), &[u8])>
     ensures { option_map (λ r. (r.0, words_of r.1.now)) result
         ≡ protocol_flags_in (parts_of family proto) (words_of text.now) }
 {
@@ -82,8 +82,8 @@ fn protocol_flags(family: Family, proto: u8, text: &[u8]) -> Option<((u8, u8), &
 fn parts_after(family: Family, proto: u8, text: &[u8]) -> Option<Traffic>
     ensures { result ≡ parts_in (parts_of family proto) proto (words_of text.now) }
 {
-    let (first, second, text) = protocol_ranges(family, proto, text)?;
-    let ((value, mask), text) = protocol_flags(family, proto, text)?;
+    let (first, second, text) = protocol_part_ranges(family, proto, text)?;
+    let ((value, mask), text) = protocol_part_flags(family, proto, text)?;
     if is_end(text) {
         Some(Traffic {
             proto,

@@ -37,7 +37,7 @@ pub fn flags_of_word(word: &[u8]) -> Option<(u8, u8)>
 
 /// The text after a name before a range or flags. `None`: the first word is another, or there is none.
 #[tactic(auto, unfolding(crate::specs::inner::Reading::Traffic::after_in))]
-fn after_name<'a>(text: &'a [u8], name: &[u8]) -> Option<&'a [u8]>
+fn text_of_range_or_flags<'a>(text: &'a [u8], name: &[u8]) -> Option<&'a [u8]>
     ensures { option_map (λ rest. words_of rest.now) result ≡ after_in name.now (words_of text.now) }
 {
     let (word, rest) = next_word(text)?;
@@ -51,7 +51,7 @@ fn range_part<'a>(text: &'a [u8], name: &[u8], most: u16) -> Option<((u16, u16),
     ensures { option_map (λ r. (r.0, words_of r.1.now)) result
         ≡ part_in name.now (range_in most) every (words_of text.now) }
 {
-    let Some(rest) = after_name(text, name) else {
+    let Some(rest) = text_of_range_or_flags(text, name) else {
         return Some((EVERY, text));
     };
     let (word, rest) = next_word(rest)?;
@@ -66,7 +66,7 @@ pub fn flags_part(text: &[u8]) -> Option<((u8, u8), &[u8])>
     ensures { option_map (λ r. (r.0, words_of r.1.now)) result
         ≡ part_in (codes "flags") flags_in (0, 0) (words_of text.now) }
 {
-    let Some(rest) = after_name(text, b"flags") else {
+    let Some(rest) = text_of_range_or_flags(text, b"flags") else {
         return Some(((0, 0), text));
     };
     let (word, rest) = next_word(rest)?;

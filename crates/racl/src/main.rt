@@ -18,7 +18,7 @@ use std::sync::Wait;
 use std::thread::Threads;
 
 fn main(rt: HostRuntime) -> ExitCode {
-    let status = match status_of_words(&rt, &rt, rt.alloc()) {
+    let status = match main_status(&rt, &rt, rt.alloc()) {
         Ok(status) => status,
         Err(error) => failure_status(&rt, &error),
     };
@@ -27,7 +27,7 @@ fn main(rt: HostRuntime) -> ExitCode {
 
 // The main function's work: does what the program's words ask for, and answers the exit status. The workers' threads
 // come from `threads`.
-fn status_of_words<T: Threads + Wait + Sync>(
+fn main_status<T: Threads + Wait + Sync>(
     rt: &HostRuntime,
     threads: &T,
     alloc: Global,
@@ -59,7 +59,7 @@ fn status_of_run<T: Threads + Wait + Sync>(
         Err(error) => return Err(error),
     };
     let mut reader = Watched::new(rt, Joined::new(policy, captures));
-    match ran_on(rt, threads, alloc, asked, &mut reader) {
+    match run_main_program(rt, threads, alloc, asked, &mut reader) {
         Ok(Some(ran)) => say_end_of_run(rt, alloc, &asked.origin, &mut reader, &ran),
         Ok(None) => Ok(4),
         Err(error) => Err(error),
@@ -68,7 +68,7 @@ fn status_of_run<T: Threads + Wait + Sync>(
 
 // Runs the main program from this source to standard output, and saves packets where that is asked for. Where these
 // can't be saved that is told, and None is answered.
-fn ran_on<T: Threads + Wait + Sync, R: Source + Send>(
+fn run_main_program<T: Threads + Wait + Sync, R: Source + Send>(
     rt: &HostRuntime,
     threads: &T,
     alloc: Global,

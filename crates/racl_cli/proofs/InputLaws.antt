@@ -12,7 +12,7 @@ use Rattle.racl_options.specs.declared.settings.TableSize.{TableSize}
 use Rattle.racl_io.specs.declared.fault.Fault.{Fault}
 use Rattle.racl_io.specs.declared.fault.Fault.TheVariants.{TooLarge, NoCapture}
 use Rattle.racl_io.specs.declared.marker_line.Form.{Form}
-use Rattle.racl_io.specs.declared.report_totals.Captured.{Captured}
+use Rattle.racl_io.specs.declared.totals_and_truncation.Captured.{Captured}
 use Rattle.racl_io.specs.Faults.{IsFaultOfBytes, IsFaultOfParts, IsInputFault, policy_fault}
 use Rattle.racl_io.specs.Inputs.{IsInput, IsMarked, InputFacts, most_bytes}
 use Rattle.racl_io.proofs.PartingLemmas.{some_input}

@@ -15,7 +15,7 @@ use Rattle.flow_dealing.proofs.OneReport.{one_report}
 use Rattle.flow_workers.proofs.AloneLemmas.{alone_begun}
 use Rattle.racl_options.specs.declared.settings.Options.{Options}
 use Rattle.racl_io.specs.declared.fault.Fault.{Fault}
-use Rattle.racl_io.specs.declared.report_totals.Totals.{Totals}
+use Rattle.racl_io.specs.declared.totals_and_truncation.Totals.{Totals}
 use Rattle.racl_io.specs.Reports.{report_of, totals_of}
 use Rattle.capture_stream.specs.Lives.{HasToldAll, told_alone}
 use Rattle.racl_cli.specs.Crews.{AreResting, AreSaid, IsRestingAlone, Orders, orders_for, orders_of, size_of}

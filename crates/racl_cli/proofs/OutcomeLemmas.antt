@@ -25,7 +25,7 @@ use Rattle.racl_options.specs.declared.settings.Options.{Options}
 use Rattle.racl_options.specs.declared.settings.TableSize.{TableSize}
 use Rattle.racl_io.specs.declared.fault.Fault.{Fault}
 use Rattle.racl_io.specs.declared.fault.Fault.TheVariants.{Memory, NoCapture, Write}
-use Rattle.racl_io.specs.declared.report_totals.Totals.{Totals}
+use Rattle.racl_io.specs.declared.totals_and_truncation.Totals.{Totals}
 use Rattle.racl_io.specs.Faults.{IsFaultOfBytes, IsFaultOfContent, IsSystemFault, capture_fault, policy_fault}
 use Rattle.racl_io.specs.Inputs.{IsContent, IsInput, InputFacts, most_bytes}
 use Rattle.racl_cli.specs.Crews.{AreAfter, AreIdleOf, AreSaidBy, Orders, orders_for, size_of, views_with}

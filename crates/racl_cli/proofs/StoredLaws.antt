@@ -8,7 +8,7 @@ use Rattle.flow_dealing.specs.WorkerRecords.{HavePages}
 use Rattle.flow_dealing.proofs.OneReport.{judged_by_one}
 use Rattle.flow_workers.specs.Stored.{AreStored}
 use Rattle.flow_workers.proofs.StoredLemmas.{left_by_one}
-use Rattle.racl_io.specs.declared.report_totals.Totals.{Totals}
+use Rattle.racl_io.specs.declared.totals_and_truncation.Totals.{Totals}
 use Rattle.racl_options.specs.declared.settings.Options.{Options}
 use Rattle.racl_views.specs.Stored.{StoredFacts}
 use Rattle.racl_cli.specs.Runs.{AreStoredOf, HasRun, keeps_stored, layout_for}

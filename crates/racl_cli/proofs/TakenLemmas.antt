@@ -12,7 +12,7 @@ use Rattle.racl_io.specs.declared.fault.Fault.TheVariants.{Memory, Twice}
 use Rattle.racl_io.specs.declared.marker_line.Form.{Form}
 use Rattle.racl_io.specs.declared.marker_line.Form.TheVariants.{Hexadecimal, Numbered}
 use Rattle.racl_io.specs.declared.marker_line.Numbered as mark
-use Rattle.racl_io.specs.declared.report_totals.Captured.{Captured}
+use Rattle.racl_io.specs.declared.totals_and_truncation.Captured.{Captured}
 use Rattle.racl_io.specs.Faults.{IsFaultOfBytes, IsFaultOfContent, IsFaultOfOne, IsRight}
 use Rattle.racl_io.specs.Inputs.{AreCaptures, DigitsFacts, IsContent, AreCutDigits, IsMarked, NumberedFacts, most_bytes, numbered_facts}
 use Rattle.racl_io.specs.Reports.{packets_in}

@@ -18,7 +18,7 @@ use Rattle.racl_options.specs.declared.settings.TableSize.{TableSize}
 use Rattle.racl_options.specs.declared.settings.TableSize.TheVariants.{Standard, Large}
 use Rattle.racl_io.specs.declared.fault.Fault.{Fault}
 use Rattle.racl_io.specs.Faults.{IsSystemFault}
-use Rattle.racl_io.specs.declared.report_totals.Totals.{Totals}
+use Rattle.racl_io.specs.declared.totals_and_truncation.Totals.{Totals}
 use Rattle.racl_io.specs.Reports.{totals_of}
 use Rattle.racl_views.specs.Stored.{StoredFacts}
 use Rattle.racl_report.specs.ReadInputs.{IsRead}

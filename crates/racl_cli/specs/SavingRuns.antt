@@ -1,6 +1,6 @@
 -- A run behind whose report packets of its input are saved.
 use Rattle.std.specs.Prelude.{ℕ, List, Option}
-use Rattle.racl_io.specs.declared.report_totals.Totals.{Totals}
+use Rattle.racl_io.specs.declared.totals_and_truncation.Totals.{Totals}
 use Rattle.racl_io.specs.Inputs.{InputFacts, IsInput}
 use Rattle.racl_options.specs.declared.settings.Options.{Options}
 use Rattle.racl_views.specs.declared.chosen_packets.Chosen.TheVariants.{Passing, Dropped}

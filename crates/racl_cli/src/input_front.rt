@@ -105,7 +105,7 @@ fn open_whole(alloc: Global, options: &Options, bytes: Vec<u8>) -> Result<Front,
 }
 
 /// Reads all that an input has behind its front, which these bytes are.
-pub fn read_rest<R: Source>(reader: &mut R, bytes: &mut Vec<u8>) -> Result<(), Fault>
+pub fn read_behind_front<R: Source>(reader: &mut R, bytes: &mut Vec<u8>) -> Result<(), Fault>
     requires { R.failures reader.old < 2 ^ 64 - 1 }
     ensures ok { OnOk result (HasRest (R.bytes reader.old) (R.bytes reader.new) bytes.old.items bytes.new.items) }
     ensures fault { IfErr result (IsUnread (length bytes.old.items) (R.bytes reader.old)) }
@@ -144,7 +144,7 @@ pub fn open_source<R: Source>(
             opened: Opened::Bytes(headed),
         });
     }
-    match read_rest(reader, &mut bytes) {
+    match read_behind_front(reader, &mut bytes) {
         Ok(()) => open_whole(alloc, options, bytes),
         Err(fault) => Err(fault),
     }

@@ -6,7 +6,7 @@ ghost use Rattle.flow_dealing.specs.WorkerRecords.{HavePages};
 ghost use Rattle.racl_options.specs.declared.settings.Options.{Options};
 ghost use Rattle.racl_options.specs.declared.settings.TableSize.{TableSize};
 ghost use Rattle.racl_io.specs.declared.fault.Fault.{Fault};
-ghost use Rattle.racl_io.specs.declared.report_totals.Totals.{Totals};
+ghost use Rattle.racl_io.specs.declared.totals_and_truncation.Totals.{Totals};
 ghost use Rattle.racl_io.specs.Faults.{IsInputFault};
 ghost use Rattle.racl_cli.specs.Runs.{HasOutcome, HasRun, keeps_stored, layout_for};
 ghost use Rattle.racl_report.specs.RunReports.{Outcome};

@@ -10,7 +10,7 @@ ghost use Rattle.racl_cli.specs.SavingRuns.{HasRunSaving};
 
 use crate::bytes_at_hand::AtHand;
 use crate::digit_captures_in_turn::judge_digit_captures;
-use crate::input_front::{Front, Headed, Opened, open_source, read_rest};
+use crate::input_front::{Front, Headed, Opened, open_source, read_behind_front};
 use crate::judge_by_plan::judge_records;
 use crate::run_plan::threads_beside;
 use capture_stream::Opening;
@@ -74,7 +74,7 @@ fn judge_kept<R: Source + Send, T: Threads + Wait + Sync>(
     ensures answers { AnswersRead options.now [] (R.bytes reader.old) result }
     ensures within { HasReadWithin R.bytes R.failures (most_bytes + 1) reader.old reader.new result }
 {
-    match read_rest(reader, kept) {
+    match read_behind_front(reader, kept) {
         Ok(()) => {
             let mut again = AtHand {
                 left: kept.as_slice(),
@@ -86,7 +86,7 @@ fn judge_kept<R: Source + Send, T: Threads + Wait + Sync>(
 }
 
 // Whose threads a run may take beside this one, from end to end: nobody's where the options ask for one worker.
-fn beside<'a, T>(rt: &'a T, options: &Options) -> Option<&'a T> {
+fn run_beside<'a, T>(rt: &'a T, options: &Options) -> Option<&'a T> {
     threads_beside(rt, options.workers > 1)
 }
 
@@ -125,13 +125,20 @@ pub fn run<R: Source + Send, W: Sink, T: Threads + Wait + Sync>(
 {
     if !needs_bytes(options) {
         return match judge_source(rt, alloc, options, reader) {
-            Ok(judged) => write_plain(beside(rt, options), alloc, writer, options, &judged),
+            Ok(judged) => write_plain(run_beside(rt, options), alloc, writer, options, &judged),
             Err(fault) => Err(fault),
         };
     }
     let mut bytes = Vec::new(alloc);
     match judge_kept(rt, alloc, options, reader, &mut bytes) {
-        Ok(judged) => write_judged(beside(rt, options), alloc, writer, options, &bytes, &judged),
+        Ok(judged) => write_judged(
+            run_beside(rt, options),
+            alloc,
+            writer,
+            options,
+            &bytes,
+            &judged,
+        ),
         Err(fault) => Err(fault),
     }
 }
@@ -168,7 +175,14 @@ pub fn run_saving<R: Source + Send, W: Sink, S: Sink, T: Threads + Wait + Sync>(
         Ok(judged) => judged,
         Err(fault) => return Err(fault),
     };
-    let totals = match write_judged(beside(rt, options), alloc, writer, options, &bytes, &judged) {
+    let totals = match write_judged(
+        run_beside(rt, options),
+        alloc,
+        writer,
+        options,
+        &bytes,
+        &judged,
+    ) {
         Ok(totals) => totals,
         Err(fault) => return Err(fault),
     };

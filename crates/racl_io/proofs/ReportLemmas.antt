@@ -7,8 +7,8 @@ use Rattle.flow_filter.specs.Verdicts.{passes}
 use Rattle.flow_filter.specs.declared.verdict.Verdict.{Verdict}
 use Rattle.racl_io.specs.Reports.{captures_from, dropped, is_truncated, line_of, lines_from, packets_in, passed, totals_of, truncation_line}
 use Rattle.racl_io.specs.Sinks.{GotFront}
-use Rattle.racl_io.specs.declared.report_totals.Captured.{Captured}
-use Rattle.racl_io.specs.declared.report_totals.Totals.{Totals}
+use Rattle.racl_io.specs.declared.totals_and_truncation.Captured.{Captured}
+use Rattle.racl_io.specs.declared.totals_and_truncation.Totals.{Totals}
 
 pub lines_of_both : (named : Option ℕ) (n m : ℕ) (xs ys : List Verdict) → m ≡ n + length xs
     → lines_from named n (xs ++ ys) ≡ lines_from named n xs ++ lines_from named m ys

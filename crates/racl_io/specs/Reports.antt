@@ -4,8 +4,8 @@ use Rattle.std.specs.List.{list_any}
 use Rattle.flow_filter.specs.Verdicts.{passes}
 use Rattle.flow_filter.specs.declared.verdict.Verdict.{Verdict}
 use Rattle.flow_filter.specs.declared.verdict.Verdict.TheVariants.{Session, Reflect, Permit, Deny, ByDefault, Worn, Full, NoPages, NotIp, Malformed, Short}
-use Rattle.racl_io.specs.declared.report_totals.Captured.{Captured}
-use Rattle.racl_io.specs.declared.report_totals.Totals.{Totals}
+use Rattle.racl_io.specs.declared.totals_and_truncation.Captured.{Captured}
+use Rattle.racl_io.specs.declared.totals_and_truncation.Totals.{Totals}
 
 abbrev pub text_of : Verdict → List ℕ
 text_of Session = codes "pass session"

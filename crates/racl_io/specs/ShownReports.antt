@@ -3,7 +3,7 @@
 use Rattle.std.specs.Prelude.{ℕ, ◌+◌, Bool, true, false, not, List, [], ◌∷◌, ◌++◌, Option, take, drop, if◌then◌else◌}
 use Rattle.flow_filter.specs.Verdicts.{passes}
 use Rattle.flow_filter.specs.declared.verdict.Verdict.{Verdict}
-use Rattle.racl_io.specs.declared.report_totals.Captured.{Captured}
+use Rattle.racl_io.specs.declared.totals_and_truncation.Captured.{Captured}
 use Rattle.racl_io.specs.declared.shown_lines_report.Shown.{Shown}
 use Rattle.racl_io.specs.declared.shown_lines_report.Shown.TheVariants.{Every, Passing, Dropped, Nothing}
 use Rattle.racl_io.specs.Reports.{line_of, totals_line, totals_of, truncation_line}

@@ -25,7 +25,7 @@ pub struct Written<R> {
 }
 
 // Writes the hexadecimal digits of bytes that a reader gave into room for them.
-fn write_digits(bytes: &[u8], room: &mut [u8])
+fn write_capture_digits(bytes: &[u8], room: &mut [u8])
     requires { length room.old ≡ 2 * length bytes.now }
     ensures { room.new ≡ encode_lower bytes.now }
 {
@@ -58,7 +58,7 @@ impl<R: Read> Written<R> {
             return Ok(0);
         }
         let mut digits = [0u8; 2];
-        write_digits(&byte, &mut digits);
+        write_capture_digits(&byte, &mut digits);
         buf[0] = digits[0];
         self.low = Some(digits[1]);
         Ok(1)
@@ -75,7 +75,7 @@ impl<R: Read> Written<R> {
         let mut bytes = [0u8; PART_BYTES];
         let most = PART_BYTES.min(buf.len() / 2);
         let n = self.reader.read(&mut bytes[..most])?;
-        write_digits(&bytes[..n], &mut buf[..2 * n]);
+        write_capture_digits(&bytes[..n], &mut buf[..2 * n]);
         Ok(2 * n)
     }
 }

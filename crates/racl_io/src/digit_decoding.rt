@@ -17,7 +17,7 @@ pub fn is_blank(b: u8) -> bool
 }
 
 // What is decoded as hexadecimal digits: these bytes without the blanks among them.
-fn digits(alloc: Global, content: &[u8]) -> Result<Vec<u8>, AllocError>
+fn digits_to_decode(alloc: Global, content: &[u8]) -> Result<Vec<u8>, AllocError>
     ensures { IfOk result (λ v. v.items ≡ digits_of content.now) }
 {
     content
@@ -33,7 +33,7 @@ pub fn decode_digits(alloc: Global, content: &[u8]) -> Result<Vec<u8>, Fault>
     ensures ok { IfOk result (λ v. IsContent Hexadecimal content.now v.items) }
     ensures err { IfErr result (λ e. (e ≡ Memory) ⊎ ((e ≡ Hex) × ((capture : List ℕ) → IsContent Hexadecimal content.now capture → ⊥))) }
 {
-    let digits = digits(alloc, content)?;
+    let digits = digits_to_decode(alloc, content)?;
     match hex::decode(alloc, &digits) {
         Ok(bytes) => Ok(bytes),
         Err(FromHexError::OutOfMemory) => Err(Fault::Memory),

@@ -63,7 +63,7 @@ impl Marks {
 }
 
 // What tells the kind of a file, where the numbers of its header have the low byte first.
-fn little_marks(bytes: &[u8]) -> Marks
+fn little_file_marks(bytes: &[u8]) -> Marks
     requires { 24 ≤ length bytes.now }
     ensures magic { result.magic ≡ number_from Little 0 4 bytes.now }
     ensures link { result.link ≡ link_type Little bytes.now }
@@ -75,7 +75,7 @@ fn little_marks(bytes: &[u8]) -> Marks
 }
 
 // What tells the kind of a file, where the numbers of its header have the high byte first.
-fn big_marks(bytes: &[u8]) -> Marks
+fn big_file_marks(bytes: &[u8]) -> Marks
     requires { 24 ≤ length bytes.now }
     ensures magic { result.magic ≡ number_from Big 0 4 bytes.now }
     ensures link { result.link ≡ link_type Big bytes.now }
@@ -94,8 +94,8 @@ pub fn other_file(bytes: &[u8]) -> Option<Other>
     if bytes.len() < 24 {
         return None;
     }
-    let little = little_marks(bytes);
-    let big = big_marks(bytes);
+    let little = little_file_marks(bytes);
+    let big = big_file_marks(bytes);
     if big.magic == 0x0a0d_0d0a {
         Some(Other::Pcapng)
     } else if BigEndian::read_u16(bytes) == 0x1f8b {
@@ -121,5 +121,7 @@ pub fn is_capture(bytes: &[u8]) -> bool
     if bytes.len() < 24 {
         return false;
     }
-    little_marks(bytes).is_pcap() || big_marks(bytes).is_pcap() || other_file(bytes).is_some()
+    little_file_marks(bytes).is_pcap()
+        || big_file_marks(bytes).is_pcap()
+        || other_file(bytes).is_some()
 }

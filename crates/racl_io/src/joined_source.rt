@@ -1,7 +1,7 @@
 //! A policy and captures from readers as one source.
 ghost use Rattle.std.specs.Prelude.{◌≡◌, IfOk, map, option_map};
 ghost use Rattle.std.specs.Io.Chain.{chain_first};
-ghost use Rattle.racl_io.specs.Joined as told;
+ghost use Rattle.racl_io.specs.Joined as joining;
 ghost use Rattle.racl_io.specs.Joined.{joined_bytes, marked_bytes};
 ghost use Rattle.racl_io.specs.Writings.{front_at, joined_left, marked_left};
 
@@ -18,7 +18,7 @@ pub type Marked<R> = Chain<Cursor<Vec<u8>>, Written<R>>;
 
 // The marker line that a joined source has before a capture, behind the line feed that ends the line before.
 fn joined_marker_line(alloc: Global, form: Form) -> Result<Vec<u8>, AllocError>
-    ensures { IfOk result (λ line. line.items ≡ told.marker_line form) }
+    ensures { IfOk result (λ line. line.items ≡ joining.marker_line form) }
 {
     match form {
         Form::Binary => Vec::from_slice(alloc, b"\npcap\n"),

@@ -18,8 +18,8 @@ mod read_buffer;
 mod readers_in_turn;
 mod reading_and_writing;
 mod report_piece;
-mod report_totals;
 mod shown_lines_report;
+mod totals_and_truncation;
 mod whole_report;
 
 pub use device::{Device, DeviceFault, Sink, Source};
@@ -34,6 +34,6 @@ pub use number_printing::Numeral;
 pub use read_buffer::ReadBuffer;
 pub use reading_and_writing::{MOST_BYTES, drain, read_until, write_all};
 pub use report_piece::Piece;
-pub use report_totals::{Captured, Totals, totals_on, write_totals, write_truncation};
 pub use shown_lines_report::{Shown, has_line, write_shown};
-pub use whole_report::{Place, write_lines, write_report};
+pub use totals_and_truncation::{Captured, Totals, totals_on, write_totals, write_truncation};
+pub use whole_report::{Place, write_report, write_whole_report_lines};

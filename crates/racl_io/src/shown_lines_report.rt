@@ -13,7 +13,7 @@ use crate::number_printing::Counter;
 use crate::packet_lines::{LINES, push_named_line};
 use crate::reading_and_writing::write_all;
 use crate::report_piece::Piece;
-use crate::report_totals::{Captured, Totals, totals_on, write_totals, write_truncation};
+use crate::totals_and_truncation::{Captured, Totals, totals_on, write_totals, write_truncation};
 use crate::whole_report::{Place, write_report};
 use flow_filter::Verdict;
 use std::alloc::Global;

@@ -15,7 +15,7 @@ use crate::number_printing::Counter;
 use crate::packet_lines::{LINES, push_lines};
 use crate::reading_and_writing::write_all;
 use crate::report_piece::Piece;
-use crate::report_totals::{Captured, Totals, totals_on, write_totals, write_truncation};
+use crate::totals_and_truncation::{Captured, Totals, totals_on, write_totals, write_truncation};
 use flow_filter::Verdict;
 use std::alloc::Global;
 use std::thread::Threads;
@@ -30,7 +30,7 @@ pub struct Place {
 }
 
 /// Writes the lines that the whole report has for the packets at this place, and answers how many of them pass.
-pub fn write_lines<W: Sink>(
+pub fn write_whole_report_lines<W: Sink>(
     writer: &mut W,
     piece: &mut Piece,
     place: Place,

@@ -1,7 +1,7 @@
 //! What the words ask for.
 ghost use Rattle.std.specs.Prelude.{◌≡◌, ◌||◌, MatchResult, is_none, is_some};
 ghost use Rattle.clap.specs.Words.{found_of, one_text};
-ghost use Rattle.racl_options.specs.Asking as told;
+ghost use Rattle.racl_options.specs.Asking as asking;
 ghost use Rattle.racl_options.specs.Asking.{AskBy, asked_facts, fit_together};
 ghost use Rattle.racl_options.specs.CommandLine as line;
 ghost use Rattle.racl_options.specs.Checks.{text_behind};
@@ -56,15 +56,15 @@ pub fn asked_by<'a>(alloc: Global, matches: &ArgMatches<'a>) -> Result<Asked<'a>
 }
 
 // Whether the files of a policy and a capture are asked for, which other options need.
-fn are_files(origin: &Origin<'_>) -> bool
-    ensures { result ≡ told.are_files (origin_facts origin.now) }
+fn are_files_asked(origin: &Origin<'_>) -> bool
+    ensures { result ≡ asking.are_files (origin_facts origin.now) }
 {
     matches!(origin, Origin::Files(_))
 }
 
 // Whether the other options that are asked go with `--live`: verdicts can be written as packets come beside them.
-fn is_simple_run(options: &Options) -> bool
-    ensures { result ≡ told.is_simple_run (option_facts options.now) }
+fn is_simple_run_asked(options: &Options) -> bool
+    ensures { result ≡ asking.is_simple_run (option_facts options.now) }
 {
     options.workers == 1
         && matches!(options.shown, Shown::Every)
@@ -81,7 +81,7 @@ fn is_saved(saved: &Saved<'_>) -> bool
 
 // Whether the options that are asked name one file for `--drops` and `--passes`, which can't get both.
 fn is_shared_file_asked(drops: Option<&str>, passes: Option<&str>) -> bool
-    ensures { result ≡ told.is_shared (text_behind drops.entry) (text_behind passes.entry) }
+    ensures { result ≡ asking.is_shared (text_behind drops.entry) (text_behind passes.entry) }
 {
     match (drops, passes) {
         (Some(drops), Some(passes)) => drops == passes,
@@ -91,16 +91,16 @@ fn is_shared_file_asked(drops: Option<&str>, passes: Option<&str>) -> bool
 
 // Whether `--live` goes with all else that is asked for: verdicts can be written as packets come.
 fn can_be_live(asked: &Asked<'_>) -> bool
-    ensures { result ≡ told.can_be_live (asked_facts asked.now) }
+    ensures { result ≡ asking.can_be_live (asked_facts asked.now) }
 {
-    are_files(&asked.origin) && !is_saved(&asked.saved) && is_simple_run(&asked.options)
+    are_files_asked(&asked.origin) && !is_saved(&asked.saved) && is_simple_run_asked(&asked.options)
 }
 
 // Why what is asked for doesn't go together.
 fn misfit(asked: &Asked<'_>) -> Option<&'static str>
     ensures { is_none result ≡ fit_together (asked_facts asked.now) }
 {
-    if is_saved(&asked.saved) && !are_files(&asked.origin) {
+    if is_saved(&asked.saved) && !are_files_asked(&asked.origin) {
         return Some(NOT_SAVED);
     }
     if is_shared_file_asked(asked.saved.drops, asked.saved.passes) {

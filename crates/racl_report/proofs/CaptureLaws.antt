@@ -9,7 +9,7 @@ use Rattle.racl_io.specs.declared.fault.Fault.{Fault}
 use Rattle.racl_io.specs.declared.fault.Fault.TheVariants.{Hex}
 use Rattle.racl_io.specs.declared.marker_line.Form.{Form}
 use Rattle.racl_io.specs.declared.marker_line.Form.TheVariants.{Binary, Hexadecimal, Numbered}
-use Rattle.racl_io.specs.declared.report_totals.Captured.{Captured}
+use Rattle.racl_io.specs.declared.totals_and_truncation.Captured.{Captured}
 use Rattle.racl_io.specs.Faults.{IsFaultOfCapture, IsFaultOfCaptures, IsFaultOfContent, IsFaultOfOne, IsRight, capture_fault}
 use Rattle.racl_io.specs.Inputs.{DigitsFacts, IsContent, NumberedFacts, digits_of}
 use Rattle.racl_io.proofs.FaultLemmas.{AreRight, bytes_of_digits, captures_or_fault, no_captures_fault, one_captures_fault}

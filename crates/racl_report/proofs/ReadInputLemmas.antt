@@ -3,7 +3,7 @@ use Rattle.std.proofs.Common.{◌≡◌, ℕ, Bool, List, [], ◌∷◌, None, s
 use Rattle.packet_view.specs.Captures.{IsCaptureAt, PacketFacts, end_of}
 use Rattle.acl_policy.specs.Policies.{IsPolicyText, PolicyFacts}
 use Rattle.racl_io.specs.declared.marker_line.Form.{Form}
-use Rattle.racl_io.specs.declared.report_totals.Captured.{Captured}
+use Rattle.racl_io.specs.declared.totals_and_truncation.Captured.{Captured}
 use Rattle.racl_io.specs.Inputs.{IsContent, IsInput, InputFacts}
 use Rattle.racl_io.proofs.InputLemmas.{one_input}
 use Rattle.racl_report.specs.ReadInputs.{HasPackets, IsRead, told_of}

@@ -6,7 +6,7 @@ use Rattle.acl_policy.specs.Policies.{PolicyFacts}
 use Rattle.flow_filter.specs.declared.verdict.Verdict.{Verdict}
 use Rattle.racl_io.specs.declared.fault.Fault.{Fault}
 use Rattle.racl_io.specs.declared.marker_line.Form.TheVariants.{Binary}
-use Rattle.racl_io.specs.declared.report_totals.Captured.{Captured}
+use Rattle.racl_io.specs.declared.totals_and_truncation.Captured.{Captured}
 use Rattle.racl_io.specs.Inputs.{InputFacts, IsInput}
 use Rattle.racl_io.specs.Sinks.{HasPut}
 use Rattle.racl_views.specs.ChosenRecords.{HasRecords, IsChosen}

@@ -1,7 +1,7 @@
 -- The packets of captures that are gone over once more.
 use Rattle.std.proofs.Common.{◌≡◌, ◌∙◌, ◌++◌, ◌||◌, ℕ, Bool, true, false, not, List, [], ◌∷◌, Option, Some, None, Result, Ok, Err, IfOk, ap, append-nil, append_assoc, refl, sym, subst}
 use Rattle.packet_view.specs.Captures.{IsCaptureAt, PacketFacts, end_of}
-use Rattle.racl_io.specs.declared.report_totals.Captured.{Captured}
+use Rattle.racl_io.specs.declared.totals_and_truncation.Captured.{Captured}
 use Rattle.racl_io.specs.declared.marker_line.Form.{Form}
 use Rattle.racl_io.specs.declared.marker_line.Form.TheVariants.{Hexadecimal}
 use Rattle.racl_io.specs.Inputs.{AreCaptures, DigitsFacts, IsContent, AreCutDigits, NumberedFacts}
@@ -13,7 +13,7 @@ use Rattle.std.specs.Io.KnownBytes.{Appends}
 use Rattle.std.proofs.KnownBytes.{Appends-trans}
 use Rattle.acl_policy.specs.Policies.{IsPolicyText, PolicyFacts}
 use Rattle.racl_io.specs.declared.fault.Fault.{Fault}
-use Rattle.racl_io.specs.declared.report_totals.Totals.{Totals}
+use Rattle.racl_io.specs.declared.totals_and_truncation.Totals.{Totals}
 use Rattle.racl_io.specs.declared.shown_lines_report.Shown.{Shown}
 use Rattle.racl_io.specs.ShownReports.{report_shown}
 use Rattle.session_state.specs.declared.timeouts.Timeouts.{Timeouts}

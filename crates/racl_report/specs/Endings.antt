@@ -8,7 +8,7 @@ use Rattle.racl_report.specs.declared.message_texts.Hint.{Hint}
 use Rattle.racl_report.specs.declared.message_texts.Hint.TheVariants.{Swapped, TwoCaptures}
 use Rattle.racl_report.specs.declared.message_texts.Message.{Message}
 use Rattle.racl_report.specs.declared.message_texts.Message.TheVariants as message
-use Rattle.racl_io.specs.declared.report_totals.Totals.{Totals}
+use Rattle.racl_io.specs.declared.totals_and_truncation.Totals.{Totals}
 
 -- nothing after a report, and the fault where there is none
 abbrev pub said_after : Result Totals Fault → Option Message

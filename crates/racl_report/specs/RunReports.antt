@@ -7,7 +7,7 @@ use Rattle.racl_options.specs.declared.settings.Lines.{Lines}
 use Rattle.racl_options.specs.declared.settings.Lines.TheVariants.{Plain, Explained, Json}
 use Rattle.racl_options.specs.declared.settings.Options.{Options}
 use Rattle.racl_io.specs.declared.shown_lines_report.Shown.{Shown}
-use Rattle.racl_io.specs.declared.report_totals.Captured.{Captured}
+use Rattle.racl_io.specs.declared.totals_and_truncation.Captured.{Captured}
 use Rattle.racl_io.specs.Inputs.{IsInput, InputFacts}
 use Rattle.racl_io.specs.ShownReports.{report_shown}
 use Rattle.racl_views.specs.ExplainedLines.{IsExplained}

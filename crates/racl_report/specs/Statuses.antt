@@ -2,7 +2,7 @@
 use Rattle.std.specs.Prelude.{ℕ, if◌then◌else◌, Result, Ok, Err}
 use Rattle.racl_io.specs.declared.fault.Fault.{Fault}
 use Rattle.racl_io.specs.declared.fault.Fault.TheVariants.{Memory, Read, Write}
-use Rattle.racl_io.specs.declared.report_totals.Totals.{Totals}
+use Rattle.racl_io.specs.declared.totals_and_truncation.Totals.{Totals}
 
 -- 4 where memory or a device failed, and else 1
 abbrev pub status_of_fault : Fault → ℕ

@@ -3,7 +3,7 @@ ghost use Rattle.std.specs.Prelude.{◌≡◌, ◌<◌, ◌-◌, ◌^◌, ℕ, L
 ghost use Rattle.packet_view.specs.Captures.{PacketFacts};
 ghost use Rattle.packet_view.specs.CheckedCaptures.{remaining};
 ghost use Rattle.acl_policy.specs.Policies.{IsPolicyText, PolicyFacts, policy_facts};
-ghost use Rattle.racl_io.specs.declared.report_totals.Captured as told;
+ghost use Rattle.racl_io.specs.declared.totals_and_truncation.Captured as told;
 ghost use Rattle.racl_io.specs.Reports;
 ghost use Rattle.racl_views.specs.Hits.{AreHits};
 ghost use Rattle.racl_views.specs.Stored.{stored_facts};

@@ -2,7 +2,7 @@
 ghost use Rattle.std.specs.Prelude.{◌≡◌, List, [], ◌∷◌, IfOk, Some};
 ghost use Rattle.packet_view.specs.Captures.{PacketFacts};
 ghost use Rattle.acl_policy.specs.Policies.{PolicyFacts};
-ghost use Rattle.racl_io.specs.declared.report_totals.Captured as told;
+ghost use Rattle.racl_io.specs.declared.totals_and_truncation.Captured as told;
 ghost use Rattle.racl_io.specs.Inputs.{input_facts};
 ghost use Rattle.racl_views.specs.CapturePackets.{HavePackets};
 ghost use Rattle.racl_report.specs.ReadInputs.{HasPackets, IsRead};
@@ -24,7 +24,10 @@ pub struct Again {
 }
 
 // The bytes of captures with numbers that are read again and are right, so that memory alone can be wanting.
-fn numbered_captures(alloc: Global, first: Numbered<'_>) -> Result<Vec<CaptureBytes>, AllocError>
+fn numbered_captures_again(
+    alloc: Global,
+    first: Numbered<'_>,
+) -> Result<Vec<CaptureBytes>, AllocError>
     ensures { (packets : List PacketFacts) (captures : List told.Captured) → AreTakenFrom [] (Some (facts_of first.entry)) packets captures
         → IfOk result (λ all. HavePackets all.items packets) }
 {
@@ -48,7 +51,7 @@ fn numbered_captures(alloc: Global, first: Numbered<'_>) -> Result<Vec<CaptureBy
 }
 
 // The only capture of an input that is read again, of interface 0.
-fn one_capture(alloc: Global, bytes: Vec<u8>) -> Result<Vec<CaptureBytes>, AllocError>
+fn one_capture_again(alloc: Global, bytes: Vec<u8>) -> Result<Vec<CaptureBytes>, AllocError>
     ensures { IfOk result (λ all. all.items ≡ record { interface = 0; bytes = bytes } ∷ []) }
 {
     let mut all = Vec::new(alloc);
@@ -67,11 +70,11 @@ fn captures_of(alloc: Global, input: Input<'_>) -> Result<Vec<CaptureBytes>, All
 {
     match input.form {
         Form::Binary => match Vec::from_slice(alloc, input.content) {
-            Ok(bytes) => one_capture(alloc, bytes),
+            Ok(bytes) => one_capture_again(alloc, bytes),
             Err(error) => Err(error),
         },
         Form::Hexadecimal => match decode_digits(alloc, input.content) {
-            Ok(bytes) => one_capture(alloc, bytes),
+            Ok(bytes) => one_capture_again(alloc, bytes),
             Err(_) => Err(AllocError),
         },
         Form::Numbered(interface) => {
@@ -79,7 +82,7 @@ fn captures_of(alloc: Global, input: Input<'_>) -> Result<Vec<CaptureBytes>, All
                 interface,
                 content: input.content,
             };
-            numbered_captures(alloc, first)
+            numbered_captures_again(alloc, first)
         }
     }
 }

@@ -3,7 +3,7 @@ ghost use Rattle.std.specs.Prelude.{◌≡◌, ◌-◌, ◌<◌, ◌^◌, ℕ, L
 ghost use Rattle.acl_policy.specs.Policies.{PolicyFacts};
 ghost use Rattle.packet_view.specs.Captures.{PacketFacts};
 ghost use Rattle.racl_io.specs.declared.fault.Fault.TheVariants.{Write};
-ghost use Rattle.racl_io.specs.declared.report_totals.Captured.{Captured};
+ghost use Rattle.racl_io.specs.declared.totals_and_truncation.Captured.{Captured};
 ghost use Rattle.racl_io.specs.Inputs.{InputFacts, IsInput, input_facts};
 ghost use Rattle.racl_views.specs.declared.chosen_packets.Chosen.TheVariants.{Dropped, Passing};
 ghost use Rattle.racl_report.specs.ReadInputs.{IsRead};

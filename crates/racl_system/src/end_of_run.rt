@@ -3,7 +3,7 @@ ghost use Rattle.std.specs.Prelude.{◌≡◌, IfOk};
 ghost use Rattle.racl_report.specs.Statuses.{status_of};
 
 use crate::faulty_capture::faulty;
-use crate::input_files::{interface_at, name_at, policy_name};
+use crate::input_files::{input_interface_at, input_name_at, input_policy_name};
 use crate::named_reader::Reader;
 use crate::progress::Watched;
 use crate::say_and_answer_status::say_ending;
@@ -22,11 +22,17 @@ pub struct Ran {
 }
 
 // The first bytes of a run's captures, for the notes on these, as far as there is memory for their list.
-fn seen_in<'a>(alloc: Global, origin: &Origin<'_>, reader: &'a Joined<Reader>) -> Vec<Seen<'a>> {
+fn seen_at_run_end<'a>(
+    alloc: Global,
+    origin: &Origin<'_>,
+    reader: &'a Joined<Reader>,
+) -> Vec<Seen<'a>> {
     let mut seen = Vec::new(alloc);
     for place in 0..256 {
-        let (Some(interface), Some(front)) = (interface_at(origin, place), reader.front(place))
-        else {
+        let (Some(interface), Some(front)) = (
+            input_interface_at(origin, place),
+            reader.front(place),
+        ) else {
             return seen;
         };
         if seen.push(Seen { interface, front }).is_err() {
@@ -48,7 +54,10 @@ fn say_remark(
     let Some(place) = faulty(rt, alloc, origin, reader, fault) else {
         return Ok(());
     };
-    let (Some(name), Some(interface)) = (name_at(origin, place), interface_at(origin, place)) else {
+    let (Some(name), Some(interface)) = (
+        input_name_at(origin, place),
+        input_interface_at(origin, place),
+    ) else {
         return Ok(());
     };
     if let Some(front) = reader.front(place)
@@ -56,7 +65,7 @@ fn say_remark(
     {
         return rt.eprintln(&Remark { name, other });
     }
-    if name_at(origin, 1).is_none() {
+    if input_name_at(origin, 1).is_none() {
         return Ok(());
     }
     rt.eprintln(format_args!("racl: that is {name}, the capture of interface {interface}"))
@@ -74,7 +83,7 @@ fn say_more(
         return Ok(());
     };
     if outcome.is_ok() {
-        let name = policy_name(origin);
+        let name = input_policy_name(origin);
         let text = policy.get_ref().as_slice();
         say_unlooked(rt, alloc, name, text);
         say_foreign(
@@ -82,7 +91,7 @@ fn say_more(
             alloc,
             name,
             text,
-            seen_in(alloc, origin, reader).as_slice(),
+            seen_at_run_end(alloc, origin, reader).as_slice(),
         );
     }
     if let Err(fault) = outcome {

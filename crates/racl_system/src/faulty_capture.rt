@@ -3,7 +3,7 @@ ghost use Rattle.std.specs.Prelude.{◌≡◌, ◌≢◌, ℕ, IfSome, IsTrue, f
 ghost use Rattle.racl_io.specs.Faults.{IsFaultOfCapture};
 ghost use Rattle.racl_io.specs.Writings.{front_at};
 
-use crate::input_files::name_at;
+use crate::input_files::input_name_at;
 use crate::named_reader::{Reader, bytes_of, opened};
 use packet_view::check_capture;
 use racl_io::{Fault, Joined};
@@ -45,7 +45,7 @@ pub fn faulty(
 {
     // Of more captures two are of one interface, which is told before.
     for place in 0..256 {
-        let name = name_at(origin, place)?;
+        let name = input_name_at(origin, place)?;
         if has_fault(reader.front(place)?, fault) {
             return Some(place);
         }

@@ -56,7 +56,7 @@ fn pushed_all(
 }
 
 /// The name of the input's file that the policy comes from, or `-` of standard input.
-pub fn policy_name<'a>(origin: &Origin<'a>) -> &'a str
+pub fn input_policy_name<'a>(origin: &Origin<'a>) -> &'a str
     ensures { result.now ≡ policy_of (origin_facts origin.now) }
 {
     match origin {
@@ -67,7 +67,7 @@ pub fn policy_name<'a>(origin: &Origin<'a>) -> &'a str
 }
 
 /// The name of the capture file at this place among the input's files, from 0; None where the origin has no such file.
-pub fn name_at<'a>(origin: &Origin<'a>, place: usize) -> Option<&'a str>
+pub fn input_name_at<'a>(origin: &Origin<'a>, place: usize) -> Option<&'a str>
     ensures { text_behind result ≡ named.name_at (origin_facts origin.now) place }
 {
     match origin {
@@ -77,8 +77,8 @@ pub fn name_at<'a>(origin: &Origin<'a>, place: usize) -> Option<&'a str>
     }
 }
 
-/// The interface of the capture file at this place among the input's files, as of `name_at`.
-pub fn interface_at(origin: &Origin<'_>, place: usize) -> Option<u8>
+/// The interface of the capture file at this place among the input's files, as of `input_name_at`.
+pub fn input_interface_at(origin: &Origin<'_>, place: usize) -> Option<u8>
     ensures { result ≡ named.interface_at (origin_facts origin.now) place }
 {
     match origin {
@@ -91,7 +91,7 @@ pub fn interface_at(origin: &Origin<'_>, place: usize) -> Option<u8>
 // Opens the files of an input in their order, from the policy on. Where one can't be opened that is told, and None is
 // answered.
 fn opened_parts(rt: &HostRuntime, alloc: Global, origin: &Origin<'_>) -> io::Result<Option<Parts>> {
-    let Some(policy) = opened_or_told(rt, policy_name(origin))? else {
+    let Some(policy) = opened_or_told(rt, input_policy_name(origin))? else {
         return Ok(None);
     };
     let mut captures = Vec::new(alloc);

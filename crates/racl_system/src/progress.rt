@@ -17,7 +17,7 @@ pub struct Progress<'a> {
 }
 
 // The moment so many seconds from now, at which progress is to be shown.
-fn in_seconds(rt: &HostRuntime, seconds: u64) -> Option<Instant> {
+fn progress_due_in(rt: &HostRuntime, seconds: u64) -> Option<Instant> {
     match Instant::now(rt) {
         Ok(now) => now.checked_add(Duration::from_secs(seconds)),
         Err(_) => None,
@@ -28,7 +28,7 @@ impl<'a> Progress<'a> {
     /// Nothing was read. No clause says when the line is written, since that is the clock's and the terminal's.
     pub fn new(rt: &'a HostRuntime) -> Progress<'a> {
         let due = if rt.stderr().is_terminal() {
-            in_seconds(rt, 2)
+            progress_due_in(rt, 2)
         } else {
             None
         };
@@ -56,7 +56,7 @@ impl<'a> Progress<'a> {
                 .rt
                 .eprint(format_args!("\rracl: {mebibytes} MiB are read"));
             self.is_shown = true;
-            self.due = in_seconds(self.rt, 1);
+            self.due = progress_due_in(self.rt, 1);
         }
     }
 

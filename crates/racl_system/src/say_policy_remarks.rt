@@ -12,7 +12,7 @@ pub struct Seen<'a> {
 }
 
 // The policy on which remarks are said, where its text is right. None where it isn't, and where memory runs out.
-fn checked(alloc: Global, text: &[u8]) -> Option<Checked<'_>> {
+fn policy_for_remarks(alloc: Global, text: &[u8]) -> Option<Checked<'_>> {
     match check_policy(alloc, text) {
         Ok(checked) if checked.complaints.is_empty() => Some(checked),
         _ => None,
@@ -23,7 +23,7 @@ fn checked(alloc: Global, text: &[u8]) -> Option<Checked<'_>> {
 /// text that is no policy, where memory runs out, or where standard error fails: the report stands. No clause can say
 /// what standard error gets: `checks/run` looks at it.
 pub fn say_unlooked(rt: &impl Eprint, alloc: Global, name: &str, text: &[u8]) {
-    let Some(checked) = checked(alloc, text) else {
+    let Some(checked) = policy_for_remarks(alloc, text) else {
         return;
     };
     for section in &checked.policy.sections {
@@ -36,7 +36,7 @@ pub fn say_unlooked(rt: &impl Eprint, alloc: Global, name: &str, text: &[u8]) {
 /// Says a remark on the policy for each capture whose first frames have nothing to do with the own address of their
 /// interface. Nothing is said where `say_unlooked` could say nothing. No clause says it, as of `say_unlooked`.
 pub fn say_foreign(rt: &impl Eprint, alloc: Global, name: &str, text: &[u8], seen: &[Seen<'_>]) {
-    let Some(checked) = checked(alloc, text) else {
+    let Some(checked) = policy_for_remarks(alloc, text) else {
         return;
     };
     for section in &checked.policy.sections {

@@ -9,8 +9,8 @@ use Rattle.packet_view.specs.declared.tuple.Fields.{Fields}
 use Rattle.packet_view.specs.declared.tuple.Fields.TheVariants.{Absent, Icmp, Ports, Tcp}
 use Rattle.flow_filter.specs.declared.verdict.Verdict.{Verdict}
 use Rattle.flow_filter.specs.declared.verdict.Verdict.TheVariants as verdict
-use Rattle.racl_io.specs.declared.report_totals.Captured.{Captured}
-use Rattle.racl_io.specs.declared.report_totals.Totals.{Totals}
+use Rattle.racl_io.specs.declared.totals_and_truncation.Captured.{Captured}
+use Rattle.racl_io.specs.declared.totals_and_truncation.Totals.{Totals}
 use Rattle.session_state.specs.Sessions.{SessionFacts}
 use Rattle.session_state.specs.declared.flow_end.End.{End}
 use Rattle.session_state.specs.declared.timeouts.Timeouts.{Timeouts}

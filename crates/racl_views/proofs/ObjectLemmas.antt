@@ -1,7 +1,7 @@
 -- Lines of objects, one behind the other.
 use Rattle.std.proofs.Common.{◌≡◌, ◌∙◌, ◌++◌, ◌+◌, ℕ, List, [], ◌∷◌, append_assoc, ap, ap₂, drop, refl, sym, take}
 use Rattle.json.specs.Json.{Json}
-use Rattle.racl_io.specs.declared.report_totals.Captured.{Captured}
+use Rattle.racl_io.specs.declared.totals_and_truncation.Captured.{Captured}
 use Rattle.racl_views.specs.Entries.{EntryFacts}
 use Rattle.racl_views.specs.Objects.{object_line, object_lines}
 use Rattle.racl_views.specs.RunEntries.{captures_told, told_from}

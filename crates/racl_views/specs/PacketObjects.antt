@@ -10,8 +10,8 @@ use Rattle.packet_view.specs.declared.tuple.Fields.TheVariants.{Absent, Icmp, Po
 use Rattle.flow_filter.specs.Verdicts.{passes}
 use Rattle.flow_filter.specs.declared.verdict.Verdict.{Verdict}
 use Rattle.flow_filter.specs.declared.verdict.Verdict.TheVariants as verdict
-use Rattle.racl_io.specs.declared.report_totals.Captured.{Captured}
-use Rattle.racl_io.specs.declared.report_totals.Totals.{Totals}
+use Rattle.racl_io.specs.declared.totals_and_truncation.Captured.{Captured}
+use Rattle.racl_io.specs.declared.totals_and_truncation.Totals.{Totals}
 use Rattle.racl_io.specs.declared.shown_lines_report.Shown.{Shown}
 use Rattle.racl_io.specs.Reports.{totals_of}
 use Rattle.racl_io.specs.ShownReports.{is_shown}

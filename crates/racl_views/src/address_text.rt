@@ -38,7 +38,7 @@ fn leading_zeros(group: u16) -> usize
 
 // A group of an IPv6 address as text: its hexadecimal digits without leading zeros.
 #[tactic(auto, unfolding(std::specs::Net::Text::hex))]
-fn push_group(piece: &mut Piece, group: u16)
+fn push_address_group(piece: &mut Piece, group: u16)
     requires { length piece.old + 4 ≤ 262144 }
     ensures text { piece.new ≡ piece.old ++ hex group }
     ensures short { length piece.new ≤ length piece.old + 4 }
@@ -53,16 +53,16 @@ fn push_group(piece: &mut Piece, group: u16)
 }
 
 // Groups of an IPv6 address as text, with colons between them.
-fn push_groups(piece: &mut Piece, groups: &[u16])
+fn push_address_groups(piece: &mut Piece, groups: &[u16])
     requires { length piece.old + 5 * length groups.now ≤ 262144 }
     ensures text { piece.new ≡ piece.old ++ groups_text groups.now }
     ensures short { length piece.new ≤ length piece.old + 5 * length groups.now }
 {
     if let [first, rest @ ..] = groups {
-        push_group(piece, *first);
+        push_address_group(piece, *first);
         'others: for group in rest {
             piece.push(b":");
-            push_group(piece, *group);
+            push_address_group(piece, *group);
         }
     }
 }
@@ -96,11 +96,11 @@ fn push_shortened(piece: &mut Piece, groups: &[u16])
 {
     let (start, len) = longest_zero_run(groups);
     if len > 1 {
-        push_groups(piece, &groups[..start]);
+        push_address_groups(piece, &groups[..start]);
         piece.push(b"::");
-        push_groups(piece, &groups[start + len..]);
+        push_address_groups(piece, &groups[start + len..]);
     } else {
-        push_groups(piece, groups);
+        push_address_groups(piece, groups);
     }
 }
 

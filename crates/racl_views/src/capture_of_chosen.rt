@@ -18,7 +18,7 @@ use racl_io::{Fault, Sink, write_all};
 
 // The bytes of a capture's record at the front, which are written where its packet is chosen, and those behind it; None
 // where no whole one is there.
-fn first_record(bytes: &[u8], order: Order) -> Option<(&[u8], &[u8])>
+fn record_to_choose(bytes: &[u8], order: Order) -> Option<(&[u8], &[u8])>
     ensures some { IfSome result (λ parts. (facts : RecordFacts) × IsRecordOf order parts.0.now facts × (bytes.now ≡ parts.0.now ++ parts.1.now)) }
     ensures none { IfNone result (HasNoRecord order bytes.now) }
 {
@@ -42,7 +42,7 @@ fn put_chosen<W: Sink>(
 {
     let mut left = records;
     'verdicts: for verdict in verdicts {
-        let Some((record, rest)) = first_record(left, order) else {
+        let Some((record, rest)) = record_to_choose(left, order) else {
             return Ok(());
         };
         put_where(writer, batch, chosen.takes(*verdict), record)?;

@@ -14,7 +14,7 @@ use flow_filter::Verdict;
 use racl_io::{Numeral, Piece, push_name};
 
 // The words of an explained line that say the verdict on its packet.
-fn push_verdict(piece: &mut Piece, verdict: Verdict)
+fn push_explained_verdict(piece: &mut Piece, verdict: Verdict)
     requires { length piece.old + 42 ≤ 262144 }
     ensures text { piece.new ≡ piece.old ++ text_of verdict }
     ensures short { length piece.new ≤ length piece.old + 42 }
@@ -38,7 +38,7 @@ fn push_verdict(piece: &mut Piece, verdict: Verdict)
 }
 
 // What an explained line begins with: the report's line of the packet, up to its line feed.
-fn push_head(piece: &mut Piece, named: Option<u8>, number: u64, verdict: Verdict)
+fn push_explained_head(piece: &mut Piece, named: Option<u8>, number: u64, verdict: Verdict)
     requires { length piece.old + 95 ≤ 262144 }
     ensures text { piece.new ≡ piece.old ++ head_of named number verdict }
     ensures short { length piece.new ≤ length piece.old + 95 }
@@ -46,11 +46,11 @@ fn push_head(piece: &mut Piece, named: Option<u8>, number: u64, verdict: Verdict
     Numeral::of(number).push(piece);
     piece.push(b" ");
     push_name(piece, named);
-    push_verdict(piece, verdict);
+    push_explained_verdict(piece, verdict);
 }
 
 // What an explained line ends with, where a rule decided: the line of this rule in the policy, and its text.
-fn push_decided<'a>(piece: &mut Piece, texts: &'a [RuleText<'a>], line: u64)
+fn push_explained_rule<'a>(piece: &mut Piece, texts: &'a [RuleText<'a>], line: u64)
     requires { length piece.old + 233 ≤ 262144 }
     ensures text { piece.new ≡ piece.old ++ decided_text (map shown_of texts.now) line }
     ensures short { length piece.new ≤ length piece.old + 233 }
@@ -69,9 +69,9 @@ pub fn push_explained<'a>(piece: &mut Piece, texts: &'a [RuleText<'a>], place: P
     ensures text { piece.new ≡ piece.old ++ explained_line (map shown_of texts.now) place.named place.number (entry_facts entry.now) }
     ensures short { length piece.new ≤ length piece.old + 742 }
 {
-    push_head(piece, place.named, place.number, entry.verdict);
+    push_explained_head(piece, place.named, place.number, entry.verdict);
     push_seen(piece, entry);
     push_carried(piece, &entry.frame);
-    push_decided(piece, texts, entry.line);
+    push_explained_rule(piece, texts, entry.line);
     piece.push(b"\n");
 }

@@ -15,7 +15,7 @@ ghost use Rattle.racl_views.specs.inner.Counts.{Count};
 use crate::counting_reasons::count_reason;
 use crate::hit::Hit;
 use crate::json_fields::{add_number, add_string, add_way, begin, end};
-use crate::line_text::{pass_on, push_numbered};
+use crate::line_text::{append_line_text, push_numbered};
 use crate::place_of_rule::number_at;
 use crate::reason_without_rule::Reason;
 use crate::rule_counts::count_packets;
@@ -82,7 +82,7 @@ fn push_reason(piece: &mut Piece, reason: Reason, count: u64)
 }
 
 // The line of a count among the hits.
-fn push_count(piece: &mut Piece, word: &'static [u8], count: u64)
+fn push_hit_count(piece: &mut Piece, word: &'static [u8], count: u64)
     requires { length piece.old + length word.now + 25 ≤ 262144 }
     ensures { piece.new ≡ piece.old ++ (numbered word.now count ++ codes "\n") }
 {
@@ -98,9 +98,9 @@ fn push_hit(piece: &mut Piece, hit: Hit)
     match hit {
         Hit::Rule(at, count) => push_rule(piece, at, count),
         Hit::Unruled(reason, count) => push_reason(piece, reason, count),
-        Hit::Entered(count) => push_count(piece, b"sessions entered ", count),
-        Hit::Matched(count) => push_count(piece, b"sessions matched ", count),
-        Hit::Expired(count) => push_count(piece, b"sessions expired ", count),
+        Hit::Entered(count) => push_hit_count(piece, b"sessions entered ", count),
+        Hit::Matched(count) => push_hit_count(piece, b"sessions matched ", count),
+        Hit::Expired(count) => push_hit_count(piece, b"sessions expired ", count),
     }
 }
 
@@ -128,7 +128,7 @@ fn reason_object(text: Vec<u8>, reason: Reason, count: u64) -> Result<Vec<u8>, A
 }
 
 // The object of a count among the hits, behind a text.
-fn count_object(text: Vec<u8>, key: &str, count: u64) -> Result<Vec<u8>, AllocError>
+fn hit_count_object(text: Vec<u8>, key: &str, count: u64) -> Result<Vec<u8>, AllocError>
     ensures { IfOk result (λ new. new.items ≡ text.items ++ object_line (object_of (number key.now count ∷ []))) }
 {
     let mut object = begin(&text)?;
@@ -143,9 +143,9 @@ fn hit_object(text: Vec<u8>, hit: Hit) -> Result<Vec<u8>, AllocError>
     match hit {
         Hit::Rule(at, count) => rule_object(text, at, count),
         Hit::Unruled(reason, count) => reason_object(text, reason, count),
-        Hit::Entered(count) => count_object(text, "sessions_entered", count),
-        Hit::Matched(count) => count_object(text, "sessions_matched", count),
-        Hit::Expired(count) => count_object(text, "sessions_expired", count),
+        Hit::Entered(count) => hit_count_object(text, "sessions_entered", count),
+        Hit::Matched(count) => hit_count_object(text, "sessions_matched", count),
+        Hit::Expired(count) => hit_count_object(text, "sessions_expired", count),
     }
 }
 
@@ -157,7 +157,7 @@ fn tell_hit(text: Vec<u8>, piece: &mut Piece, view: View, hit: Hit) -> Result<Ve
         View::Text => {
             piece.clear();
             push_hit(piece, hit);
-            pass_on(text, piece)
+            append_line_text(text, piece)
         }
         View::Json => hit_object(text, hit),
     }
@@ -176,7 +176,11 @@ fn tell_hits(alloc: Global, view: View, hits: &[Hit]) -> Result<Vec<u8>, AllocEr
 }
 
 // Hits that are told as text or JSON: those of rules behind others, by the counts of all.
-fn push_rule_hits(hits: &mut Vec<Hit>, counts: &[u64], rules: &[RuleLine]) -> Result<(), AllocError>
+fn push_rule_hits_to_tell(
+    hits: &mut Vec<Hit>,
+    counts: &[u64],
+    rules: &[RuleLine],
+) -> Result<(), AllocError>
     ensures { OnOk result ((deciding : List (Option RuleName)) → Count counts.now deciding
         → hits.new.items ≡ hits.old.items ++ rule_hits deciding rules.now) }
 {
@@ -187,31 +191,31 @@ fn push_rule_hits(hits: &mut Vec<Hit>, counts: &[u64], rules: &[RuleLine]) -> Re
 }
 
 // A hit that is told as text or JSON: that of a reason that is no rule, by the verdicts that have it.
-fn unruled(reason: Reason, verdicts: &[Verdict]) -> Hit
+fn reason_hit_to_tell(reason: Reason, verdicts: &[Verdict]) -> Hit
     ensures { result ≡ Unruled reason (count_by (has_reason reason) verdicts.now) }
 {
     Hit::Unruled(reason, count_reason(reason, verdicts))
 }
 
 // Hits that are told as text or JSON: those of the reasons that are no rules, behind others.
-fn push_reason_hits(hits: &mut Vec<Hit>, verdicts: &[Verdict]) -> Result<(), AllocError>
+fn push_reason_hits_to_tell(hits: &mut Vec<Hit>, verdicts: &[Verdict]) -> Result<(), AllocError>
     ensures { OnOk result (hits.new.items ≡ hits.old.items ++ reason_hits verdicts.now) }
 {
     hits.extend_from_slice(&[
-        unruled(Reason::Session, verdicts),
-        unruled(Reason::ByDefault, verdicts),
-        unruled(Reason::Full, verdicts),
-        unruled(Reason::Worn, verdicts),
-        unruled(Reason::NoPages, verdicts),
-        unruled(Reason::NotIp, verdicts),
-        unruled(Reason::Malformed, verdicts),
-        unruled(Reason::Short, verdicts),
+        reason_hit_to_tell(Reason::Session, verdicts),
+        reason_hit_to_tell(Reason::ByDefault, verdicts),
+        reason_hit_to_tell(Reason::Full, verdicts),
+        reason_hit_to_tell(Reason::Worn, verdicts),
+        reason_hit_to_tell(Reason::NoPages, verdicts),
+        reason_hit_to_tell(Reason::NotIp, verdicts),
+        reason_hit_to_tell(Reason::Malformed, verdicts),
+        reason_hit_to_tell(Reason::Short, verdicts),
     ])?;
     Ok(())
 }
 
 // Hits that are told as text or JSON: those of sessions, by their counts, behind others.
-fn push_session_hits(hits: &mut Vec<Hit>, counts: SessionCounts) -> Result<(), AllocError>
+fn push_session_hits_to_tell(hits: &mut Vec<Hit>, counts: SessionCounts) -> Result<(), AllocError>
     ensures { OnOk result (hits.new.items ≡ hits.old.items ++ session_hits counts) }
 {
     hits.extend_from_slice(&[
@@ -223,7 +227,7 @@ fn push_session_hits(hits: &mut Vec<Hit>, counts: SessionCounts) -> Result<(), A
 }
 
 // The hits of rules, by the counts of their packets, of other verdicts, and of sessions.
-fn hits_of(
+fn hits_to_tell(
     alloc: Global,
     rules: &[RuleLine],
     counts: &[u64],
@@ -234,9 +238,9 @@ fn hits_of(
         → hits.items ≡ rule_hits deciding rules.now ++ (reason_hits verdicts.now ++ session_hits sessions)) }
 {
     let mut hits = Vec::new(alloc);
-    push_rule_hits(&mut hits, counts, rules)?;
-    push_reason_hits(&mut hits, verdicts)?;
-    push_session_hits(&mut hits, sessions)?;
+    push_rule_hits_to_tell(&mut hits, counts, rules)?;
+    push_reason_hits_to_tell(&mut hits, verdicts)?;
+    push_session_hits_to_tell(&mut hits, sessions)?;
     Ok(hits)
 }
 
@@ -257,7 +261,7 @@ pub fn hits_text(
     let rules = numbered_rules(alloc, run.text)?;
     let counts = count_packets(alloc, run.policy, run.packets, run.verdicts)?;
     let sessions = count_sessions(times, run, stored);
-    let hits = hits_of(alloc, &rules, &counts, run.verdicts, sessions)?;
+    let hits = hits_to_tell(alloc, &rules, &counts, run.verdicts, sessions)?;
     let told = tell_hits(alloc, view, &hits)?;
     Ok(told)
 }

@@ -103,7 +103,7 @@ fn add_dest_port(object: &mut Writer, port: u16) -> Result<(), AllocError>
 }
 
 // The type and the code of ICMP, in a packet's object of JSON.
-fn add_icmp(object: &mut Writer, kind: u8, code: u8) -> Result<(), AllocError>
+fn add_icmp_to_object(object: &mut Writer, kind: u8, code: u8) -> Result<(), AllocError>
     ensures { OnOk result (HasAdded object.old object.new (number (codes "type") kind ∷ number (codes "code") code ∷ [])) }
 {
     add_number(object, "type", u64::from(kind))?;
@@ -112,7 +112,7 @@ fn add_icmp(object: &mut Writer, kind: u8, code: u8) -> Result<(), AllocError>
 }
 
 // The port of the destination and the flags of TCP in the object of a packet.
-fn add_tcp(object: &mut Writer, to: u16, flags: u8) -> Result<(), AllocError>
+fn add_tcp_to_object(object: &mut Writer, to: u16, flags: u8) -> Result<(), AllocError>
     ensures { OnOk result (HasAdded object.old object.new (number (codes "destination_port") to ∷ number (codes "flags") flags ∷ [])) }
 {
     add_dest_port(object, to)?;
@@ -127,8 +127,8 @@ fn add_dest_fields(object: &mut Writer, fields: Fields) -> Result<(), AllocError
     match fields {
         Fields::Absent => Ok(()),
         Fields::Ports { to, .. } => add_dest_port(object, to),
-        Fields::Tcp { to, flags, .. } => add_tcp(object, to, flags),
-        Fields::Icmp { kind, code } => add_icmp(object, kind, code),
+        Fields::Tcp { to, flags, .. } => add_tcp_to_object(object, to, flags),
+        Fields::Icmp { kind, code } => add_icmp_to_object(object, kind, code),
     }
 }
 

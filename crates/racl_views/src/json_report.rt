@@ -13,7 +13,7 @@ use crate::json_objects::{push_packet, push_totals, push_truncation};
 use crate::packet_entry::entry_of;
 use crate::packet_telling::Telling;
 use crate::passed_count::passed;
-use crate::rule_lines_by_place::rule_table;
+use crate::rule_lines_by_place::rule_table_by_place;
 use crate::run_and_verdicts::Run;
 use flow_filter::Verdict;
 use packet_view::{Packet, Packets};
@@ -75,7 +75,7 @@ fn tell_truncation(text: Vec<u8>, captured: &Captured) -> Result<Vec<u8>, AllocE
 }
 
 // The objects of the report in JSON on the captures, one capture after the other.
-fn tell_captures(
+fn tell_captures_in_json(
     alloc: Global,
     telling: Telling<'_, '_>,
     run: Run<'_>,
@@ -114,13 +114,13 @@ fn tell_run(alloc: Global, run: Run<'_>, totals: &Totals) -> Result<Vec<u8>, All
     ensures { IfOk result (λ told. IsPolicyText run.entry.text.now (policy_facts run.entry.policy.now)
         → totals.now ≡ totals_of run.entry.verdicts.now run.entry.captures.now → IsToldInObjects (run_facts run.entry) told.items) }
 {
-    let table = rule_table(alloc, run.text)?;
+    let table = rule_table_by_place(alloc, run.text)?;
     let telling = Telling {
         shown: run.shown,
         policy: run.policy,
         table: &table,
     };
-    let told = tell_captures(alloc, telling, run)?;
+    let told = tell_captures_in_json(alloc, telling, run)?;
     let told = push_totals(told, totals)?;
     Ok(told)
 }

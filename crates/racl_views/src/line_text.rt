@@ -57,7 +57,7 @@ pub fn push_line_flags(piece: &mut Piece, flags: u8)
 }
 
 /// Puts the line that is in the piece behind the text of those before it. An `Err` says that memory ran out.
-pub fn pass_on(text: Vec<u8>, piece: &Piece) -> Result<Vec<u8>, AllocError>
+pub fn append_line_text(text: Vec<u8>, piece: &Piece) -> Result<Vec<u8>, AllocError>
     ensures { IfOk result (λ new. new.items ≡ text.items ++ piece.now) }
 {
     let mut text = text;

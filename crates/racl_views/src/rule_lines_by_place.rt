@@ -43,7 +43,7 @@ fn lines_at_places(alloc: Global, rules: &[RuleLine]) -> Result<Vec<u64>, AllocE
 }
 
 /// The lines of a policy's rules by their places, with what is shown of the rules. An `Err` says that memory ran out.
-pub fn rule_table(alloc: Global, text: &[u8]) -> Result<RuleTable<'_>, AllocError>
+pub fn rule_table_by_place(alloc: Global, text: &[u8]) -> Result<RuleTable<'_>, AllocError>
     ensures { IfOk result (IsTableOf text.now) }
 {
     let rules = numbered_rules(alloc, text)?;

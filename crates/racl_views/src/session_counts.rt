@@ -31,7 +31,7 @@ fn is_entry(verdict: Verdict) -> bool
 }
 
 // How many packets entered a session, by their verdicts.
-fn count_entries(verdicts: &[Verdict]) -> u64
+fn count_session_entries(verdicts: &[Verdict]) -> u64
     ensures { result ≡ count_by Hits.is_entry verdicts.now }
 {
     let mut count = 0;
@@ -44,7 +44,7 @@ fn count_entries(verdicts: &[Verdict]) -> u64
 }
 
 // The latest second of any packet, at which the sessions that are live are counted.
-fn latest_second(packets: Packets<'_>) -> u32
+fn session_count_second(packets: Packets<'_>) -> u32
     ensures { result ≡ Hits.latest_second (remaining packets.entry) }
 {
     let mut left = packets;
@@ -56,7 +56,7 @@ fn latest_second(packets: Packets<'_>) -> u32
 }
 
 // Whether the session in this word is counted as live at a moment.
-fn is_live(times: &Timeouts, moment: u32, word: u64) -> bool
+fn is_counted_live(times: &Timeouts, moment: u32, word: u64) -> bool
     ensures { result ≡ not (is_expired_at times.now moment word) }
 {
     match Session::from_word(word) {
@@ -66,12 +66,16 @@ fn is_live(times: &Timeouts, moment: u32, word: u64) -> bool
 }
 
 // How many of these sessions are live at a moment.
-fn count_live<const N: usize>(times: &Timeouts, moment: u32, pairs: &[([u64; N], u64)]) -> u64
+fn count_live_sessions<const N: usize>(
+    times: &Timeouts,
+    moment: u32,
+    pairs: &[([u64; N], u64)],
+) -> u64
     ensures { result ≡ live_among times.now moment pairs.now }
 {
     let mut count = 0;
     'pairs: for pair in pairs {
-        if is_live(times, moment, pair.1) {
+        if is_counted_live(times, moment, pair.1) {
             count += 1;
         }
     }
@@ -83,10 +87,10 @@ fn count_live<const N: usize>(times: &Timeouts, moment: u32, pairs: &[([u64; N],
 pub fn count_sessions(times: Timeouts, run: Run<'_>, stored: &StoredPairs) -> SessionCounts
     ensures { result ≡ session_counts times (run_facts run.entry) (stored_facts stored.now) }
 {
-    let latest = latest_second(run.packets);
-    let entered = count_entries(run.verdicts);
-    let four = count_live(&times, latest, &stored.four);
-    let six = count_live(&times, latest, &stored.six);
+    let latest = session_count_second(run.packets);
+    let entered = count_session_entries(run.verdicts);
+    let four = count_live_sessions(&times, latest, &stored.four);
+    let six = count_live_sessions(&times, latest, &stored.six);
     SessionCounts {
         entered,
         matched: count_reason(Reason::Session, run.verdicts),

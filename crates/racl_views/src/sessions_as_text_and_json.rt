@@ -14,7 +14,7 @@ use crate::address_text::push_address;
 use crate::flow_key::{four_flow, six_flow};
 use crate::json_fields::{add_address, add_number, begin, end};
 use crate::line_room::Room;
-use crate::line_text::{pass_on, push_line_flags, push_line_protocol, push_numbered};
+use crate::line_text::{append_line_text, push_line_flags, push_line_protocol, push_numbered};
 use crate::stored_flow::StoredFlow;
 use crate::stored_flow_end::FlowEnd;
 use crate::stored_pairs::StoredPairs;
@@ -36,7 +36,7 @@ fn push_port(piece: &mut Piece, proto: u8, port: u16)
 }
 
 // The flags that are kept of an end in the text of a session, where the protocol has flags.
-fn push_end_flags(piece: &mut Piece, proto: u8, flags: u8)
+fn push_session_end_flags(piece: &mut Piece, proto: u8, flags: u8)
     requires { length piece.old + 9 ≤ 262144 }
     ensures text { piece.new ≡ piece.old ++ line.end_flags proto flags }
     ensures short { length piece.new ≤ length piece.old + 9 }
@@ -47,7 +47,7 @@ fn push_end_flags(piece: &mut Piece, proto: u8, flags: u8)
 }
 
 // The address, port and flags of an end in the text of a session.
-fn push_flow_end(piece: &mut Piece, flow: &StoredFlow, end: FlowEnd, flags: u8)
+fn push_session_end(piece: &mut Piece, flow: &StoredFlow, end: FlowEnd, flags: u8)
     requires fits { end.address < address_limit flow.now.family }
     requires room { length piece.old + 145 ≤ 262144 }
     ensures text { piece.new ≡ piece.old ++ line.end_told (flow_facts flow.now) (end_facts end) flags }
@@ -55,7 +55,7 @@ fn push_flow_end(piece: &mut Piece, flow: &StoredFlow, end: FlowEnd, flags: u8)
 {
     push_address(piece, flow.family, end.address);
     push_port(piece, flow.proto, end.port);
-    push_end_flags(piece, flow.proto, flags);
+    push_session_end_flags(piece, flow.proto, flags);
 }
 
 // The interface and the protocol of a flow in the text of its session.
@@ -69,7 +69,7 @@ fn push_flow(piece: &mut Piece, flow: &StoredFlow)
 }
 
 // The last second in which a session is live, as it is told in lines and objects.
-fn live_until(times: &Timeouts, session: &Session) -> u64
+fn session_until_to_tell(times: &Timeouts, session: &Session) -> u64
     ensures { result ≡ Sessions.live_until session.now times.now }
 {
     u64::from(session.last()) + u64::from(session.timeout(times))
@@ -82,7 +82,7 @@ fn push_seconds(piece: &mut Piece, times: &Timeouts, session: &Session)
     ensures short { length piece.new ≤ length piece.old + 62 }
 {
     push_numbered(piece, b" last ", u64::from(session.last()));
-    push_numbered(piece, b" until ", live_until(times, session));
+    push_numbered(piece, b" until ", session_until_to_tell(times, session));
     piece.push(b"\n");
 }
 
@@ -92,9 +92,9 @@ fn push_session(piece: &mut Piece, times: &Timeouts, flow: &StoredFlow, session:
 {
     push_flow(piece, flow);
     piece.push(b" ");
-    push_flow_end(piece, flow, flow.first, session.flags_seen(0));
+    push_session_end(piece, flow, flow.first, session.flags_seen(0));
     piece.push(b" and ");
-    push_flow_end(piece, flow, flow.second, session.flags_seen(1));
+    push_session_end(piece, flow, flow.second, session.flags_seen(1));
     push_seconds(piece, times, session);
 }
 
@@ -112,7 +112,7 @@ fn add_end_fields(object: &mut Writer, proto: u8, end: FlowEnd, flags: u8) -> Re
 }
 
 // The address, port and flags of an end in the object of a session.
-fn write_end(
+fn write_session_end(
     object: &mut Writer,
     address: &mut String,
     flow: &StoredFlow,
@@ -141,8 +141,8 @@ fn add_ends(
 {
     object.key("ends")?;
     object.begin_array()?;
-    write_end(object, address, flow, flow.first, session.flags_seen(0))?;
-    write_end(object, address, flow, flow.second, session.flags_seen(1))?;
+    write_session_end(object, address, flow, flow.first, session.flags_seen(0))?;
+    write_session_end(object, address, flow, flow.second, session.flags_seen(1))?;
     object.end_array()?;
     Ok(())
 }
@@ -162,7 +162,7 @@ fn session_object(
     add_number(&mut object, "protocol", u64::from(flow.proto))?;
     add_ends(&mut object, address, flow, session)?;
     add_number(&mut object, "last", u64::from(session.last()))?;
-    add_number(&mut object, "until", live_until(times, session))?;
+    add_number(&mut object, "until", session_until_to_tell(times, session))?;
     end(object, text)
 }
 
@@ -181,7 +181,7 @@ fn tell_session(
         View::Text => {
             room.piece.clear();
             push_session(&mut room.piece, times, flow, session);
-            pass_on(text, &room.piece)
+            append_line_text(text, &room.piece)
         }
         View::Json => session_object(text, &mut room.address, times, flow, session),
     }

@@ -13,7 +13,7 @@ use crate::explained_line::push_explained;
 use crate::packet_entry::{Place, entry_of};
 use crate::packet_telling::Telling;
 use crate::passed_count::passed;
-use crate::rule_lines_by_place::rule_table;
+use crate::rule_lines_by_place::rule_table_by_place;
 use crate::run_and_verdicts::Run;
 use flow_filter::Verdict;
 use packet_view::{Packet, Packets};
@@ -27,7 +27,7 @@ use std::alloc::Global;
 const FULL: usize = 261_402;
 
 // Sees that the piece of the report has room for one more explained line.
-fn make_room<W: Sink>(writer: &mut W, piece: &mut Piece) -> Result<(), Fault>
+fn make_room_for_explained<W: Sink>(writer: &mut W, piece: &mut Piece) -> Result<(), Fault>
     requires { W.failures writer.old < 2 ^ 64 - 1 }
     ensures pushed { HasPushed W.bytes W.failures writer.old writer.new piece.old piece.new [] result }
     ensures room { OnOk result (length piece.new + 742 ≤ 262144) }
@@ -57,7 +57,7 @@ fn tell<W: Sink>(
     if !has_line(telling.shown, verdict) {
         return Ok(());
     }
-    make_room(writer, piece)?;
+    make_room_for_explained(writer, piece)?;
     let entry = entry_of(telling.policy, &telling.table.lines, packet, verdict);
     push_explained(piece, &telling.table.texts, place, &entry);
     Ok(())
@@ -93,7 +93,7 @@ fn write_packets<W: Sink>(
 }
 
 // Writes the explained lines on the captures, one after the other.
-fn write_captures<W: Sink>(
+fn write_explained_captures<W: Sink>(
     writer: &mut W,
     piece: &mut Piece,
     telling: Telling<'_, '_>,
@@ -138,7 +138,7 @@ fn write_run<W: Sink>(
         (totals_of run.entry.verdicts.now run.entry.captures.now) result }
 {
     let mut piece = Piece::new(alloc)?;
-    write_captures(writer, &mut piece, telling, run)?;
+    write_explained_captures(writer, &mut piece, telling, run)?;
     let totals = totals_on(passed(run.verdicts), run.verdicts, run.captures);
     write_totals(writer, &mut piece, &totals)?;
     Ok(totals)
@@ -156,7 +156,7 @@ pub fn write_explained<W: Sink>(
     ensures { (told : List ℕ) × (IsPolicyText run.entry.text.now (policy_facts run.entry.policy.now) → IsExplained (run_facts run.entry) told)
         × Writes W.bytes W.failures writer.old writer.new told (totals_of run.entry.verdicts.now run.entry.captures.now) result }
 {
-    match rule_table(alloc, run.text) {
+    match rule_table_by_place(alloc, run.text) {
         Ok(table) => {
             let telling = Telling {
                 shown: run.shown,

@@ -26,28 +26,28 @@ fn main(rt: HostRuntime) -> ExitCode {
 // Whether the probe's table was made, filled, and renewed and closed once its callers were joined: memory was refused
 // to no call twice.
 fn made_and_closed(rt: &HostRuntime) -> io::Result<bool> {
-    let Some((table, caller)) = make(rt)? else {
+    let Some((table, caller)) = make_probe_table(rt)? else {
         return Ok(false);
     };
-    let caller = fill(rt, &table, caller)?;
+    let caller = fill_probe_table(rt, &table, caller)?;
     let Some((first, second)) = split_twice(rt, &table, caller)? else {
         return Ok(false);
     };
-    let Err((table, first)) = close(rt, table, first)? else {
+    let Err((table, first)) = close_probe_table(rt, table, first)? else {
         return Ok(false);
     };
     let both = show_caller(rt, &table, table.join(first, second))?;
     let Some((table, caller)) = open_again(rt, table, both)? else {
         return Ok(false);
     };
-    match close(rt, table, caller)? {
+    match close_probe_table(rt, table, caller)? {
         Ok(()) => Ok(true),
-        Err((table, caller)) => Ok(close(rt, table, caller)?.is_ok()),
+        Err((table, caller)) => Ok(close_probe_table(rt, table, caller)?.is_ok()),
     }
 }
 
 // The probe's new table and its caller, at the second attempt where memory was refused to the first.
-fn make(rt: &HostRuntime) -> io::Result<Option<(Sessions<Small>, Caller<Small>)>>
+fn make_probe_table(rt: &HostRuntime) -> io::Result<Option<(Sessions<Small>, Caller<Small>)>>
     ensures own { IfOk result (λ r. IfSome r (λ t. t.1.seat.row ≡ t.0.row)) }
     ensures free { IfOk result (λ r. IfSome r (λ t. t.1.seat.view.holds ≡ nothing_held)) }
 {
@@ -62,7 +62,7 @@ fn make(rt: &HostRuntime) -> io::Result<Option<(Sessions<Small>, Caller<Small>)>
 }
 
 // The probe's caller, which added the pairs that are to be added, after a line on each reply.
-fn fill(
+fn fill_probe_table(
     rt: &HostRuntime,
     table: &Sessions<Small>,
     mut caller: Caller<Small>,
@@ -90,14 +90,14 @@ fn split_twice(
     ensures own { IfOk result (λ r. IfSome r (λ b. (b.0.seat.row ≡ table.now.row) × (b.1.seat.row ≡ table.now.row))) }
     ensures free { IfOk result (λ r. IfSome r (λ b. (b.0.seat.view.holds ≡ nothing_held) × (b.1.seat.view.holds ≡ nothing_held))) }
 {
-    match split(rt, table, caller)? {
+    match split_probe_caller(rt, table, caller)? {
         Ok(both) => Ok(Some(both)),
-        Err(caller) => Ok(split(rt, table, caller)?.ok()),
+        Err(caller) => Ok(split_probe_caller(rt, table, caller)?.ok()),
     }
 }
 
 // The probe's caller, and a new one; or the caller, as it is where its split was refused. A line says which.
-fn split(
+fn split_probe_caller(
     rt: &HostRuntime,
     table: &Sessions<Small>,
     caller: Caller<Small>,
@@ -133,15 +133,15 @@ fn open_again(
     ensures own { IfOk result (λ r. IfSome r (λ t. t.1.seat.row ≡ t.0.row)) }
     ensures free { IfOk result (λ r. IfSome r (λ t. t.1.seat.view.holds ≡ nothing_held)) }
 {
-    match renew(rt, table, caller)? {
+    match renew_probe_table(rt, table, caller)? {
         Ok(renewed) => Ok(Some(renewed)),
-        Err((table, caller)) => Ok(renew(rt, table, caller)?.ok()),
+        Err((table, caller)) => Ok(renew_probe_table(rt, table, caller)?.ok()),
     }
 }
 
 // The probe's renewed table and its caller, which added a value; or the table and its caller, as they are where that
 // was refused.
-fn renew(
+fn renew_probe_table(
     rt: &HostRuntime,
     table: Sessions<Small>,
     caller: Caller<Small>,
@@ -173,7 +173,7 @@ fn renew(
 
 // Nothing, where the probe's table is closed and its pairs are printed; or the table and its caller, as they are where
 // that was refused.
-fn close(
+fn close_probe_table(
     rt: &HostRuntime,
     table: Sessions<Small>,
     caller: Caller<Small>,

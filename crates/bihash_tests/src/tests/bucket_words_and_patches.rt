@@ -7,7 +7,7 @@ use bihash_words::{
 };
 
 // For tests of `bihash_words`: the size of a bucket's block.
-const fn block(log2: u64, linear: bool) -> BlockSize
+const fn bucket_word_block(log2: u64, linear: bool) -> BlockSize
     ensures { result ≡ record { log2 = log2; linear = linear } }
 {
     BlockSize { log2, linear }
@@ -16,7 +16,7 @@ const fn block(log2: u64, linear: bool) -> BlockSize
 // Words of `bihash_words`: the fields of a bucket, packed into its word and read from it.
 #[test]
 fn bucket_words(rt: HostRuntime) {
-    let word = BucketWord::pack(5, block(1, true), false, 6);
+    let word = BucketWord::pack(5, bucket_word_block(1, true), false, 6);
     assert_eq!(rt; word.to_word(), 0x3_2100_0005);
     assert_eq!(rt; word.with_lock().to_word(), 0x3_6100_0005);
     assert_eq!(rt; word.with_lock().with_lock().to_word(), 0x3_6100_0005);
@@ -24,7 +24,7 @@ fn bucket_words(rt: HostRuntime) {
     assert_eq!(rt; word.page(), 5);
     assert_eq!(rt; word.log2(), 1);
     assert!(rt; word.linear());
-    assert_eq!(rt; word.block_size(), block(1, true));
+    assert_eq!(rt; word.block_size(), bucket_word_block(1, true));
     assert!(rt; !word.locked());
     assert!(rt; word.with_lock().locked());
     assert_eq!(rt; word.version(), 6);
@@ -37,11 +37,17 @@ fn bucket_words(rt: HostRuntime) {
 
 // Words of `bihash_words`: that of a bucket after one more change.
 #[test]
-fn next_word(rt: HostRuntime) {
-    let word = BucketWord::pack(5, block(1, true), false, 6);
-    assert_eq!(rt; word.next(5, block(1, true)).to_word(), 0x3_a100_0005);
-    let locked = BucketWord::pack(5, block(1, true), true, 6);
-    assert_eq!(rt; locked.next(0, block(0, false)).to_word(), 0x3_8000_0000);
+fn next_bucket_word(rt: HostRuntime) {
+    let word = BucketWord::pack(5, bucket_word_block(1, true), false, 6);
+    assert_eq!(rt;
+        word.next(5, bucket_word_block(1, true)).to_word(),
+        0x3_a100_0005
+    );
+    let locked = BucketWord::pack(5, bucket_word_block(1, true), true, 6);
+    assert_eq!(rt;
+        locked.next(0, bucket_word_block(0, false)).to_word(),
+        0x3_8000_0000
+    );
 }
 
 // Words of `bihash_words`: published values of the mixing step, and the hash of a key in each shape.

@@ -56,7 +56,7 @@ fn counts(row: &Row<Small>, caller: &mut Caller<Small>) -> (u64, u64)
 
 // Steps on callers of a row: after a split both count two, and each has one number.
 #[test]
-fn a_split_makes_a_caller(rt: HostRuntime) -> Result<(), Fail> {
+fn split_steps_make_a_caller(rt: HostRuntime) -> Result<(), Fail> {
     let Ok((row, mut first)) = open_row::<Small>(rt.alloc()) else {
         return steps_refused();
     };
@@ -71,7 +71,7 @@ fn a_split_makes_a_caller(rt: HostRuntime) -> Result<(), Fail> {
 
 // Steps on callers of a row: two that meet before they made a call have no stamp.
 #[test]
-fn callers_that_meet_keep_their_numbers(rt: HostRuntime) -> Result<(), Fail> {
+fn meet_steps_keep_numbers(rt: HostRuntime) -> Result<(), Fail> {
     let Ok((row, first)) = open_row::<Small>(rt.alloc()) else {
         return steps_refused();
     };
@@ -87,7 +87,7 @@ fn callers_that_meet_keep_their_numbers(rt: HostRuntime) -> Result<(), Fail> {
 // Steps on callers of a row: one that takes in another has the numbers of both, and keeps them where it splits and
 // meets.
 #[test]
-fn a_caller_takes_in_another(rt: HostRuntime) -> Result<(), Fail> {
+fn join_steps_add_numbers(rt: HostRuntime) -> Result<(), Fail> {
     let Ok((row, first)) = open_row::<Small>(rt.alloc()) else {
         return steps_refused();
     };

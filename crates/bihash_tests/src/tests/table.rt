@@ -4,7 +4,7 @@ ghost use Rattle.std.specs.Prelude.{◌≡◌, ◌<◌, IfSome};
 ghost use Rattle.bihash_words.specs.Sizes.{sizes_of, IsSound};
 ghost use Rattle.bihash_rule.specs.Views.{nothing_held};
 
-use bihash_table::{Caller, CloseFault, Contended, Sessions, create, stamp};
+use bihash_table::{Caller, Contended, Sessions, create, stamp};
 use bihash_words::{Add, AddIfAbsent, Delete, Reply, Shape, Tiny, Touch};
 use std::alloc::Global;
 use std::test::Fail;
@@ -56,7 +56,7 @@ fn two_callers<S: Shape>(alloc: Global) -> Option<(Sessions<S>, Caller<S>, Calle
 }
 
 // Shared by tests of the table: what one try of a call answers.
-fn answer<const P: u64, const L: u64>(
+fn table_answer<const P: u64, const L: u64>(
     table: &Sessions<Tiny<P, L>>,
     caller: &mut Caller<Tiny<P, L>>,
     call: Call,
@@ -97,7 +97,7 @@ fn first_wrong<const P: u64, const L: u64>(
     ensures free { caller.new.seat.view.holds ≡ nothing_held }
 {
     'rows: for (i, (call, key, reply, at)) in rows.iter().enumerate() {
-        let answered = answer(table, caller, *call, key);
+        let answered = table_answer(table, caller, *call, key);
         if answered != Ok(*reply) || stamp(caller) != Some(*at) {
             return Some(i);
         }
@@ -106,7 +106,7 @@ fn first_wrong<const P: u64, const L: u64>(
 }
 
 // Shared by tests of the table: adds keys of these numbers, each with its number as value. Each is a new pair.
-fn fill<const P: u64, const L: u64>(
+fn add_keys_to_table<const P: u64, const L: u64>(
     table: &Sessions<Tiny<P, L>>,
     caller: &mut Caller<Tiny<P, L>>,
     keys: &[u32],
@@ -118,7 +118,7 @@ fn fill<const P: u64, const L: u64>(
 {
     let mut all_new = true;
     for key in keys {
-        let reply = answer(table, caller, Call::Add(*key), &[u64::from(*key), 0]);
+        let reply = table_answer(table, caller, Call::Add(*key), &[u64::from(*key), 0]);
         all_new &= reply == Ok(Reply::Changed(None));
     }
     all_new
@@ -159,21 +159,6 @@ fn block<const P: u64, const L: u64>(
     (word.page(), word.log2(), word.linear())
 }
 
-// Shared by tests of the table: drops a caller that has the lock of bucket 0, and the allocation lock where that is
-// asked for. False: it did not get one of them.
-fn drop_with_table_locks(table: &Sessions<Eight>, mut caller: Caller<Eight>, and_pool: bool) -> bool
-    requires own { caller.seat.row ≡ table.now.row }
-    requires free { caller.seat.view.holds ≡ nothing_held }
-{
-    let row = &table.row;
-    let seat = &mut caller.seat;
-    let word = row.load_bucket(seat, 0);
-    if word.locked() {
-        return false;
-    }
-    row.lock_from(seat, 0, word) && (!and_pool || row.pool_lock(seat))
-}
-
 // Shared by tests of the table: whether it ends with these pairs.
 fn ends_with<const P: u64, const L: u64>(
     alloc: Global,
@@ -187,27 +172,5 @@ fn ends_with<const P: u64, const L: u64>(
     match table.close(alloc, caller) {
         Ok(found) => found.as_slice() == pairs,
         Err(_) => false,
-    }
-}
-
-// Shared by tests of the table: the table, which can't be closed while there is the second caller, and both callers
-// joined. `None`: it was closed.
-fn table_stays_open<S: Shape>(
-    alloc: Global,
-    table: Sessions<S>,
-    first: Caller<S>,
-    second: Caller<S>,
-) -> Option<(Sessions<S>, Caller<S>)>
-    requires own { (first.seat.row ≡ table.row) × (second.seat.row ≡ table.row) }
-    requires free { (first.seat.view.holds ≡ nothing_held) × (second.seat.view.holds ≡ nothing_held) }
-    ensures own { IfSome result (λ r. r.1.seat.row ≡ r.0.row) }
-    ensures free { IfSome result (λ r. r.1.seat.view.holds ≡ nothing_held) }
-{
-    match table.close(alloc, first) {
-        Err((CloseFault::Strangers, table, first)) => {
-            let both = table.join(first, second);
-            Some((table, both))
-        }
-        _ => None,
     }
 }

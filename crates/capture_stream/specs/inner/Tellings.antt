@@ -9,7 +9,7 @@ use Rattle.packet_view.specs.declared.records_at_front.Stop.TheVariants.{TooLong
 use Rattle.flow_filter.specs.declared.verdict.Verdict.{Verdict}
 use Rattle.racl_io.specs.declared.fault.Fault.{Fault}
 use Rattle.racl_io.specs.declared.fault.Fault.TheVariants.{LongRecord, Memory, Read, Write}
-use Rattle.racl_io.specs.declared.report_totals.Totals.{Totals}
+use Rattle.racl_io.specs.declared.totals_and_truncation.Totals.{Totals}
 use Rattle.racl_io.specs.Reports.{lines_from, passed, totals_line, truncation_line}
 use Rattle.racl_io.specs.Sinks.{GotFront}
 use Rattle.capture_stream.specs.Lives.{HasToldSome, most_live}

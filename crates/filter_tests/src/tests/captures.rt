@@ -1,6 +1,6 @@
 //! Captures byte by byte, with the packets that the format gives them, of which `checks/rows/captures.txt` has more.
-use super::frames::UDP;
 use super::filter_test_refused;
+use super::frames::UDP;
 use packet_view::{
     Order, Packet, PacketBursts, Packets, Piece, Stop, capture_header, check_capture,
     front_records, next_record, read_capture,

@@ -35,7 +35,7 @@ fn four(proto: u8, from: u8, to: u8, ports: [u8; 4]) -> [u8; 54] {
 }
 
 // A packet of interface 0 that a test deals to workers.
-fn seen<'a>(moment: u32, frame: &'a [u8]) -> Packet<'a> {
+fn packet_to_deal<'a>(moment: u32, frame: &'a [u8]) -> Packet<'a> {
     Packet {
         interface: 0,
         moment,
@@ -129,13 +129,13 @@ fn deals_packets_of_several_flows(rt: HostRuntime) -> Result<(), Fail> {
         four(17, 1, 4, [0x03, 0xe8, 0, 53]),
     ];
     let packets = [
-        seen(100, &frames[0]),
-        seen(101, &frames[1]),
-        seen(101, &frames[2]),
-        seen(103, &ARP),
-        seen(107, &SIX),
-        seen(107, &frames[3]),
-        seen(120, &frames[4]),
+        packet_to_deal(100, &frames[0]),
+        packet_to_deal(101, &frames[1]),
+        packet_to_deal(101, &frames[2]),
+        packet_to_deal(103, &ARP),
+        packet_to_deal(107, &SIX),
+        packet_to_deal(107, &frames[3]),
+        packet_to_deal(120, &frames[4]),
     ];
     let Ok(parts) = deal(&rt, rt.alloc(), Dealing::Bucket, 3, 0, &packets) else {
         return filter_test_refused();
@@ -159,7 +159,11 @@ fn one_packet_has_its_worker(rt: HostRuntime) {
         workers: 3,
     };
     let request = four(17, 1, 2, [0x03, 0xe8, 0, 53]);
-    let (first, second, third) = (seen(100, &request), seen(100, &ARP), seen(100, &SIX));
+    let (first, second, third) = (
+        packet_to_deal(100, &request),
+        packet_to_deal(100, &ARP),
+        packet_to_deal(100, &SIX),
+    );
     assert_eq!(rt; worker_of_packet::<ShapeV4, ShapeV6>(&dealer, 9, &first), 1);
     assert_eq!(rt;
         worker_of_packet::<ShapeV4, ShapeV6>(&dealer, 9, &second),

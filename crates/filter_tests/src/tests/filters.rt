@@ -48,7 +48,7 @@ fn a_filter_is_ready(rt: HostRuntime) -> Result<(), Fail> {
 }
 
 /// The policy of a test's filter: 70 times `in deny ipv4 any any tcp`, and then a rule for UDP.
-fn many_rules(alloc: Global) -> Result<Vec<u8>, AllocError> {
+fn many_filter_rules(alloc: Global) -> Result<Vec<u8>, AllocError> {
     let mut text = Vec::new(alloc);
     for _ in 0..70 {
         text.extend_from_slice(b"in deny ipv4 any any tcp\n")?;
@@ -60,7 +60,7 @@ fn many_rules(alloc: Global) -> Result<Vec<u8>, AllocError> {
 /// A filter's inbound rules, searched one by one and by their index.
 #[test]
 fn prepared_rules_decide_as_the_listed_ones(rt: HostRuntime) -> Result<(), Fail> {
-    let Ok(text) = many_rules(rt.alloc()) else {
+    let Ok(text) = many_filter_rules(rt.alloc()) else {
         return filter_test_refused();
     };
     let Some(filter) = filter_of(rt.alloc(), text.as_slice()) else {
@@ -86,7 +86,7 @@ fn prepared_rules_decide_as_the_listed_ones(rt: HostRuntime) -> Result<(), Fail>
 
 /// A filter has at each interface the rules of its section, and without a section neither an own address nor rules.
 #[test]
-fn rules_of_two_interfaces(rt: HostRuntime) -> Result<(), Fail> {
+fn filter_of_two_interfaces(rt: HostRuntime) -> Result<(), Fail> {
     let text = b"mac 02:00:00:00:00:01\nin deny ipv4 any any tcp\n\
         interface 2\nmac 02:00:00:00:00:02\nin permit ipv4 any any udp\n";
     let Some(filter) = filter_of(rt.alloc(), text) else {
@@ -114,7 +114,7 @@ fn rules_of_two_interfaces(rt: HostRuntime) -> Result<(), Fail> {
 
 /// The verdicts that a filter's rules alone give, by the place of the rule that decides.
 #[test]
-fn rules_are_numbered_from_1(rt: HostRuntime) {
+fn filter_rules_count_from_1(rt: HostRuntime) {
     assert_eq!(rt; verdict_of_rules(None), Verdict::ByDefault);
     for (number, action, verdict) in [
         (0, Action::Deny, Verdict::Deny(1)),

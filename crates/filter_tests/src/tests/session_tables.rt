@@ -27,7 +27,7 @@ pub fn filter_for_session_tables(alloc: Global, text: &str) -> Result<Filter, Po
 }
 
 // A frame for tests of session tables: a request from 10.0.0.1:1000 to the name server 10.0.0.n, on its way out.
-pub fn request(server: u8) -> [u8; 42] {
+pub fn request_for_tables(server: u8) -> [u8; 42] {
     [
         2, 0, 0, 0, 0, 2, 2, 0, 0, 0, 0, 1, 8, 0, 0x45, 0, 0, 28, 0, 0, 0, 0, 64, 17, 0, 0, 10, 0,
         0, 1, 10, 0, 0, server, 0x03, 0xe8, 0, 53, 0, 8, 0, 0,
@@ -35,7 +35,7 @@ pub fn request(server: u8) -> [u8; 42] {
 }
 
 // A frame for tests of session tables: the answer of the name server 10.0.0.n to 10.0.0.1:1000, on its way in.
-pub fn answer(server: u8) -> [u8; 42] {
+pub fn answer_for_tables(server: u8) -> [u8; 42] {
     [
         2, 0, 0, 0, 0, 1, 2, 0, 0, 0, 0, 2, 8, 0, 0x45, 0, 0, 28, 0, 0, 0, 0, 64, 17, 0, 0, 10, 0,
         0, server, 10, 0, 0, 1, 0, 53, 0x03, 0xe8, 0, 8, 0, 0,
@@ -59,9 +59,9 @@ fn first_wrong<A: Shape, B: Shape>(
     for (number, row) in rows.iter().enumerate() {
         let (moment, server, is_answer, verdict) = *row;
         let frame = if is_answer {
-            answer(server)
+            answer_for_tables(server)
         } else {
-            request(server)
+            request_for_tables(server)
         };
         let packet = Packet {
             interface: 0,
@@ -112,7 +112,11 @@ fn first_wrong_of_renewed<A: Shape>(
 }
 
 // The verdict on a frame over new session tables, by as many tries as it takes.
-fn judged<A: Shape, R: Wait>(rt: &R, alloc: Global, frame: &[u8]) -> Option<Verdict>
+fn verdict_over_session_tables<A: Shape, R: Wait>(
+    rt: &R,
+    alloc: Global,
+    frame: &[u8],
+) -> Option<Verdict>
     requires shapes { AreShapes ⟦<A as Shape>⟧ ⟦<ShapeV6 as Shape>⟧ }
 {
     let Ok(filter) = filter_for_session_tables(alloc, NAMES) else {
@@ -158,8 +162,12 @@ fn renewed_under_the_filter(rt: HostRuntime) {
 
 // A request judged over new session tables, by as many tries as it takes.
 #[test]
-fn judges_a_packet(rt: HostRuntime) {
-    let verdict = judged::<Tiny<8, 3>, HostRuntime>(&rt, rt.alloc(), &request(2));
+fn judges_over_session_tables(rt: HostRuntime) {
+    let verdict = verdict_over_session_tables::<Tiny<8, 3>, HostRuntime>(
+        &rt,
+        rt.alloc(),
+        &request_for_tables(2),
+    );
     assert_eq!(rt; verdict, Some(Verdict::Reflect(1)));
 }
 

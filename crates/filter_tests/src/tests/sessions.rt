@@ -20,7 +20,7 @@ const PUSH: u8 = 8;
 const ACK: u8 = 16;
 
 // A packet between these ends by UDP, for tests of flow keys and sessions.
-fn udp(source: u32, from: u16, dest: u32, to: u16) -> Tuple {
+fn session_udp(source: u32, from: u16, dest: u32, to: u16) -> Tuple {
     Tuple {
         interface: 0,
         family: Family::V4,
@@ -32,7 +32,7 @@ fn udp(source: u32, from: u16, dest: u32, to: u16) -> Tuple {
 }
 
 // A packet between these ends by TCP, for tests of flow keys and sessions.
-fn tcp(source: u32, from: u16, dest: u32, to: u16, flags: u8) -> Tuple {
+fn session_tcp(source: u32, from: u16, dest: u32, to: u16, flags: u8) -> Tuple {
     Tuple {
         interface: 0,
         family: Family::V4,
@@ -44,7 +44,7 @@ fn tcp(source: u32, from: u16, dest: u32, to: u16, flags: u8) -> Tuple {
 }
 
 // A packet of ICMP with this type and code 0, for tests of flow keys and sessions.
-fn icmp(source: u32, dest: u32, kind: u8) -> Tuple {
+fn session_icmp(source: u32, dest: u32, kind: u8) -> Tuple {
     Tuple {
         interface: 0,
         family: Family::V4,
@@ -107,11 +107,11 @@ fn six(first: u64, last: u64, ports: u64, starts: bool) -> Option<Flow> {
 #[test]
 fn keys_of_udp_and_tcp(rt: HostRuntime) {
     let key = 0x0a00_0001_0a00_0002;
-    let asked = orient(&udp(NET + 1, 1000, NET + 2, 53));
+    let asked = orient(&session_udp(NET + 1, 1000, NET + 2, 53));
     assert_eq!(rt; asked, four(key, 0x03e8_0035_1100_0000, 0, true));
-    let answered = orient(&udp(NET + 2, 53, NET + 1, 1000));
+    let answered = orient(&session_udp(NET + 2, 53, NET + 1, 1000));
     assert_eq!(rt; answered, four(key, 0x03e8_0035_1100_0000, 1, true));
-    let sent = orient(&tcp(NET + 2, 80, NET + 1, 1000, SYN));
+    let sent = orient(&session_tcp(NET + 2, 80, NET + 1, 1000, SYN));
     assert_eq!(rt; sent, four(key, 0x03e8_0050_0600_0000, 1, true));
 }
 
@@ -119,17 +119,17 @@ fn keys_of_udp_and_tcp(rt: HostRuntime) {
 #[test]
 fn keys_of_one_address(rt: HostRuntime) {
     let both = 0x0a00_0001_0a00_0001;
-    let crossed = orient(&udp(NET + 1, 2000, NET + 1, 1000));
+    let crossed = orient(&session_udp(NET + 1, 2000, NET + 1, 1000));
     assert_eq!(rt; crossed, four(both, 0x03e8_07d0_1100_0000, 1, true));
-    let tie = orient(&udp(NET + 1, 53, NET + 1, 53));
+    let tie = orient(&session_udp(NET + 1, 53, NET + 1, 53));
     assert_eq!(rt; tie, four(both, 0x0035_0035_1100_0000, 0, true));
-    let reply = orient(&icmp(NET + 1, NET + 1, 0));
+    let reply = orient(&session_icmp(NET + 1, NET + 1, 0));
     assert_eq!(rt; reply, four(both, 0x0000_0000_0100_0000, 0, false));
 }
 
 /// Keys of sessions, and the senders' sides, of plain packets by UDP and TCP.
 #[test]
-fn flows_of_plain_packets(rt: HostRuntime) {
+fn session_keys_of_plain_packets(rt: HostRuntime) {
     let key = 0x0a00_0001_0a00_0002;
     let asked = plain_flow(
         PlainPacket {
@@ -161,11 +161,11 @@ fn flows_of_plain_packets(rt: HostRuntime) {
 #[test]
 fn interface_in_the_key(rt: HostRuntime) {
     let key = 0x0a00_0001_0a00_0002;
-    let mut asked = udp(NET + 1, 1000, NET + 2, 53);
+    let mut asked = session_udp(NET + 1, 1000, NET + 2, 53);
     asked.interface = 2;
     let asked = orient(&asked);
     assert_eq!(rt; asked, four(key, 0x03e8_0035_1100_0002, 0, true));
-    let mut answered = udp(NET + 2, 53, NET + 1, 1000);
+    let mut answered = session_udp(NET + 2, 53, NET + 1, 1000);
     answered.interface = 2;
     let answered = orient(&answered);
     assert_eq!(rt; answered, four(key, 0x03e8_0035_1100_0002, 1, true));
@@ -175,11 +175,11 @@ fn interface_in_the_key(rt: HostRuntime) {
 #[test]
 fn echo_both_ways(rt: HostRuntime) {
     let asked = four(0x0a00_0001_0a00_0002, 0x0000_0000_0100_0000, 0, true);
-    assert_eq!(rt; orient(&icmp(NET + 1, NET + 2, 8)), asked);
+    assert_eq!(rt; orient(&session_icmp(NET + 1, NET + 2, 8)), asked);
     let back = four(0x0a00_0002_0a00_0001, 0x0000_0000_0100_0000, 0, true);
-    assert_eq!(rt; orient(&icmp(NET + 2, NET + 1, 8)), back);
+    assert_eq!(rt; orient(&session_icmp(NET + 2, NET + 1, 8)), back);
     let replied = four(0x0a00_0001_0a00_0002, 0x0000_0000_0100_0000, 1, false);
-    assert_eq!(rt; orient(&icmp(NET + 2, NET + 1, 0)), replied);
+    assert_eq!(rt; orient(&session_icmp(NET + 2, NET + 1, 0)), replied);
 }
 
 /// Keys of sessions over IPv6: of a packet of UDP, and of an echo reply.
@@ -269,7 +269,7 @@ fn boundary_second(rt: HostRuntime) {
 
 /// The word of a session that is half open, the flags seen of its sides, and its last second.
 #[test]
-fn words_of_sessions(rt: HostRuntime) {
+fn half_open_session_word(rt: HostRuntime) {
     let session = Session::new(1000, 1, SYN | PUSH, true);
     assert_eq!(rt; session.word(), 0x0001_0200_0000_03e8);
     assert_eq!(rt; Session::from_word(0x0001_0200_0000_03e8), Some(session));

@@ -2,7 +2,9 @@
 ghost use Rattle.std.specs.Prelude.{◌≤◌, ◌+◌, length};
 
 use super::filter_test_refused;
-use super::session_tables::{NAMES, answer, filter_for_session_tables, request};
+use super::session_tables::{
+    NAMES, answer_for_tables, filter_for_session_tables, request_for_tables,
+};
 use bihash_words::{ShapeV4, ShapeV6, flow_shapes_are_sound};
 use flow_workers::{
     Dealing, Filter, Gate, RunFault, Setup, Verdict, Workers, close_tables, create_tables,
@@ -76,7 +78,7 @@ struct Counts {
 }
 
 // A one in the packet's byte of what tests of workers count at the gate.
-fn one_of(packet: usize) -> u64 {
+fn one_at_worker_gate(packet: usize) -> u64 {
     match packet {
         0 => 0x1,
         1 => 0x100,
@@ -90,13 +92,15 @@ impl Gate for Counts {
     // Counts, in a test of workers, that the packet came to the gate.
     fn before(&self, worker: usize, packet: usize) {
         let _ = worker;
-        self.before.fetch_add(one_of(packet), Ordering::SeqCst);
+        self.before
+            .fetch_add(one_at_worker_gate(packet), Ordering::SeqCst);
     }
 
     // Counts, in a test of workers, that the packet left the gate.
     fn after(&self, worker: usize, packet: usize) {
         let _ = worker;
-        self.after.fetch_add(one_of(packet), Ordering::SeqCst);
+        self.after
+            .fetch_add(one_at_worker_gate(packet), Ordering::SeqCst);
     }
 }
 
@@ -187,7 +191,11 @@ fn workers(rt: HostRuntime) -> Result<(), Fail> {
     let Ok(filter) = filter_for_session_tables(alloc, NAMES) else {
         return filter_test_refused();
     };
-    let frames = [request(2), answer(2), answer(3)];
+    let frames = [
+        request_for_tables(2),
+        answer_for_tables(2),
+        answer_for_tables(3),
+    ];
     let packets = [
         Packet {
             interface: 0,
@@ -218,13 +226,13 @@ fn workers(rt: HostRuntime) -> Result<(), Fail> {
 // Two workers are inside their packets at once: a frame of another type goes to worker 0, and a request from port 1001,
 // whose bucket is odd, to worker 1.
 #[test]
-fn both_before(rt: HostRuntime) -> Result<(), Fail> {
+fn two_workers_at_once(rt: HostRuntime) -> Result<(), Fail> {
     let alloc = rt.alloc();
     let Ok(filter) = filter_for_session_tables(alloc, NAMES) else {
         return filter_test_refused();
     };
     let foreign = [2, 0, 0, 0, 0, 2, 2, 0, 0, 0, 0, 1, 8, 6];
-    let mut odd = request(2);
+    let mut odd = request_for_tables(2);
     odd[35] = 0xe9;
     let packets = [
         Packet {
@@ -253,12 +261,17 @@ fn both_before(rt: HostRuntime) -> Result<(), Fail> {
 // Workers that judge two parts: packets are numbered on, and sessions last from part to part. Both sessions stand in
 // the table at the end, with the second of their last packet; the lesser end is 10.0.0.1, whose port is 1000.
 #[test]
-fn packets_of_parts_are_numbered_on(rt: HostRuntime) -> Result<(), Fail> {
+fn workers_number_on_over_parts(rt: HostRuntime) -> Result<(), Fail> {
     let alloc = rt.alloc();
     let Ok(filter) = filter_for_session_tables(alloc, NAMES) else {
         return filter_test_refused();
     };
-    let frames = [request(2), answer(3), answer(2), request(3)];
+    let frames = [
+        request_for_tables(2),
+        answer_for_tables(3),
+        answer_for_tables(2),
+        request_for_tables(3),
+    ];
     let first = [
         Packet {
             interface: 0,

@@ -3,7 +3,7 @@ use Rattle.std.specs.Prelude.{◌≡◌, ◌≢◌, ◌+◌, ◌≤◌, ◌++◌
 use Rattle.packet_view.specs.Captures.{IsCaptureAt, PacketFacts, end_of}
 use Rattle.racl_io.specs.declared.fault.Fault.{Fault}
 use Rattle.racl_io.specs.declared.marker_line.Numbered as mark
-use Rattle.racl_io.specs.declared.report_totals.Captured.{Captured}
+use Rattle.racl_io.specs.declared.totals_and_truncation.Captured.{Captured}
 use Rattle.racl_io.specs.declared.marker_line.Form.{Form}
 use Rattle.racl_io.specs.declared.marker_line.Form.TheVariants.{Binary, Hexadecimal}
 use Rattle.racl_io.specs.Inputs.{AreCutDigits, IsContent, most_bytes, numbered_facts}

@@ -3,8 +3,8 @@ use Rattle.std.specs.Prelude.{◌≡◌, ◌++◌, ℕ, List, Option}
 use Rattle.std.specs.Io.KnownBytes.{Appends}
 use Rattle.packet_view.specs.Captures.{PacketFacts}
 use Rattle.acl_policy.specs.Policies.{IsPolicyText, PolicyFacts, policy_facts}
-use Rattle.racl_io.specs.declared.report_totals.Captured.{Captured}
-use Rattle.racl_io.specs.declared.report_totals.Totals.{Totals}
+use Rattle.racl_io.specs.declared.totals_and_truncation.Captured.{Captured}
+use Rattle.racl_io.specs.declared.totals_and_truncation.Totals.{Totals}
 use Rattle.racl_io.specs.Inputs.{InputFacts, IsInput, NumberedFacts}
 use Rattle.racl_io.specs.Reports.{totals_of}
 use Rattle.racl_options.specs.declared.settings.Lines.{Lines}

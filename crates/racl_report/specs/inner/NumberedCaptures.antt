@@ -3,7 +3,7 @@ use Rattle.std.specs.Prelude.{◌≡◌, ◌+◌, ℕ, List, [], Option, None, S
 use Rattle.packet_view.specs.Captures.{PacketFacts}
 use Rattle.racl_io.specs.declared.fault.Fault.{Fault}
 use Rattle.racl_io.specs.declared.marker_line.Numbered as mark
-use Rattle.racl_io.specs.declared.report_totals.Captured.{Captured}
+use Rattle.racl_io.specs.declared.totals_and_truncation.Captured.{Captured}
 use Rattle.racl_io.specs.Faults.{IsFaultOfCaptures}
 use Rattle.racl_io.specs.Inputs.{AreCaptures, DigitsFacts, NumberedFacts}
 use Rattle.racl_report.specs.ReadInputs.{AreTaken}

@@ -4,8 +4,8 @@ use flow_filter::Verdict;
 use packet_view::{Direction, Packets};
 use racl_io::Shown;
 use racl_views::{
-    CaptureBytes, RuleLine, RuleName, Run, StoredPairs, View, hits_text, numbered_rules, packets_in,
-    sessions_text,
+    CaptureBytes, RuleLine, RuleName, Run, StoredPairs, View, hits_text, numbered_rules,
+    packets_in, sessions_text,
 };
 use session_state::Timeouts;
 use std::alloc::{AllocError, Global};
@@ -114,7 +114,7 @@ fn stored_of(
 }
 
 // For tests of hits: a run in which a first packet is reflected and a second one denied.
-fn run_of<'a>(policy: &'a Policy, packets: Packets<'a>) -> Run<'a> {
+fn hits_run<'a>(policy: &'a Policy, packets: Packets<'a>) -> Run<'a> {
     Run {
         policy,
         text: hits_rules(),
@@ -134,7 +134,7 @@ fn hits_told(alloc: Global, times: Timeouts, view: View) -> Result<Vec<u8>, Fail
     })?;
     let policy = read_policy(alloc, hits_rules())?;
     let packets = packets_in(alloc, &captures)?;
-    let run = run_of(&policy, Packets::Slice(&packets));
+    let run = hits_run(&policy, Packets::Slice(&packets));
     let request = [([0x0a00_0001_0a00_0002, 0x03e8_0035_1100_0000], 100)];
     let stored = stored_of(alloc, &request, &[])?;
     Ok(hits_text(alloc, view, times, run, &stored)?)

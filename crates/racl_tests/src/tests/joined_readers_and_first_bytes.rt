@@ -105,7 +105,7 @@ fn first_bytes_tell_other_files(rt: HostRuntime) {
 
 /// First bytes of files that are no captures of Ethernet: after which faults this is told.
 #[test]
-fn a_remark_is_made_where_the_header_is_wrong(rt: HostRuntime) {
+fn first_bytes_make_a_remark(rt: HostRuntime) {
     let pcapng = first_bytes([0x0a, 0x0d, 0x0d, 0x0a], [0; 4]);
     assert_eq!(rt; remark(&Err(Fault::Magic), &pcapng), Some(Other::Pcapng));
     assert_eq!(rt; remark(&Err(Fault::LinkType), &pcapng), Some(Other::Pcapng));

@@ -7,7 +7,7 @@ mod live;
 mod slow_and_failing_devices;
 
 // For tests of runs: a whole input with a request, its answer, and an answer that nobody asked for.
-fn whole_input() -> &'static [u8] {
+fn whole_run_input() -> &'static [u8] {
     b"\
 mac 02:00:00:00:00:01
 out permit+reflect ipv4 10.0.0.1 any udp dport 53
@@ -29,7 +29,7 @@ d4c3b2a102000400000000000000000000000400 01000000
 }
 
 // For tests of runs: the report on the whole input.
-fn whole_report() -> &'static [u8] {
+fn whole_run_report() -> &'static [u8] {
     b"\
 1 pass rule 1 reflect
 2 pass session

@@ -86,7 +86,7 @@ pub fn record(kept: [u8; 4]) -> [u8; 20] {
 }
 
 // For tests of windows: a capture of which this was read. `None`: memory was refused.
-fn opened(alloc: Global, front: &[u8]) -> Option<Opening>
+fn windows_test_opening(alloc: Global, front: &[u8]) -> Option<Opening>
     requires long { 24 ≤ length front.now }
     requires few { length front.now ≤ most_bytes }
     ensures within { IfSome result (λ opening. opening.from ≤ length opening.bytes.items) }
@@ -119,7 +119,7 @@ pub fn count_behind<T: Threads, R: Source + Send>(
     requires size { IsSize size }
     requires sound { R.failures reader.old < 2 ^ 64 - 1 }
 {
-    let Some(opening) = opened(alloc, front) else {
+    let Some(opening) = windows_test_opening(alloc, front) else {
         return Err(Fault::Memory);
     };
     judge_stream(beside, alloc, reader, Counter { count: 0 }, opening, size)
@@ -184,7 +184,7 @@ fn a_record_is_read_in_two_parts(rt: HostRuntime) -> Result<(), Fail> {
 
 // Windows are read until an input would be too long.
 #[test]
-fn an_open_source_is_read_to_the_limit_and_no_further(rt: HostRuntime) {
+fn windows_end_at_the_limit(rt: HostRuntime) {
     let most = MOST_BYTES + 1 - 54;
     let (reader, answer) = read_zeros(&rt, rt.alloc(), 2 * MOST_BYTES);
     assert_eq!(rt; (answer, reader.failures), (Some(Fault::TooLarge), 0));
@@ -193,7 +193,7 @@ fn an_open_source_is_read_to_the_limit_and_no_further(rt: HostRuntime) {
 
 // Windows are read until an input would be too long, or a read fails before that.
 #[test]
-fn a_source_that_fails_past_the_limit_is_too_large(rt: HostRuntime) {
+fn windows_fail_up_to_the_limit(rt: HostRuntime) {
     let most = MOST_BYTES + 1 - 54;
     let (reader, answer) = read_zeros(&rt, rt.alloc(), most);
     assert_eq!(rt; (answer, reader.failures), (Some(Fault::TooLarge), 0));

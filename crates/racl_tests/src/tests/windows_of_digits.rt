@@ -50,7 +50,7 @@ fn spelt(alloc: Global, capture: &[u8], bytes: usize, blank: u8) -> Result<Vec<u
 }
 
 // For tests of windows of digits: six whole records behind a header.
-fn six_records(alloc: Global) -> Result<Vec<u8>, AllocError> {
+fn records_for_digit_windows(alloc: Global) -> Result<Vec<u8>, AllocError> {
     let mut bytes = vec![in alloc; 0xa9u8; 24]?;
     for _ in 0..6 {
         bytes.extend_from_slice(&record([4, 0, 0, 0]))?;
@@ -62,10 +62,10 @@ fn six_records(alloc: Global) -> Result<Vec<u8>, AllocError> {
 #[test]
 fn a_blank_stands_at_each_edge_of_a_window(rt: HostRuntime) -> Result<(), Fail> {
     let alloc = rt.alloc();
-    let whole = six_records(alloc)?;
-    let mut long = six_records(alloc)?;
+    let whole = records_for_digit_windows(alloc)?;
+    let mut long = records_for_digit_windows(alloc)?;
     long.extend_from_slice(&record([1, 0, 4, 0]))?;
-    let mut cut = six_records(alloc)?;
+    let mut cut = records_for_digit_windows(alloc)?;
     let _last = cut.pop();
     for (size, blank) in [
         (1, b' '),

@@ -6,7 +6,7 @@ use Rattle.acl_policy.specs.Policies.{IsPolicyText, PolicyFacts, policy_facts}
 use Rattle.flow_filter.specs.declared.verdict.Verdict.{Verdict}
 use Rattle.racl_io.specs.declared.fault.Fault.{Fault}
 use Rattle.racl_io.specs.declared.fault.Fault.TheVariants.{Write}
-use Rattle.racl_io.specs.declared.report_totals.Captured.{Captured}
+use Rattle.racl_io.specs.declared.totals_and_truncation.Captured.{Captured}
 use Rattle.racl_io.specs.Reports.{truncation_line}
 use Rattle.racl_views.specs.declared.rule_table.RuleTable.{RuleTable}
 use Rattle.racl_views.specs.declared.packet_telling.Telling.{Telling}

@@ -10,7 +10,7 @@ loop-at-init g c = let z = sizes_of g.S.Shape in let s = c.args.seat.now in
 
 pub load_lone-requires-clause-next : goal.load_lone-requires-clause-next
 load_lone-requires-clause-next g c = next_word (sizes_of g.S.Shape) c.args.seat.now c.loop-at.seat c.loop-at.at c.loop-at.words.items
-    c.loop-at.invariant c.requires.lone (subst (λ (n : ℕ). c.loop-at.at < n) c.word_count-count.ensures c.loop-at-test.true)
+    c.loop-at.invariant c.requires.lone (subst (λ (n : ℕ). c.loop-at.at < n) c.layout_word_count-count.ensures c.loop-at-test.true)
 
 pub loop-at-preserved : goal.loop-at-preserved
 loop-at-preserved g c = let z = sizes_of g.S.Shape in let s = c.args.seat.now in
@@ -20,4 +20,4 @@ loop-at-preserved g c = let z = sizes_of g.S.Shape in let s = c.args.seat.now in
 
 pub returns-clause-words : goal.returns-clause-words
 returns-clause-words g c = let low = c.loop-at.auto.at-end in let end = c.loop-at-test.false in
-    let all : c.loop-at.at ≡ c.word_count-count.result = omega arith in c.loop-at.invariant.all (all ∙ c.word_count-count.ensures)
+    let all : c.loop-at.at ≡ c.layout_word_count-count.result = omega arith in c.loop-at.invariant.all (all ∙ c.layout_word_count-count.ensures)

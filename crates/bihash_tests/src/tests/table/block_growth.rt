@@ -3,7 +3,7 @@ ghost use Rattle.std.specs.Prelude.{◌≡◌};
 ghost use Rattle.bihash_rule.specs.Views.{nothing_held};
 
 use super::Call::{Add, Remove, Search};
-use super::{Eight, Row, block, fill, first_wrong, has, table_refused};
+use super::{Eight, Row, add_keys_to_table, block, first_wrong, has, table_refused};
 use bihash_steps::PoolWord;
 use bihash_table::{Caller, Sessions, create};
 use bihash_words::Reply::{Changed, Full, Kept};
@@ -63,7 +63,7 @@ fn block_grows_to_four_pages(rt: HostRuntime) -> Result<(), Fail> {
     let Ok((table, mut caller)) = create::<Eight>(rt.alloc()) else {
         return table_refused();
     };
-    assert!(rt; fill(&table, &mut caller, &[0, 4, 8, 12, 16]));
+    assert!(rt; add_keys_to_table(&table, &mut caller, &[0, 4, 8, 12, 16]));
     assert_eq!(rt; block(&table, &mut caller, 0), (2, 2, false));
     assert_eq!(rt; pages_after_growth(&table, &mut caller), Some((1, 5)));
     assert!(rt; has(&table, &mut caller, &[0, 4, 8, 12, 16]));
@@ -76,7 +76,7 @@ fn block_grows_linear(rt: HostRuntime) -> Result<(), Fail> {
     let Ok((table, mut caller)) = create::<Eight>(rt.alloc()) else {
         return table_refused();
     };
-    assert!(rt; fill(&table, &mut caller, &[0, 8, 16, 24, 32]));
+    assert!(rt; add_keys_to_table(&table, &mut caller, &[0, 8, 16, 24, 32]));
     assert_eq!(rt; block(&table, &mut caller, 0), (2, 1, true));
     assert!(rt; has(&table, &mut caller, &[0, 8, 16, 24, 32]));
     const ROWS: [Row; 2] = [
@@ -97,7 +97,7 @@ fn grown_block_is_full(rt: HostRuntime) -> Result<(), Fail> {
     const KEYS: [u32; 16] = [
         0, 8, 16, 24, 32, 40, 48, 56, 64, 72, 80, 88, 96, 104, 112, 120,
     ];
-    assert!(rt; fill(&table, &mut caller, &KEYS));
+    assert!(rt; add_keys_to_table(&table, &mut caller, &KEYS));
     const ROWS: [Row; 2] = [
         (Add(128), [128, 0], Full, (0, 16)),
         (Search, [128, 0], Kept(None), (0, 16)),
@@ -114,7 +114,7 @@ fn block_turns_linear_at_limit(rt: HostRuntime) -> Result<(), Fail> {
     let Ok((table, mut caller)) = create::<Tiny<9, 1000>>(rt.alloc()) else {
         return table_refused();
     };
-    assert!(rt; fill(&table, &mut caller, &[0, 4, 8, 12, 16, 24, 32]));
+    assert!(rt; add_keys_to_table(&table, &mut caller, &[0, 4, 8, 12, 16, 24, 32]));
     assert_eq!(rt; block(&table, &mut caller, 0), (6, 2, true));
     assert!(rt; has(&table, &mut caller, &[0, 4, 8, 12, 16, 24, 32]));
     Ok(())

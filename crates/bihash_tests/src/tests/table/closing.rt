@@ -1,9 +1,13 @@
 //! Tables that end: empty, with pairs, and with a caller too many.
+ghost use Rattle.std.specs.Prelude.{◌≡◌, IfSome};
+ghost use Rattle.bihash_rule.specs.Views.{nothing_held};
+
 use super::Call::{Add, Remove};
-use super::{Row, ends_with, first_wrong, table_refused, table_stays_open, two_callers};
-use bihash_table::create;
+use super::{Row, ends_with, first_wrong, table_refused, two_callers};
+use bihash_table::{Caller, CloseFault, Sessions, create};
 use bihash_words::Reply::Changed;
-use bihash_words::Tiny;
+use bihash_words::{Shape, Tiny};
+use std::alloc::Global;
 use std::test::Fail;
 
 // Eight pages, and 64 writes to a bucket.
@@ -50,6 +54,28 @@ fn pairs_come_in_the_order_of_their_words(rt: HostRuntime) -> Result<(), Fail> {
     ];
     assert!(rt; ends_with(rt.alloc(), table, caller, &SORTED));
     Ok(())
+}
+
+// For tests of closing and of several callers: the table, which can't be closed while there is the second caller, and
+// both callers joined. `None`: it was closed.
+pub fn table_stays_open<S: Shape>(
+    alloc: Global,
+    table: Sessions<S>,
+    first: Caller<S>,
+    second: Caller<S>,
+) -> Option<(Sessions<S>, Caller<S>)>
+    requires own { (first.seat.row ≡ table.row) × (second.seat.row ≡ table.row) }
+    requires free { (first.seat.view.holds ≡ nothing_held) × (second.seat.view.holds ≡ nothing_held) }
+    ensures own { IfSome result (λ r. r.1.seat.row ≡ r.0.row) }
+    ensures free { IfSome result (λ r. r.1.seat.view.holds ≡ nothing_held) }
+{
+    match table.close(alloc, first) {
+        Err((CloseFault::Strangers, table, first)) => {
+            let both = table.join(first, second);
+            Some((table, both))
+        }
+        _ => None,
+    }
 }
 
 // Closing: refused while there is a second caller, and answered once that is joined.

@@ -1,6 +1,6 @@
 //! Tables that run out of writes and pages.
 use super::Call::{Add, AddIfAbsent, Remove, Search, Touch};
-use super::{Eight, Row, block, fill, first_wrong, has, table_refused};
+use super::{Eight, Row, add_keys_to_table, block, first_wrong, has, table_refused};
 use bihash_table::create;
 use bihash_words::Reply::{Changed, Kept, NoPages, Worn};
 use bihash_words::Tiny;
@@ -72,7 +72,7 @@ fn pages_used_up(rt: HostRuntime) -> Result<(), Fail> {
     let Ok((table, mut caller)) = create::<Tiny<2, 1000>>(rt.alloc()) else {
         return table_refused();
     };
-    assert!(rt; fill(&table, &mut caller, &[0, 2, 4, 6, 1]));
+    assert!(rt; add_keys_to_table(&table, &mut caller, &[0, 2, 4, 6, 1]));
     assert_eq!(rt; block(&table, &mut caller, 1), (2, 0, false));
     const REMOVED: [Row; 1] = [(Remove, [1, 0], Changed(Some(1)), (1, 2))];
     assert_eq!(rt; first_wrong(&table, &mut caller, &REMOVED), None);
@@ -92,7 +92,7 @@ fn no_pages_at_the_limit(rt: HostRuntime) -> Result<(), Fail> {
     let Ok((table, mut caller)) = create::<Eight>(rt.alloc()) else {
         return table_refused();
     };
-    assert!(rt; fill(&table, &mut caller, &[0, 4, 8, 12, 16, 24]));
+    assert!(rt; add_keys_to_table(&table, &mut caller, &[0, 4, 8, 12, 16, 24]));
     const REFUSED: [Row; 1] = [(Add(32), [32, 0], NoPages { log2: 2, left: 3 }, (0, 6))];
     assert_eq!(rt; first_wrong(&table, &mut caller, &REFUSED), None);
     assert!(rt; has(&table, &mut caller, &[0, 4, 8, 12, 16, 24]));

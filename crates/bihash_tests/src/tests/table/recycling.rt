@@ -4,7 +4,7 @@ ghost use Rattle.std.specs.Thread.{IsSync};
 ghost use Rattle.bihash_rule.specs.Views.{nothing_held};
 
 use super::Call::Search;
-use super::{Eight, Row, block, fill, first_wrong, has, table_refused, two_callers};
+use super::{Eight, Row, add_keys_to_table, block, first_wrong, has, table_refused, two_callers};
 use bihash_table::{Caller, Contended, Sessions, create, stamp};
 use bihash_words::Reply::{Changed, Full, Kept};
 use bihash_words::{Add, Expiry, Reply};
@@ -63,7 +63,7 @@ fn recycled_pair(rt: HostRuntime) -> Result<(), Fail> {
         return table_refused();
     };
     let caller = &mut caller;
-    assert!(rt; fill(&table, caller, &KEYS));
+    assert!(rt; add_keys_to_table(&table, caller, &KEYS));
     assert_eq!(rt; enter(&table, caller, 32, &TwoAndFour), Ok(Changed(None)));
     const FOUND: [Row; 2] = [
         (Search, [2, 0], Kept(None), (0, 17)),
@@ -97,7 +97,7 @@ fn two_recyclers(rt: HostRuntime) -> Result<(), Fail> {
     let Some((table, mut first, second)) = two_callers::<Eight>(rt.alloc()) else {
         return table_refused();
     };
-    assert!(rt; fill(&table, &mut first, &KEYS));
+    assert!(rt; add_keys_to_table(&table, &mut first, &KEYS));
     let (mut both, all_new) = recycle_both(&rt, &table, first, second);
     assert!(rt; all_new);
     const LEFT: [u32; 16] = [

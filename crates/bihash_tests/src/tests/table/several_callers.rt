@@ -1,10 +1,11 @@
 //! The worked rows of several callers.
+ghost use Rattle.std.specs.Prelude.{◌≡◌};
+ghost use Rattle.bihash_rule.specs.Views.{nothing_held};
+
 use super::Call::{Add, Remove, Search, Touch};
-use super::{
-    Call, Eight, Row, answer, drop_with_table_locks, ends_with, first_wrong, table_refused,
-    table_stays_open, two_callers,
-};
-use bihash_table::{CloseFault, Contended, SplitFault, create, stamp};
+use super::closing::table_stays_open;
+use super::{Call, Eight, Row, ends_with, first_wrong, table_answer, table_refused, two_callers};
+use bihash_table::{Caller, CloseFault, Contended, Sessions, SplitFault, create, stamp};
 use bihash_words::Reply::{Changed, Kept};
 use std::test::Fail;
 
@@ -65,15 +66,40 @@ fn two_callers_join_to_close(rt: HostRuntime) -> Result<(), Fail> {
     Ok(())
 }
 
+// For tests of several callers: drops a caller that has the lock of bucket 0, and the allocation lock where that is
+// asked for. False: it did not get one of them.
+fn drop_caller_with_locks(
+    table: &Sessions<Eight>,
+    mut caller: Caller<Eight>,
+    and_pool: bool,
+) -> bool
+    requires own { caller.seat.row ≡ table.now.row }
+    requires free { caller.seat.view.holds ≡ nothing_held }
+{
+    let row = &table.row;
+    let seat = &mut caller.seat;
+    let word = row.load_bucket(seat, 0);
+    if word.locked() {
+        return false;
+    }
+    row.lock_from(seat, 0, word) && (!and_pool || row.pool_lock(seat))
+}
+
 // Several callers: one that has a bucket's lock and is dropped holds up that bucket alone.
 #[test]
-fn dropped_lock_holder(rt: HostRuntime) -> Result<(), Fail> {
+fn dropped_caller_keeps_lock(rt: HostRuntime) -> Result<(), Fail> {
     let Some((table, mut first, second)) = two_callers::<Eight>(rt.alloc()) else {
         return table_refused();
     };
-    assert!(rt; drop_with_table_locks(&table, second, false));
-    assert_eq!(rt; answer(&table, &mut first, Search, &[0, 0]), Err(Contended));
-    assert_eq!(rt; answer(&table, &mut first, Remove, &[0, 0]), Err(Contended));
+    assert!(rt; drop_caller_with_locks(&table, second, false));
+    assert_eq!(rt;
+        table_answer(&table, &mut first, Search, &[0, 0]),
+        Err(Contended)
+    );
+    assert_eq!(rt;
+        table_answer(&table, &mut first, Remove, &[0, 0]),
+        Err(Contended)
+    );
     assert_eq!(rt; stamp(&first), None);
     const ADDED: [Row; 1] = [(Add(3), [1, 0], Changed(None), (1, 1))];
     assert_eq!(rt; first_wrong(&table, &mut first, &ADDED), None);
@@ -86,12 +112,15 @@ fn dropped_lock_holder(rt: HostRuntime) -> Result<(), Fail> {
 
 // Several callers: one that has both locks and is dropped holds up who needs a block, but no search of other buckets.
 #[test]
-fn dropped_pool_holder(rt: HostRuntime) -> Result<(), Fail> {
+fn dropped_caller_keeps_pool(rt: HostRuntime) -> Result<(), Fail> {
     let Some((table, mut first, second)) = two_callers::<Eight>(rt.alloc()) else {
         return table_refused();
     };
-    assert!(rt; drop_with_table_locks(&table, second, true));
-    assert_eq!(rt; answer(&table, &mut first, Add(3), &[1, 0]), Err(Contended));
+    assert!(rt; drop_caller_with_locks(&table, second, true));
+    assert_eq!(rt;
+        table_answer(&table, &mut first, Add(3), &[1, 0]),
+        Err(Contended)
+    );
     assert_eq!(rt; stamp(&first), None);
     const FOUND: [Row; 1] = [(Search, [1, 0], Kept(None), (1, 0))];
     assert_eq!(rt; first_wrong(&table, &mut first, &FOUND), None);

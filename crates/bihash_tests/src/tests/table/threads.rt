@@ -5,7 +5,7 @@ ghost use Rattle.bihash_words.specs.declared.patch.Change.TheVariants.{Keep};
 ghost use Rattle.bihash_rule.specs.Views.{nothing_held};
 
 use super::Call::{Add, Search};
-use super::{Eight, Row, answer, first_wrong, table_refused, two_callers};
+use super::{Eight, Row, first_wrong, table_answer, table_refused, two_callers};
 use bihash_table::{Caller, Sessions};
 use bihash_words::Reply::{Changed, Kept};
 use bihash_words::{Change, Patch, Reply, Tiny};
@@ -117,7 +117,7 @@ impl Patch for KeepsLate {
 // While one thread decides to keep what its update found, the search of another for the same key is answered: neither
 // has a lock.
 #[test]
-fn kept_beside_read(rt: HostRuntime) -> Result<(), Fail> {
+fn two_threads_keep_and_search(rt: HostRuntime) -> Result<(), Fail> {
     let Some((table, mut first, second)) = two_callers::<Eight>(rt.alloc()) else {
         return table_refused();
     };
@@ -173,7 +173,7 @@ fn page_given_away_under_readers(rt: HostRuntime) -> Result<(), Fail> {
     let (mut all, as_written) = write_and_read(&rt, &table, first, second, third);
     assert!(rt; as_written);
     // The page is not lost.
-    let added = answer(&table, &mut all, Add(12), &[0, 0]);
+    let added = table_answer(&table, &mut all, Add(12), &[0, 0]);
     assert_eq!(rt; added, Ok(Changed(None)));
     Ok(())
 }

@@ -10,7 +10,7 @@ use std::sync::Wait;
 use std::test::Fail;
 
 // For tests of waiting: what a call answers that waits for its turn.
-fn named<R: Wait>(
+fn waiting_by_name<R: Wait>(
     rt: &R,
     table: &Sessions<Eight>,
     caller: &mut Caller<Eight>,
@@ -33,7 +33,7 @@ fn named<R: Wait>(
 
 // For tests of waiting: what a call answers that waits for its turn, made as an update by its patch, where it isn't a
 // search.
-fn patched<R: Wait>(
+fn waiting_by_patch<R: Wait>(
     rt: &R,
     table: &Sessions<Eight>,
     caller: &mut Caller<Eight>,
@@ -79,9 +79,9 @@ fn first_wrong_waiting<R: Wait>(
 {
     'rows: for (i, (call, key, reply, at)) in rows.iter().enumerate() {
         let answered = if by_name {
-            named(rt, table, caller, *call, key)
+            waiting_by_name(rt, table, caller, *call, key)
         } else {
-            patched(rt, table, caller, *call, key)
+            waiting_by_patch(rt, table, caller, *call, key)
         };
         if answered != *reply || stamp(caller) != Some(*at) {
             return Some(i);
@@ -92,7 +92,7 @@ fn first_wrong_waiting<R: Wait>(
 
 // Waiting: each of the four fixed updates, and a search, called by its name.
 #[test]
-fn fixed_calls(rt: HostRuntime) -> Result<(), Fail> {
+fn waiting_calls_by_name(rt: HostRuntime) -> Result<(), Fail> {
     let Ok((table, mut caller)) = create::<Eight>(rt.alloc()) else {
         return table_refused();
     };
@@ -118,7 +118,7 @@ fn fixed_calls(rt: HostRuntime) -> Result<(), Fail> {
 
 // Waiting: updates that are given one of the four fixed decisions, and a search.
 #[test]
-fn updates_by_each_fixed_patch(rt: HostRuntime) -> Result<(), Fail> {
+fn waiting_calls_by_patch(rt: HostRuntime) -> Result<(), Fail> {
     let Ok((table, mut caller)) = create::<Eight>(rt.alloc()) else {
         return table_refused();
     };

@@ -2,7 +2,7 @@ use Rattle.std.proofs.Common.{◌∙◌, arith, refl, subst, sym}
 use Rattle.capture_stream.specs.Lives.{IsLiveFault}
 use Rattle.capture_stream.specs.inner.Tellings.{HasGot}
 use Rattle.capture_stream.proofs.TellLemmas.{end_fault, live_begun, live_large, live_may, live_more, live_told, none_told, part_fault, told_all, told_few, told_long, window_fault}
-use Rattle.capture_stream.proofs.live_telling.tell_live.Goals.{in-Ok-write_end, in-Err-write_end}
+use Rattle.capture_stream.proofs.live_telling.tell_live.Goals.{in-Ok-write_live_end, in-Err-write_live_end}
 use Rattle.capture_stream.proofs.live_telling.tell_live.Goals as goal
 
 pub returns-in-Err-clause-told : goal.returns-in-Err-clause-told
@@ -48,24 +48,24 @@ returns-then-n-eq0-clause-told g c =
     let now = g.R.Source.bytes c.reads.reader in
     let end = g.R.Source.bytes c.read_part.new.reader in
     let mid = g.W.Sink.bytes c.tell_window.new.writer in
-    let last = g.W.Sink.bytes c.write_end.new.writer in
+    let last = g.W.Sink.bytes c.write_live_end.new.writer in
     let next = c.in-Ok-tell_window.told.0 in
     let longer = c.read_part.new.window.items in
     let told =
     live_told g.J.Tellers.became g.J.Tellers.judged c.args.judges c.args.order (g.R.Source.bytes c.args.reader.now) (g.W.Sink.bytes c.args.writer.now) now _ mid c.reads.live next
     c.in-Ok-tell_window.told.1 c.reads.invariant.live c.reads-test.true c.in-Ok-tell_window.ensures.told in
     let got = subst (HasGot now end next.window.items longer) c.if-n-eq0.true c.in-Ok-read_part.ensures.got in
-    elim c.match-write_end.branch [
-      | in-Ok-write_end w ↦
+    elim c.match-write_live_end.branch [
+      | in-Ok-write_live_end w ↦
           rw w.result-is
           (told_all _ _ _ _ _ _ now mid next _ told end last longer c.in-Ok-live_cut_at.truncated c.totals_at-totals.result c.in-Ok-live_cut_at.ensures got
-          c.totals_at-totals.ensures w.in-Ok-write_end.ensures.0)
-      | in-Err-write_end w ↦
+          c.totals_at-totals.ensures w.in-Ok-write_live_end.ensures.0)
+      | in-Err-write_live_end w ↦
           rw w.result-is
           (subst (IsLiveFault g.J.Tellers.judged c.args.judges c.args.order (g.R.Source.bytes c.args.reader.now) end (g.W.Sink.bytes c.args.writer.now) last)
-          (sym w.in-Err-write_end.ensures.3)
+          (sym w.in-Err-write_live_end.ensures.3)
           (end_fault _ _ _ _ _ _ now mid next _ told end last longer c.in-Ok-live_cut_at.truncated c.totals_at-totals.result c.in-Ok-live_cut_at.ensures got
-          c.totals_at-totals.ensures w.in-Err-write_end.ensures.4))
+          c.totals_at-totals.ensures w.in-Err-write_live_end.ensures.4))
     ]
 
 pub reads-preserved : goal.reads-preserved

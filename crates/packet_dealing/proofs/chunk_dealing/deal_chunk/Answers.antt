@@ -20,7 +20,7 @@ loop-at-init g c =
     let none = ap length c.requires.empty.none in
     record {
       count = omega arith;
-      left = ◌∙◌ {a = drop job.first (remaining job.packets)} (sym c.skip.ensures) (sym c.new-packets.ensures);
+      left = ◌∙◌ {a = drop job.first (remaining job.packets)} (sym c.skip_to_chunk.ensures) (sym c.new-packets.ensures);
       dealt = none_dealt g.A.Shape g.B.Shape job.dealer (job.number + job.first) (drop job.first (remaining job.packets))
           job.chunk c.requires.empty;
     }

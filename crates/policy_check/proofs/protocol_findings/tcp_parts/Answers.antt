@@ -14,4 +14,5 @@ returns-in-Ok-after_flags c =
     let one = c.in-Ok.ensures.right in
     let two = c.in-Ok-after_flags.ensures.right in
     left_wrong (λ f. f.reason) (λ f. f.word.now) words (one.0 ++ two.0) last NoTcpPart (IsPartReason OfTcp words) (λ w stands. (stands, refl))
-    (both_used words more last one.0 two.0 one.1 two.1) c.left.result c.left.ensures.reason c.left.ensures.word
+    (both_used words more last one.0 two.0 one.1 two.1)
+    c.left_after_protocol.result c.left_after_protocol.ensures.reason c.left_after_protocol.ensures.word

@@ -7,8 +7,8 @@ use Rattle.policy_check.proofs.remarks_on_policy.source_bits.Goals as goal
 
 pub returns-then-has_bits : goal.returns-then-has_bits
 returns-then-has_bits c =
-    let rule = c.index-rules-place.result in
-    let within : c.args.place < length c.rules.result.now = omega (arith, ap length c.rules.ensures, length-map c.rules.result.now rule_facts, c.requires) in
-    let here = rule_there c.rules.result.now c.args.place rule within c.index-rules-place.is in
-    let read = subst (λ (rules : List RuleFacts). slice_get rules c.args.place ≡ Some (rule_facts rule)) c.rules.ensures here in
+    let rule = c.index-rules_for_remarks-place.result in
+    let within : c.args.place < length c.rules_for_remarks.result.now = omega (arith, ap length c.rules_for_remarks.ensures, length-map c.rules_for_remarks.result.now rule_facts, c.requires) in
+    let here = rule_there c.rules_for_remarks.result.now c.args.place rule within c.index-rules_for_remarks-place.is in
+    let read = subst (λ (rules : List RuleFacts). slice_get rules c.args.place ≡ Some (rule_facts rule)) c.rules_for_remarks.ensures here in
     (refl, refl, refl, (rule_facts rule, read, c.has_bits.ensures c.if-has_bits.true))

@@ -1,7 +1,7 @@
 use Rattle.std.proofs.Common.{List, ap, subst, sym}
 use Rattle.std.proofs.lemmas.Result.{IfOk-weaker}
 use Rattle.acl_policy.specs.Policies.{policy_facts}
-use Rattle.racl_io.specs.declared.report_totals.Captured.{Captured}
+use Rattle.racl_io.specs.declared.totals_and_truncation.Captured.{Captured}
 use Rattle.racl_cli.specs.Reads.{IsReached}
 use Rattle.racl_report.specs.ReadInputs.{HasPackets}
 use Rattle.racl_report.specs.RunReports.{Outcome}

@@ -5,12 +5,12 @@ use Rattle.racl_cli.proofs.runs_end_to_end.judge_kept.Goals as goal
 
 pub returns-in-Ok-clause-kept : goal.returns-in-Ok-clause-kept
 returns-in-Ok-clause-kept g c =
-    kept_all c.args.options.now _ c.read_rest.new.bytes.items c.judge_source.result (known_kept _ _ c.args.kept.now.items c.read_rest.new.bytes.items c.requires.empty c.in-Ok.ensures.ok)
+    kept_all c.args.options.now _ c.read_behind_front.new.bytes.items c.judge_source.result (known_kept _ _ c.args.kept.now.items c.read_behind_front.new.bytes.items c.requires.empty c.in-Ok.ensures.ok)
     (subst (λ (b : List ℕ). AnswersRead c.args.options.now [] (Some b) c.judge_source.result) c.as_slice.ensures.value c.judge_source.ensures.answers)
 
 pub returns-in-Ok-clause-answers : goal.returns-in-Ok-clause-answers
 returns-in-Ok-clause-answers g c =
-    answers_again c.args.options.now _ c.read_rest.new.bytes.items c.judge_source.result (known_kept _ _ c.args.kept.now.items c.read_rest.new.bytes.items c.requires.empty c.in-Ok.ensures.ok)
+    answers_again c.args.options.now _ c.read_behind_front.new.bytes.items c.judge_source.result (known_kept _ _ c.args.kept.now.items c.read_behind_front.new.bytes.items c.requires.empty c.in-Ok.ensures.ok)
     (subst (λ (b : List ℕ). AnswersRead c.args.options.now [] (Some b) c.judge_source.result) c.as_slice.ensures.value c.judge_source.ensures.answers)
 
 pub returns-in-Ok-clause-within : goal.returns-in-Ok-clause-within

@@ -7,16 +7,16 @@ use Rattle.racl_report.proofs.input_read_again.captures_of.Goals as goal
 pub returns-in-Ok : goal.returns-in-Ok
 returns-in-Ok c = λ packets captures has.
     let content = c.args.input.content.now in
-    alone_packets (λ all. all.items) c.one_capture.result (record { interface = 0; bytes = c.in-Ok.bytes }) Binary content packets captures tt
-    refl c.in-Ok.ensures.items (subst (λ f. HasPackets f content packets captures) c.in-Binary.is has) c.one_capture.ensures
+    alone_packets (λ all. all.items) c.one_capture_again.result (record { interface = 0; bytes = c.in-Ok.bytes }) Binary content packets captures tt
+    refl c.in-Ok.ensures.items (subst (λ f. HasPackets f content packets captures) c.in-Binary.is has) c.one_capture_again.ensures
 
 pub returns-in-Ok-decode_digits : goal.returns-in-Ok-decode_digits
 returns-in-Ok-decode_digits c = λ packets captures has.
     let content = c.args.input.content.now in
-    alone_packets (λ all. all.items) c.one_capture-in-Ok-decode_digits.result (record { interface = 0; bytes = c.in-Ok-decode_digits.bytes }) Hexadecimal content
+    alone_packets (λ all. all.items) c.one_capture_again-in-Ok-decode_digits.result (record { interface = 0; bytes = c.in-Ok-decode_digits.bytes }) Hexadecimal content
     packets captures tt refl c.in-Ok-decode_digits.ensures.ok (subst (λ f. HasPackets f content packets captures) c.in-Hexadecimal.is has)
-    c.one_capture-in-Ok-decode_digits.ensures
+    c.one_capture_again-in-Ok-decode_digits.ensures
 
 pub returns-in-Numbered : goal.returns-in-Numbered
 returns-in-Numbered c = λ packets captures has.
-    c.numbered_captures.ensures packets captures (subst (λ f. HasPackets f c.args.input.content.now packets captures) c.in-Numbered.is has)
+    c.numbered_captures_again.ensures packets captures (subst (λ f. HasPackets f c.args.input.content.now packets captures) c.in-Numbered.is has)

@@ -1,7 +1,7 @@
 //! Devices that move a byte at a time, and devices that fail.
 ghost use Rattle.std.specs.Prelude.{◌≡◌, None};
 
-use super::{DEFAULTS, whole_input, whole_report};
+use super::{DEFAULTS, whole_run_input, whole_run_report};
 use racl_cli::{Device, DeviceFault, Fault, Sink, Source, Totals, run, status};
 use std::alloc::Global;
 
@@ -95,7 +95,7 @@ pub fn trickling(alloc: Global, writes: usize) -> Trickle
 #[test]
 fn a_run_on_unfailing_devices(rt: HostRuntime) {
     let alloc = rt.alloc();
-    let mut reader = Device::new(whole_input());
+    let mut reader = Device::new(whole_run_input());
     let mut writer = Device::new(Vec::new(alloc));
     let outcome = run(&rt, alloc, &DEFAULTS, &mut reader, &mut writer);
     let totals = Totals {
@@ -106,7 +106,7 @@ fn a_run_on_unfailing_devices(rt: HostRuntime) {
     };
     assert_eq!(rt; outcome, Ok(totals));
     assert_eq!(rt; status(&outcome), 0);
-    assert_eq!(rt; writer.inner.as_slice(), whole_report());
+    assert_eq!(rt; writer.inner.as_slice(), whole_run_report());
 }
 
 /// A run on slow devices: a read and a write for each byte.
@@ -114,21 +114,21 @@ fn a_run_on_unfailing_devices(rt: HostRuntime) {
 fn one_byte_at_a_time(rt: HostRuntime) {
     let alloc = rt.alloc();
     let mut reader = Drip {
-        rest: whole_input(),
+        rest: whole_run_input(),
         reads: usize::MAX,
         failures: 0,
     };
     let mut writer = trickling(alloc, usize::MAX);
     let outcome = run(&rt, alloc, &DEFAULTS, &mut reader, &mut writer);
     assert_eq!(rt; status(&outcome), 0);
-    assert_eq!(rt; writer.taken.as_slice(), whole_report());
+    assert_eq!(rt; writer.taken.as_slice(), whole_run_report());
 }
 
 /// Runs on failing devices: wherever a read fails, nothing is written.
 #[test]
 fn runs_with_failing_reads(rt: HostRuntime) {
     let alloc = rt.alloc();
-    let input = whole_input();
+    let input = whole_run_input();
     for reads in 0..=input.len() {
         let mut reader = Drip {
             rest: input,
@@ -147,9 +147,9 @@ fn runs_with_failing_reads(rt: HostRuntime) {
 #[test]
 fn runs_with_failing_writes(rt: HostRuntime) {
     let alloc = rt.alloc();
-    let report = whole_report();
+    let report = whole_run_report();
     for writes in 0..report.len() {
-        let mut reader = Device::new(whole_input());
+        let mut reader = Device::new(whole_run_input());
         let mut writer = trickling(alloc, writes);
         let outcome = run(&rt, alloc, &DEFAULTS, &mut reader, &mut writer);
         assert_eq!(rt; outcome, Err(Fault::Write), "after {writes} writes");
@@ -161,7 +161,7 @@ fn runs_with_failing_writes(rt: HostRuntime) {
 /// Runs on failing devices: one that takes no byte of the report.
 #[test]
 fn a_write_of_nothing_is_a_failed_one(rt: HostRuntime) {
-    let mut reader = Device::new(whole_input());
+    let mut reader = Device::new(whole_run_input());
     let mut writer = Stopped { failures: 0 };
     let outcome = run(&rt, rt.alloc(), &DEFAULTS, &mut reader, &mut writer);
     assert_eq!(rt; outcome, Err(Fault::Write));

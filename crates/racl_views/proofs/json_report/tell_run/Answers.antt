@@ -1,5 +1,5 @@
 use Rattle.std.proofs.Common.{◌∙◌, ◌++◌, ℕ, List, [], ◌∷◌, ap, append-nil, sym}
-use Rattle.racl_io.specs.declared.report_totals.Totals.{Totals}
+use Rattle.racl_io.specs.declared.totals_and_truncation.Totals.{Totals}
 use Rattle.racl_views.specs.Objects.{object_line, object_lines}
 use Rattle.racl_views.specs.PacketObjects.{packet_objects, totals_object, truncation_objects}
 use Rattle.racl_views.specs.RunEntries.{captures_told, run_facts}

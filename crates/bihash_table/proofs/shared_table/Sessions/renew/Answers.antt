@@ -9,8 +9,8 @@ returns-then-load_count-numbers-clause-refused g c =
     let left = strangers_left (sizes_of g.S.Shape) c.args.caller.seat _ _ _ c.load_count.ensures c.numbers.ensures.count
     c.if-load_count-numbers.true in (refl, left.0, left.1)
 
-pub reopen-requires : goal.reopen-requires
-reopen-requires g c =
+pub renew_table-requires : goal.renew_table-requires
+renew_table-requires g c =
     idle_then (sizes_of g.S.Shape) c.args.caller.seat _ _ _ c.load_count.ensures c.numbers.ensures.count c.if-load_count-numbers.false c.requires
 
 pub returns-in-Ok-clause-whole : goal.returns-in-Ok-clause-whole
@@ -20,7 +20,7 @@ returns-in-Ok-clause-whole g c =
 pub returns-in-Err-clause-refused : goal.returns-in-Err-clause-refused
 returns-in-Err-clause-refused g c =
     let stays = stays_whole (sizes_of g.S.Shape) c.args.caller.seat _ _ _ c.load_count.ensures c.numbers.ensures.count
-    c.if-load_count-numbers.false _ c.reopen.ensures.noted in (refl, stays.0, stays.1)
+    c.if-load_count-numbers.false _ c.renew_table.ensures.noted in (refl, stays.0, stays.1)
 
 pub returns-in-Ok-clause-renewed : goal.returns-in-Ok-clause-renewed
 returns-in-Ok-clause-renewed g c =

@@ -21,9 +21,9 @@ returns-clause-bytes g c =
     let w = c.args.self.now in
     let one : length c.read.new.buf ≡ 1 = search rules in
     let read = one_byte c.read.new.buf c.in_ok-n.n one c.if-n-eq0.false c.in_ok-n.ensures.bound.0 in
-    let written : c.write_digits.new.room ≡ encode_lower (slice_index c.read.new.buf 0 ∷ []) = c.write_digits.ensures ∙ ap encode_lower (all_of_one c.read.new.buf one) in
-    let given = digit_given w.low w.form _ _ (slice_index c.read.new.buf 0) c.write_digits.new.room c.requires.none c.requires.digits
+    let written : c.write_capture_digits.new.room ≡ encode_lower (slice_index c.read.new.buf 0 ∷ []) = c.write_capture_digits.ensures ∙ ap encode_lower (all_of_one c.read.new.buf one) in
+    let given = digit_given w.low w.form _ _ (slice_index c.read.new.buf 0) c.write_capture_digits.new.room c.requires.none c.requires.digits
     (subst (Consumes _ _) read c.in_ok-n.ensures.bytes.0) written in (
-      subst (Consumes _ _) (sym (one_given c.args.buf.now (slice_index c.write_digits.new.room 0) c.requires.room)) given,
+      subst (Consumes _ _) (sym (one_given c.args.buf.now (slice_index c.write_capture_digits.new.room 0) c.requires.room)) given,
       λ zero. absurd (omega arith),
     )

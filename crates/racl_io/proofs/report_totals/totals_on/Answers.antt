@@ -1,5 +1,0 @@
-use Rattle.racl_io.proofs.ReportLemmas.{totals_counted}
-use Rattle.racl_io.proofs.report_totals.totals_on.Goals as goal
-
-pub returns : goal.returns
-returns c = totals_counted c.args.passed c.args.verdicts.now c.args.captures.now _ c.requires c.is_truncated.ensures
