@@ -15,7 +15,7 @@ const ONE_FRONT: usize = 262_144;
 const ONE_WINDOW: usize = 65_536;
 
 /// How many bytes are read at once for several workers: so many that their packets may pay for a thread each.
-const SEVERAL_WINDOW: usize = 4_194_304;
+const SEVERAL_WINDOW: usize = 3_145_728;
 
 /// How many bytes of an input are read, at least, before it is planned who judges its packets.
 pub fn front_bytes(options: &Options) -> usize
@@ -51,7 +51,7 @@ pub fn threads_beside<T>(rt: &T, are_several: bool) -> Option<&T>
 }
 
 /// How many times as many packets as stand in its front an input is expected to have that goes on after it.
-const TIMES_FRONT: usize = 16;
+const TIMES_FRONT: usize = 22;
 
 /// How many packets are expected, and how many workers judge them, where so many stand in the front of an input, or in all
 /// of it. Where they are few, in large frames say, so are those of each window, and one worker is faster than several in turn.

@@ -18,7 +18,7 @@ use std::alloc::{AllocError, Global};
 use std::sync::Wait;
 
 /// From how many packets of a window on each worker judges them in a thread of its own.
-pub const MANY_PACKETS: usize = 65_536;
+pub const MANY_PACKETS: usize = 49_152;
 
 // What so many workers share over tables of one of the sizes, who judge by this filter. Packets are dealt by bucket.
 fn setup_of<'t, 'f, A: Shape, B: Shape, T: Wait>(
