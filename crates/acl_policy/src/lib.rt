@@ -19,7 +19,7 @@ pub use policy_line::{Line, line_of};
 pub use policy_line_words::{
     action_of_line_word, direction_of_line_word, family_of_line_word, interface_of_line_word,
 };
-pub use policy_reading::{add_line, empty_draft, read_policy};
+pub use policy_reading::{empty_draft, read_policy, read_policy_line};
 pub use policy_text_laws::one_reading;
 pub use policy_words::{
     address_of, before_comment, cut_at, flags_of_word, icmp_number, is_end, mac_of, next_word,

@@ -45,7 +45,7 @@ fn reading_has_section(draft: &Draft, interface: u8) -> bool
 
 /// Reads a line: adds what it says to a policy of the lines before it. `number` is the line's. Where the line is at
 /// fault, the policy stays as it was; where memory ran out, it is of no use.
-pub fn add_line(
+pub fn read_policy_line(
     alloc: Global,
     draft: &mut Draft,
     line: &[u8],
@@ -100,7 +100,7 @@ fn read_lines(alloc: Global, text: &str) -> Result<Policy, PolicyFault>
     let mut number = 0;
     for line in text.lines() {
         number += 1;
-        add_line(alloc, &mut draft, line.as_bytes(), number)?;
+        read_policy_line(alloc, &mut draft, line.as_bytes(), number)?;
     }
     let Draft {
         done: mut sections,

@@ -22,7 +22,7 @@ pub extern "C" fn bihash4_create(alloc: Global, handle: &mut Handle4) -> u32
         (content_in handle.new.place) result }
 {
     flow_shapes_are_sound();
-    let Some(content) = Content::first(alloc) else {
+    let Some(content) = Content::first_caller(alloc) else {
         return MEMORY;
     };
     let content = EitherSize::Small(content);
@@ -42,7 +42,7 @@ pub extern "C" fn bihash4_create_large(alloc: Global, handle: &mut Handle4) -> u
         (content_in handle.new.place) result }
 {
     large_shapes_are_sound();
-    let Some(content) = Content::first(alloc) else {
+    let Some(content) = Content::first_caller(alloc) else {
         return MEMORY;
     };
     let content = EitherSize::Large(content);

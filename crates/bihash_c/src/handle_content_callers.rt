@@ -14,7 +14,7 @@ use std::mem;
 
 impl<S: Shape> Content<S> {
     /// Caller 1 of a new table. `None`: memory was refused.
-    pub fn first(alloc: Global) -> Option<Content<S>>
+    pub fn first_caller(alloc: Global) -> Option<Content<S>>
         requires { IsSound (sizes_of S.Shape) }
         ensures { IfSome result (IsFirst (sizes_of S.Shape)) }
     {

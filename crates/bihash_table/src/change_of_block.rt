@@ -40,12 +40,12 @@ pub(crate) fn enter_larger<S: Shape, E: Expiry>(
     let scratch = &mut caller.scratch;
     let old = &mut scratch.old_places;
     let new = &mut scratch.new_places;
-    enter_as_planned(row, seat, seen, entrant, old, new)
+    enter_by_block_change(row, seat, seen, entrant, old, new)
 }
 
 /// Enters a new pair by a change to a larger block, where the plan is one, and else recycles or refuses. The lists have
 /// room for all pairs of a bucket, as they stand and as they will stand.
-fn enter_as_planned<S: Shape, E: Expiry>(
+fn enter_by_block_change<S: Shape, E: Expiry>(
     row: &Row<S>,
     seat: &mut CallerSeat<S>,
     seen: &SeenBucket<'_, S>,
@@ -68,11 +68,11 @@ fn enter_as_planned<S: Shape, E: Expiry>(
     if !lock_if_unchanged(row, seat, seen.hashed.bucket, seen.word) {
         return Err(Contended);
     }
-    enter(row, seat, seen, entrant.value, size, new)
+    enter_in_new_block(row, seat, seen, entrant.value, size, new)
 }
 
 /// By a change of block the bucket gets one of this size, in which its pairs and the new one are laid out.
-fn enter<S: Shape>(
+fn enter_in_new_block<S: Shape>(
     row: &Row<S>,
     seat: &mut CallerSeat<S>,
     seen: &SeenBucket<'_, S>,
@@ -102,7 +102,7 @@ fn enter<S: Shape>(
                 reply: Reply::Changed(None),
             };
             row.publish_block::<Brand, Event<'_, S>>(seat, bucket, word, extent, &event);
-            leave_store(row, seat, word);
+            end_block_change(row, seat, word);
             Ok(Reply::Changed(None))
         }
         Err(left) => {
@@ -124,7 +124,7 @@ fn enter<S: Shape>(
 }
 
 /// Ends a change of block: gives back the one that the bucket of this word had, if any, and opens the allocation lock.
-fn leave_store<S: Shape>(row: &Row<S>, seat: &mut CallerSeat<S>, word: BucketWord)
+fn end_block_change<S: Shape>(row: &Row<S>, seat: &mut CallerSeat<S>, word: BucketWord)
     requires { MayLeave (sizes_of S.Shape) row.now seat.old word }
     ensures same { seat.new ≡ with_view seat.old seat.new.view }
     ensures left { Released seat.old.view seat.new.view }
@@ -175,6 +175,6 @@ pub(crate) fn remove_last<S: Shape>(
         reply: Reply::Changed(Some(pair.1)),
     };
     row.publish_block::<Brand, Event<'_, S>>(seat, seen.hashed.bucket, seen.word, none, &event);
-    leave_store(row, seat, seen.word);
+    end_block_change(row, seat, seen.word);
     Ok(Reply::Changed(Some(pair.1)))
 }

@@ -43,7 +43,7 @@ impl<S: Shape> Sessions<S> {
         }
         match read_all(&self.row, &mut caller.seat, alloc) {
             Ok(mut pairs) => {
-                sort::<S>(&mut pairs);
+                sort_closed_pairs::<S>(&mut pairs);
                 Ok(pairs)
             }
             Err(_) => Err((CloseFault::Memory, self, caller)),
@@ -106,7 +106,7 @@ fn pair_at<S: Shape>(row: &Row<S>, words: &[u64], word: BucketWord, place: usize
 }
 
 /// Sorts the pairs of a closed table by the words of their keys, in place.
-fn sort<S: Shape>(pairs: &mut Vec<(S::Key, u64)>)
+fn sort_closed_pairs<S: Shape>(pairs: &mut Vec<(S::Key, u64)>)
     ensures same { IsPermutation pairs.old.items pairs.new.items }
     ensures sorted { 1 ≤ S.WORDS → IsSortedBy (λ p q. is_lt (slice_cmp nat_cmp (S.words_of p.0) (S.words_of q.0))) pairs.new.items }
 {

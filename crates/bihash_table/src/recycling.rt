@@ -38,7 +38,7 @@ pub(crate) fn recycle_or_refuse<S: Shape, E: Expiry>(
     row.is_sound();
     let size = seen.word.block_size();
     let Some(spare) = recycle::<S, E>(places, size, seen.hashed.key, entrant.expiry) else {
-        return refuse(row, seat, seen, entrant);
+        return refuse_to_recycle(row, seat, seen, entrant);
     };
     if !lock_if_unchanged(row, seat, seen.hashed.bucket, seen.word) {
         return Err(Contended);
@@ -48,11 +48,11 @@ pub(crate) fn recycle_or_refuse<S: Shape, E: Expiry>(
         key: &places[spare.place].0,
         linear: spare.linear,
     };
-    Ok(replace(row, seat, seen, entrant, &going))
+    Ok(recycle_place(row, seat, seen, entrant, &going))
 }
 
 /// Refuses a new key for which no expired pair can be recycled, where the bucket still has the word that was seen.
-fn refuse<S: Shape, E: Expiry>(
+fn refuse_to_recycle<S: Shape, E: Expiry>(
     row: &Row<S>,
     seat: &mut CallerSeat<S>,
     seen: &SeenBucket<'_, S>,
@@ -75,7 +75,7 @@ fn refuse<S: Shape, E: Expiry>(
 }
 
 /// Enters a pair of a new key by recycling the place of an expired one.
-fn replace<S: Shape, E: Expiry>(
+fn recycle_place<S: Shape, E: Expiry>(
     row: &Row<S>,
     seat: &mut CallerSeat<S>,
     seen: &SeenBucket<'_, S>,

@@ -64,13 +64,13 @@ impl<S: Shape> Sessions<S> {
         let found = value_found(pair);
         let change = patch.decide(found);
         let seen = SeenBucket { word, hashed };
-        make(&self.row, caller, &seen, pair, change, expiry)
+        make_tried_change(&self.row, caller, &seen, pair, change, expiry)
     }
 }
 
 // Makes the change that a try of an update decided on what it found, where it is one and the version isn't used up.
 #[inline(always)]
-fn make<S: Shape, E: Expiry>(
+fn make_tried_change<S: Shape, E: Expiry>(
     row: &Row<S>,
     caller: &mut Caller<S>,
     seen: &SeenBucket<'_, S>,
@@ -86,10 +86,10 @@ fn make<S: Shape, E: Expiry>(
     let found = value_found(pair);
     let seat = &mut caller.seat;
     if is_idle(change, found) {
-        return answer(row, seat, seen, found, change, Reply::Kept(found));
+        return answer_try(row, seat, seen, found, change, Reply::Kept(found));
     }
     if is_worn::<S>(seen.word) {
-        return answer(row, seat, seen, found, change, Reply::Worn(found));
+        return answer_try(row, seat, seen, found, change, Reply::Worn(found));
     }
     match pair {
         Some(held) => change_pair(row, seat, seen, held, change),
@@ -111,7 +111,7 @@ fn is_idle(change: Change, found: Option<u64>) -> bool
 }
 
 // Gives a reply that is no write and leaves the block in place, where the bucket still has the word that was seen.
-fn answer<S: Shape>(
+fn answer_try<S: Shape>(
     row: &Row<S>,
     seat: &mut CallerSeat<S>,
     seen: &SeenBucket<'_, S>,

@@ -44,7 +44,7 @@ fn write_place<S: Shape>(
         → IsPlaced ⟦<S as Shape>⟧ seat.old seat.new h place key.now value }
 {
     let first = place * (S::WORDS + 1);
-    for i in 0..shown_word_count::<S>(value) {
+    for i in 0..written_word_count::<S>(value) {
         row.store_held(seat, page, first + i, S::word(key, i));
     }
     row.store_held(seat, page, first + S::WORDS, value);
@@ -52,7 +52,7 @@ fn write_place<S: Shape>(
 
 /// How many words of a key are written at a place with this value. A store costs far more than a load, and the key of a
 /// free place means nothing.
-fn shown_word_count<S: Shape>(value: u64) -> usize
+fn written_word_count<S: Shape>(value: u64) -> usize
     ensures few { result ≤ S.WORDS }
     ensures all { value ≢ free → result ≡ S.WORDS }
 {

@@ -125,7 +125,7 @@ fn live_cut_at(stop: Stop, packets: usize) -> Result<bool, Fault>
 }
 
 // Some bytes of a live capture that are there are read behind the window, and none only at its end: how many they are.
-fn read_part<R: Source>(reader: &mut R, window: &mut Vec<u8>) -> Result<usize, Fault>
+fn read_live_part<R: Source>(reader: &mut R, window: &mut Vec<u8>) -> Result<usize, Fault>
     requires { R.failures reader.old < 2 ^ 64 - 1 }
     ensures got { MatchResult result (HasGot (R.bytes reader.old) (R.bytes reader.new) window.old.items window.new.items) (IsPartFault (R.bytes reader.old) (R.bytes reader.new)) }
     ensures failures { MatchResult result (λ _. R.failures reader.new ≡ R.failures reader.old) (λ fault. R.failures reader.new ≡ with_read (R.failures reader.old) fault) }
@@ -210,7 +210,7 @@ pub fn tell_live<J: Tellers + Drop, R: Source, W: Sink>(
             Ok(truncated) => truncated,
             Err(fault) => return Err(fault),
         };
-        let n = match read_part(reader, &mut next.window) {
+        let n = match read_live_part(reader, &mut next.window) {
             Ok(n) => n,
             Err(fault) => return Err(fault),
         };

@@ -10,7 +10,7 @@ ghost use Rattle.policy_check.specs.declared.reason.Reason.TheVariants.{NotUtf8}
 use crate::complaint::{Checked, Complaint};
 use crate::line_finding::explained;
 use crate::reason::Reason;
-use acl_policy::{Draft, Policy, PolicyFault, add_line, empty_draft};
+use acl_policy::{Draft, Policy, PolicyFault, empty_draft, read_policy_line};
 use std::alloc::{AllocError, Global};
 
 // Whether a line couldn't be added to the policy since memory ran out, which ends the check of its text.
@@ -42,7 +42,7 @@ fn check_lines(alloc: Global, text: &str) -> Result<Checked<'_>, AllocError>
     for line in text.lines() {
         number += 1;
         let line = line.as_bytes();
-        match add_line(alloc, &mut draft, line, number) {
+        match read_policy_line(alloc, &mut draft, line, number) {
             Ok(()) => {}
             Err(fault) if is_memory(fault) => return Err(AllocError),
             Err(_) => {

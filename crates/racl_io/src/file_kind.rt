@@ -41,7 +41,7 @@ impl Marks {
     ghost use Rattle.std.specs.Prelude.{◌≡◌, ◌==◌, ◌&&◌, ◌||◌};
 
     // Whether the kind of the file is modified pcap, by the first bytes of its header.
-    fn is_modified(self) -> bool
+    fn is_modified_pcap(self) -> bool
         ensures { result ≡ (self.magic == 0xa1b2cd34) }
     {
         self.magic == 0xa1b2_cd34
@@ -104,7 +104,7 @@ pub fn other_file(bytes: &[u8]) -> Option<Other>
         Some(Other::Xz)
     } else if big.magic == 0x28b5_2ffd {
         Some(Other::Zstd)
-    } else if little.is_modified() || big.is_modified() {
+    } else if little.is_modified_pcap() || big.is_modified_pcap() {
         Some(Other::Modified)
     } else if little.is_cooked() || big.is_cooked() {
         Some(Other::Cooked)

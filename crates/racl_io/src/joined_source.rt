@@ -33,7 +33,7 @@ fn joined_marker_line(alloc: Global, form: Form) -> Result<Vec<u8>, AllocError>
 }
 
 /// A capture from a reader behind its marker line, as it is joined to a policy in one source.
-pub fn marked<R: Read + Drop>(
+pub fn joined_capture<R: Read + Drop>(
     alloc: Global,
     form: Form,
     capture: R,

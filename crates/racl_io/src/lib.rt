@@ -28,7 +28,7 @@ pub use fault::Fault;
 pub use file_kind::{Other, is_capture, other_file};
 pub use front_kept::FrontKept;
 pub use interface_name::push_name;
-pub use joined_source::{Joined, Marked, marked};
+pub use joined_source::{Joined, Marked, joined_capture};
 pub use marker_line::{Digits, Form, Input, Numbered, cut_at_numbered_marker, split_input};
 pub use number_printing::Numeral;
 pub use read_buffer::ReadBuffer;

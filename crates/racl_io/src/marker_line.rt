@@ -127,7 +127,7 @@ fn first_line(bytes: &[u8]) -> Option<(&[u8], &[u8])>
 }
 
 // The parts of these bytes, cut at the first marker line that counts.
-fn parted(bytes: &[u8], marks: Marks) -> Option<Input<'_>>
+fn parted_at_marker(bytes: &[u8], marks: Marks) -> Option<Input<'_>>
     ensures some { IfSome result (λ input. IsParted marks bytes.now (input_facts input)) }
     ensures none { IfNone result ((parts : InputFacts) → IsParted marks bytes.now parts → ⊥) }
 {
@@ -158,7 +158,7 @@ pub fn split_input(bytes: &[u8]) -> Option<Input<'_>>
     ensures some { IfSome result (λ input. IsInput bytes.now (input_facts input)) }
     ensures none { IfNone result ((parts : InputFacts) → IsInput bytes.now parts → ⊥) }
 {
-    parted(bytes, Marks::Every)
+    parted_at_marker(bytes, Marks::Every)
 }
 
 /// Cuts what follows a marker line with a number: into the digits of its capture, and the next such line with what
@@ -167,7 +167,7 @@ pub fn cut_at_numbered_marker(content: &[u8]) -> Digits<'_>
     ensures cut { AreCutDigits content.now result.digits.now (numbered_facts result.next) }
     ensures shorter { IfSome result.next (λ next. length next.content.now < length content.now) }
 {
-    let Some(cut) = parted(content, Marks::Numbers) else {
+    let Some(cut) = parted_at_marker(content, Marks::Numbers) else {
         return Digits {
             digits: content,
             next: None,

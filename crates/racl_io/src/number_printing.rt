@@ -87,7 +87,7 @@ impl Counter {
 
     /// Counts up: the digits before the last one are made anew for printing once in ten times.
     #[inline(always)]
-    pub fn count(&mut self)
+    pub fn advance_number(&mut self)
         requires { self.old + 1 < 2 ^ 64 }
         ensures { self.new ≡ self.old + 1 }
     {

@@ -96,7 +96,7 @@ pub fn push_lines(piece: &mut Piece, number: &mut Counter, name: &Name, verdicts
     if name.is_absent() {
         // A loop apart: asking each line for a name costs those that have none up to a quarter more.
         'plain: for verdict in verdicts {
-            number.count();
+            number.advance_number();
             push_line(piece, number, *verdict);
             if verdict.passes() {
                 passed += 1;
@@ -105,7 +105,7 @@ pub fn push_lines(piece: &mut Piece, number: &mut Counter, name: &Name, verdicts
         return passed;
     }
     'named: for verdict in verdicts {
-        number.count();
+        number.advance_number();
         push_named_line(piece, number, name, *verdict);
         if verdict.passes() {
             passed += 1;

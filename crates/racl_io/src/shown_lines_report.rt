@@ -71,7 +71,7 @@ fn push_shown(
 {
     let mut passed = 0;
     'each: for verdict in verdicts {
-        number.count();
+        number.advance_number();
         push_shown_line(piece, number, name, shown, *verdict);
         if verdict.passes() {
             passed += 1;

@@ -5,7 +5,7 @@ ghost use Rattle.racl_options.specs.Asking.{AskForRun, asked_facts};
 ghost use Rattle.racl_options.specs.Checks.{IsCheck};
 
 use crate::file_checking::check_file;
-use crate::say_and_answer_status::refused;
+use crate::say_and_answer_status::say_refused;
 use racl_options::{Asked, check_name, options};
 use std::alloc::Global;
 use std::io;
@@ -40,10 +40,10 @@ pub fn asked_or_status<'a>(
     let status = match check_name(alloc, words) {
         Ok(None) => match options(alloc, words) {
             Ok(asked) => return Ok(Ok(asked)),
-            Err(error) => refused(rt, &error),
+            Err(error) => say_refused(rt, &error),
         },
         Ok(Some(name)) => check_file(rt, alloc, name),
-        Err(error) => refused(rt, &error),
+        Err(error) => say_refused(rt, &error),
     };
     match status {
         Ok(status) => Ok(Err(status)),

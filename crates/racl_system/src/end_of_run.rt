@@ -72,7 +72,7 @@ fn say_remark(
 }
 
 // Says the notes behind a run on files: what is likely to be wrong with them.
-fn say_more(
+fn say_run_notes(
     rt: &HostRuntime,
     alloc: Global,
     origin: &Origin<'_>,
@@ -124,7 +124,7 @@ pub fn say_end_of_run(
         Ok(status) => status,
         Err(error) => return Err(error),
     };
-    say_more(rt, alloc, origin, &reader.source, &ran.outcome)?;
+    say_run_notes(rt, alloc, origin, &reader.source, &ran.outcome)?;
     Ok(status)
 }
 

@@ -4,7 +4,7 @@ ghost use Rattle.racl_io.specs.Faults.{IsFaultOfCapture};
 ghost use Rattle.racl_io.specs.Writings.{front_at};
 
 use crate::input_files::input_name_at;
-use crate::named_reader::{Reader, bytes_of, opened};
+use crate::named_reader::{Reader, bytes_of, opened_reader};
 use packet_view::check_capture;
 use racl_io::{Fault, Joined};
 use racl_options::Origin;
@@ -27,12 +27,12 @@ fn read_again(rt: &HostRuntime, alloc: Global, name: &str) -> Option<Vec<u8>> {
     if name == "-" || !metadata(rt, name).ok()?.is_file() {
         return None;
     }
-    bytes_of(alloc, opened(rt, name).ok()?).ok()
+    bytes_of(alloc, opened_reader(rt, name).ok()?).ok()
 }
 
 /// The place of the first capture that has this fault, from 0; None where no capture is known to be that one. Faults of
 /// a header are found in the first bytes that were read; for a record that is too long the files are read again, of
-/// which no clause says what they have, as of `opened`.
+/// which no clause says what they have, as of `opened_reader`.
 pub fn faulty(
     rt: &HostRuntime,
     alloc: Global,

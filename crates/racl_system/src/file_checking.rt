@@ -9,7 +9,7 @@ use std::alloc::Global;
 use std::io;
 
 /// Checks the policy of the file of this name, and answers the status: 0 where it is one, 1 where it isn't, and 4 where
-/// memory ran out or a device failed. No clause says of which text, as of `opened`.
+/// memory ran out or a device failed. No clause says of which text, as of `opened_reader`.
 pub fn check_file(rt: &HostRuntime, alloc: Global, name: &str) -> io::Result<u8>
     ensures { IfOk result (λ status. (status ≡ 0) ⊎ ((status ≡ 1) ⊎ (status ≡ 4))) }
 {

@@ -5,9 +5,9 @@ ghost use Rattle.racl_options.specs.Origins.{origin_facts};
 ghost use Rattle.racl_system.specs.NamedFiles as named;
 ghost use Rattle.racl_system.specs.NamedFiles.{policy_of};
 
-use crate::named_reader::{Reader, held, opened_or_told};
+use crate::named_reader::{Reader, held_reader, opened_or_told};
 use crate::say_and_answer_status::say_fault;
-use racl_io::{Form, Marked, marked};
+use racl_io::{Form, Marked, joined_capture};
 use racl_options::Origin;
 use racl_report::Hint;
 use std::alloc::Global;
@@ -22,7 +22,7 @@ pub struct Parts {
 }
 
 // Opens the file of one capture of an input, and puts it behind the others. Whether it could be opened.
-fn pushed(
+fn pushed_file(
     rt: &HostRuntime,
     captures: &mut Vec<Marked<Reader>>,
     form: Form,
@@ -31,22 +31,22 @@ fn pushed(
     let Some(reader) = opened_or_told(rt, name)? else {
         return Ok(false);
     };
-    captures.push(marked(rt.alloc(), form, reader)?)?;
+    captures.push(joined_capture(rt.alloc(), form, reader)?)?;
     Ok(true)
 }
 
 // Opens the files of an input's captures in their order. Whether all could be opened.
-fn pushed_all(
+fn pushed_files(
     rt: &HostRuntime,
     captures: &mut Vec<Marked<Reader>>,
     origin: &Origin<'_>,
 ) -> io::Result<bool> {
     match origin {
         Origin::Standard => Ok(true),
-        Origin::Files(files) => pushed(rt, captures, Form::Binary, files.capture),
+        Origin::Files(files) => pushed_file(rt, captures, Form::Binary, files.capture),
         Origin::Interfaces(interfaces) => {
             for file in &interfaces.captures {
-                if !pushed(rt, captures, Form::Numbered(file.interface), file.name)? {
+                if !pushed_file(rt, captures, Form::Numbered(file.interface), file.name)? {
                     return Ok(false);
                 }
             }
@@ -95,7 +95,7 @@ fn opened_parts(rt: &HostRuntime, alloc: Global, origin: &Origin<'_>) -> io::Res
         return Ok(None);
     };
     let mut captures = Vec::new(alloc);
-    if !pushed_all(rt, &mut captures, origin)? {
+    if !pushed_files(rt, &mut captures, origin)? {
         return Ok(None);
     }
     Ok(Some(Parts { policy, captures }))
@@ -127,7 +127,7 @@ pub fn opened_input(
         say_where_terminal(rt);
         return Ok(Ok(Parts { policy, captures }));
     }
-    let fault = match held(alloc, policy) {
+    let fault = match held_reader(alloc, policy) {
         Ok(policy) => return Ok(Ok(Parts { policy, captures })),
         Err(fault) => fault,
     };

@@ -40,7 +40,7 @@ fn live_policy_text(rt: &HostRuntime, alloc: Global, name: &str) -> io::Result<R
 
 /// Opens the capture of a run, and reads its policy, of which it says what is unlikely to be meant. Where one can't be
 /// had that is told, and the status is answered: 1 where the text is too large, else 4. No clause says what names open,
-/// as of `opened`.
+/// as of `opened_reader`.
 pub fn opened_live(
     rt: &HostRuntime,
     alloc: Global,

@@ -34,7 +34,7 @@ impl Read for Reader {
 
 /// Opens the reader that is named: a file that can be read, or standard input by the name `-`. A folder is refused. No
 /// clause says what a name opens, since that is the system's: `checks/run` looks at it.
-pub fn opened(rt: &HostRuntime, name: &str) -> io::Result<Reader> {
+pub fn opened_reader(rt: &HostRuntime, name: &str) -> io::Result<Reader> {
     if name == "-" {
         return Ok(Reader::Standard(rt.stdin()));
     }
@@ -46,9 +46,9 @@ pub fn opened(rt: &HostRuntime, name: &str) -> io::Result<Reader> {
 }
 
 /// Opens an input file that can be read, or standard input. Where it can't, that is told, and None is answered. No
-/// clause says what a name opens, as of `opened`.
+/// clause says what a name opens, as of `opened_reader`.
 pub fn opened_or_told(rt: &HostRuntime, name: &str) -> io::Result<Option<Reader>> {
-    match opened(rt, name) {
+    match opened_reader(rt, name) {
         Ok(reader) => Ok(Some(reader)),
         Err(reason) => {
             rt.eprintln(&Unopened { name, reason })?;
@@ -58,7 +58,7 @@ pub fn opened_or_told(rt: &HostRuntime, name: &str) -> io::Result<Option<Reader>
 }
 
 /// Reads from a named reader all that an input may have, and a byte more where there is one. No clause says what a name
-/// had, as of `opened`.
+/// had, as of `opened_reader`.
 pub fn bytes_of(alloc: Global, reader: Reader) -> Result<Vec<u8>, Fault>
     ensures few { IfOk result (λ bytes. length bytes.items ≤ most_bytes + 1) }
     ensures faults { IfErr result (λ fault. (fault ≡ Memory) ⊎ (fault ≡ Read)) }
@@ -71,7 +71,7 @@ pub fn bytes_of(alloc: Global, reader: Reader) -> Result<Vec<u8>, Fault>
 }
 
 /// Reads that from a named reader, and holds it, so that it can be looked at again.
-pub fn held(alloc: Global, reader: Reader) -> Result<Reader, Fault>
+pub fn held_reader(alloc: Global, reader: Reader) -> Result<Reader, Fault>
     ensures { IfErr result (λ fault. (fault ≡ Memory) ⊎ (fault ≡ Read)) }
 {
     match bytes_of(alloc, reader) {

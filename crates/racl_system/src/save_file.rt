@@ -20,7 +20,7 @@ pub struct SaveFile<'a> {
     reason: Option<io::Error>,
 }
 
-// The file of this name, whatever that is: `-` is a file too. No clause says what a name opens, as of `opened`.
+// The file of this name, whatever that is: `-` is a file too. No clause says what a name opens, as of `opened_reader`.
 fn saved_to<'a>(rt: &'a HostRuntime, name: &'a str) -> SaveFile<'a> {
     SaveFile {
         rt,
@@ -89,7 +89,7 @@ pub fn saves_to<'a>(rt: &'a HostRuntime, saved: &Saved<'a>) -> Saves<Device<Save
 }
 
 // Says why a file couldn't be created or written. Whether that is so.
-fn say_failed(rt: &impl Eprint, file: Option<Device<SaveFile<'_>>>) -> io::Result<bool>
+fn say_failed_save(rt: &impl Eprint, file: Option<Device<SaveFile<'_>>>) -> io::Result<bool>
     ensures { IfOk result (λ failed. failed ≡ has_failed file.entry) }
 {
     let Some(file) = file else {
@@ -108,5 +108,5 @@ pub fn say_unsaved(rt: &impl Eprint, saves: Saves<Device<SaveFile<'_>>>) -> io::
     ensures { IfOk result (λ failed. failed ≡ (has_failed saves.entry.drops || has_failed saves.entry.passes)) }
 {
     let Saves { drops, passes } = saves;
-    Ok(say_failed(rt, drops)? || say_failed(rt, passes)?)
+    Ok(say_failed_save(rt, drops)? || say_failed_save(rt, passes)?)
 }

@@ -33,7 +33,7 @@ pub fn say_fault(rt: &impl Eprint, fault: Fault) -> io::Result<u8>
 }
 
 /// Says that the program ends since its words are refused, and answers the status.
-pub fn refused(rt: &(impl Print + Eprint), error: &Error) -> io::Result<u8>
+pub fn say_refused(rt: &(impl Print + Eprint), error: &Error) -> io::Result<u8>
     ensures request { IfOk result (λ status. IsRequest (kind_of error.now) → status ≡ 0) }
     ensures memory { IfOk result (λ status. kind_of error.now ≡ kinds.OutOfMemory → status ≡ 4) }
     ensures mistake { IfOk result (λ status. (IsRequest (kind_of error.now) → ⊥)

@@ -12,7 +12,7 @@ use racl_io::{Numeral, Piece};
 use std::net::Ipv6Addr;
 
 /// A hexadecimal digit in the text of an address, or of TCP flags.
-pub fn digit(value: u16) -> u8
+pub fn hex_digit(value: u16) -> u8
     requires { value < 16 }
     ensures { result ≡ digit_char value }
 {
@@ -44,10 +44,10 @@ fn push_address_group(piece: &mut Piece, group: u16)
     ensures short { length piece.new ≤ length piece.old + 4 }
 {
     let digits = [
-        digit(group / 0x1000),
-        digit(group / 0x100 % 16),
-        digit(group / 0x10 % 16),
-        digit(group % 16),
+        hex_digit(group / 0x1000),
+        hex_digit(group / 0x100 % 16),
+        hex_digit(group / 0x10 % 16),
+        hex_digit(group % 16),
     ];
     piece.push(&digits[leading_zeros(group)..]);
 }

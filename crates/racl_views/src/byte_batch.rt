@@ -85,7 +85,7 @@ fn put_first<W: Sink>(writer: &mut W, batch: &mut Batch, bytes: &[u8]) -> Result
 }
 
 // Gathers bytes behind those that wait; where they have no room, those are written.
-fn put<W: Sink>(writer: &mut W, batch: &mut Batch, bytes: &[u8]) -> Result<(), Fault>
+fn put_in_batch<W: Sink>(writer: &mut W, batch: &mut Batch, bytes: &[u8]) -> Result<(), Fault>
     requires sound { W.failures writer.old < 2 ^ 64 - 1 }
     ensures { HasPassed W.bytes W.failures writer.old writer.new batch.old batch.new bytes.now result }
 {
@@ -109,7 +109,7 @@ pub fn put_where<W: Sink>(
     ensures { HasPassed W.bytes W.failures writer.old writer.new batch.old batch.new (bytes_where kept bytes.now) result }
 {
     if kept {
-        return put(writer, batch, bytes);
+        return put_in_batch(writer, batch, bytes);
     }
     Ok(())
 }

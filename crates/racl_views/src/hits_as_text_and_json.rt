@@ -14,7 +14,7 @@ ghost use Rattle.racl_views.specs.inner.Counts.{Count};
 
 use crate::counting_reasons::count_reason;
 use crate::hit::Hit;
-use crate::json_fields::{add_number, add_string, add_way, begin, end};
+use crate::json_fields::{add_number, add_string, add_way, begin_json_object, end_json_object};
 use crate::line_text::{append_line_text, push_numbered};
 use crate::place_of_rule::number_at;
 use crate::reason_without_rule::Reason;
@@ -108,32 +108,32 @@ fn push_hit(piece: &mut Piece, hit: Hit)
 fn rule_object(text: Vec<u8>, at: RuleLine, count: u64) -> Result<Vec<u8>, AllocError>
     ensures { IfOk result (λ new. new.items ≡ text.items ++ object_line (Hits.hit_object (Rule at count))) }
 {
-    let mut object = begin(&text)?;
+    let mut object = begin_json_object(&text)?;
     add_number(&mut object, "interface", u64::from(at.rule.interface))?;
     add_way(&mut object, at.rule.direction)?;
     add_number(&mut object, "rule", at.rule.number)?;
     add_number(&mut object, "line", at.line)?;
     add_number(&mut object, "packets", count)?;
-    end(object, text)
+    end_json_object(object, text)
 }
 
 // The object among the hits of how many packets a reason decided that is no rule, behind a text.
 fn reason_object(text: Vec<u8>, reason: Reason, count: u64) -> Result<Vec<u8>, AllocError>
     ensures { IfOk result (λ new. new.items ≡ text.items ++ object_line (Hits.hit_object (Unruled reason count))) }
 {
-    let mut object = begin(&text)?;
+    let mut object = begin_json_object(&text)?;
     add_string(&mut object, "reason", word_of(reason))?;
     add_number(&mut object, "packets", count)?;
-    end(object, text)
+    end_json_object(object, text)
 }
 
 // The object of a count among the hits, behind a text.
 fn hit_count_object(text: Vec<u8>, key: &str, count: u64) -> Result<Vec<u8>, AllocError>
     ensures { IfOk result (λ new. new.items ≡ text.items ++ object_line (object_of (number key.now count ∷ []))) }
 {
-    let mut object = begin(&text)?;
+    let mut object = begin_json_object(&text)?;
     add_number(&mut object, key, count)?;
-    end(object, text)
+    end_json_object(object, text)
 }
 
 // The object of a hit behind a text.

@@ -19,7 +19,7 @@ const OBJECT_BYTES: usize = 384;
 
 /// Begins an object of JSON, without a field, whose line is put behind this text. It has bytes of its own: the writer
 /// fills some ahead, in proportion to what they hold. An `Err` of this and of what follows says that memory ran out.
-pub fn begin(text: &Vec<u8>) -> Result<Writer, AllocError>
+pub fn begin_json_object(text: &Vec<u8>) -> Result<Writer, AllocError>
     ensures { IfOk result (λ object. (object.before ≡ []) × (object.tokens ≡ begin_object ∷ [])) }
 {
     let mut object = Writer::new(Vec::with_capacity(*text.allocator(), OBJECT_BYTES)?);
@@ -28,7 +28,7 @@ pub fn begin(text: &Vec<u8>) -> Result<Writer, AllocError>
 }
 
 /// Ends an object of JSON behind its last field, and puts its line behind the text.
-pub fn end(object: Writer, text: Vec<u8>) -> Result<Vec<u8>, AllocError>
+pub fn end_json_object(object: Writer, text: Vec<u8>) -> Result<Vec<u8>, AllocError>
     ensures { (fields : List Field) → object.before ≡ [] → object.tokens ≡ begin_object ∷ fields_tokens fields
         → IfOk result (λ new. new.items ≡ text.items ++ object_line (object_of fields)) }
 {
@@ -77,7 +77,7 @@ pub fn add_way(object: &mut Writer, direction: Direction) -> Result<(), AllocErr
 
 // The text of an address that becomes a field of an object of JSON.
 #[tactic(auto, unfolding(std::specs::Net::Addr::IsIpv4OfBits, std::specs::Net::Addr::IsIpv6OfBits))]
-fn write_address(address: &mut String, family: Family, bits: u128) -> Result<(), AllocError>
+fn write_json_address(address: &mut String, family: Family, bits: u128) -> Result<(), AllocError>
     requires { bits < address_limit family }
     ensures { OnOk result (string_bytes address.new ≡ address_text family bits) }
 {
@@ -99,7 +99,7 @@ pub fn add_address(
     requires { bits < address_limit family }
     ensures { OnOk result (HasAdded object.old object.new (string key.now (address_text family bits) ∷ [])) }
 {
-    write_address(address, family, bits)?;
+    write_json_address(address, family, bits)?;
     add_string(object, key, address.as_str())?;
     Ok(())
 }

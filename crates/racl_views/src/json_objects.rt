@@ -8,7 +8,9 @@ ghost use Rattle.racl_views.specs.PacketObjects;
 ghost use Rattle.racl_views.specs.PacketObjects.{carried_fields, dest_fields, frame_way, line_field, packet_object, rule_fields, source_fields, totals_object, truncation_object, tuple_fields, verdict_fields};
 ghost use Rattle.racl_views.specs.inner.Fields.{HasAdded};
 
-use crate::json_fields::{add_address, add_number, add_string, add_true, add_way, begin, end};
+use crate::json_fields::{
+    add_address, add_number, add_string, add_true, add_way, begin_json_object, end_json_object,
+};
 use crate::packet_entry::Entry;
 use flow_filter::Verdict;
 use json::Writer;
@@ -65,7 +67,7 @@ fn add_rule(object: &mut Writer, verdict: Verdict) -> Result<(), AllocError>
 }
 
 // The field of a packet's object with the line of the rule that decided it, where one did.
-fn add_line(object: &mut Writer, line: u64) -> Result<(), AllocError>
+fn add_line_to_object(object: &mut Writer, line: u64) -> Result<(), AllocError>
     ensures { OnOk result (HasAdded object.old object.new (line_field line)) }
 {
     if line == 0 {
@@ -172,15 +174,15 @@ pub fn push_packet(
 ) -> Result<Vec<u8>, AllocError>
     ensures { IfOk result (λ new. new.items ≡ text.items ++ object_line (packet_object number (entry_facts entry.now))) }
 {
-    let mut object = begin(&text)?;
+    let mut object = begin_json_object(&text)?;
     add_number(&mut object, "packet", number)?;
     add_verdict(&mut object, entry.verdict)?;
-    add_line(&mut object, entry.line)?;
+    add_line_to_object(&mut object, entry.line)?;
     add_number(&mut object, "interface", u64::from(entry.interface))?;
     add_frame_way(&mut object, &entry.frame)?;
     add_number(&mut object, "time", u64::from(entry.moment))?;
     add_carried(&mut object, address, &entry.frame)?;
-    end(object, text)
+    end_json_object(object, text)
 }
 
 // The number of the interface in the object of a truncated capture: 0 where none is named.
@@ -197,19 +199,19 @@ fn object_interface(named: Option<u8>) -> u64
 pub fn push_truncation(text: Vec<u8>, captured: &Captured) -> Result<Vec<u8>, AllocError>
     ensures { IfOk result (λ new. new.items ≡ text.items ++ object_line (truncation_object captured.now)) }
 {
-    let mut object = begin(&text)?;
+    let mut object = begin_json_object(&text)?;
     add_number(&mut object, "interface", object_interface(captured.named))?;
     add_number(&mut object, "truncated_after", captured.packets as u64)?;
-    end(object, text)
+    end_json_object(object, text)
 }
 
 /// The object of the totals, which stands behind those of all packets.
 pub fn push_totals(text: Vec<u8>, totals: &Totals) -> Result<Vec<u8>, AllocError>
     ensures { IfOk result (λ new. new.items ≡ text.items ++ object_line (totals_object totals.now)) }
 {
-    let mut object = begin(&text)?;
+    let mut object = begin_json_object(&text)?;
     add_number(&mut object, "packets", totals.packets)?;
     add_number(&mut object, "pass", totals.passed)?;
     add_number(&mut object, "drop", totals.dropped)?;
-    end(object, text)
+    end_json_object(object, text)
 }

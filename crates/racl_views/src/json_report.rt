@@ -21,7 +21,7 @@ use racl_io::{Captured, Fault, Sink, Totals, has_line, totals_on, write_all};
 use std::alloc::{AllocError, Global};
 
 // The object of a packet behind the text of the report in JSON, where it is shown.
-fn tell(
+fn tell_packet_in_json(
     text: Vec<u8>,
     address: &mut String,
     telling: Telling<'_, '_>,
@@ -58,14 +58,14 @@ fn tell_packets(
         let Some(packet) = packets.next() else {
             return Ok(told);
         };
-        told = tell(told, address, telling, number, packet, *verdict)?;
+        told = tell_packet_in_json(told, address, telling, number, packet, *verdict)?;
         number += 1;
     }
     Ok(told)
 }
 
 // The object of a truncation behind the text of the report in JSON, where the capture is truncated.
-fn tell_truncation(text: Vec<u8>, captured: &Captured) -> Result<Vec<u8>, AllocError>
+fn tell_truncation_in_json(text: Vec<u8>, captured: &Captured) -> Result<Vec<u8>, AllocError>
     ensures { IfOk result (λ new. new.items ≡ text.items ++ truncation_by captured.now) }
 {
     if captured.truncated {
@@ -100,7 +100,7 @@ fn tell_captures_in_json(
             &mut packets,
             first,
         )?;
-        told = tell_truncation(told, captured)?;
+        told = tell_truncation_in_json(told, captured)?;
         others += captured.packets;
         rest = behind;
         left = after;

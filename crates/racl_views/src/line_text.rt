@@ -2,7 +2,7 @@
 ghost use Rattle.std.specs.Prelude.{◌≡◌, ◌+◌, ◌≤◌, ◌++◌, IfOk, codes, length};
 ghost use Rattle.racl_views.specs.PacketWords.{flags_text, numbered, protocol_text};
 
-use crate::address_text::digit;
+use crate::address_text::hex_digit;
 use acl_policy::icmp_number;
 use packet_view::Family;
 use racl_io::{Numeral, Piece};
@@ -53,7 +53,7 @@ pub fn push_line_flags(piece: &mut Piece, flags: u8)
 {
     let flags = u16::from(flags);
     piece.push(b" flags ");
-    piece.push(&[digit(flags / 16), digit(flags % 16)]);
+    piece.push(&[hex_digit(flags / 16), hex_digit(flags % 16)]);
 }
 
 /// Puts the line that is in the piece behind the text of those before it. An `Err` says that memory ran out.

@@ -46,7 +46,7 @@ fn numbered_rule_at(spot: &Spot, line: u64, said: Line) -> Option<RuleLine>
 }
 
 // While rules are numbered: the spot behind that line.
-fn behind(spot: &Spot, line: u64, said: Line) -> Spot
+fn numbering_behind(spot: &Spot, line: u64, said: Line) -> Spot
     requires { IsShort spot.now line }
     ensures { (before : List LineFacts) → IsBehind before spot.now → IsBehind (line_facts said ∷ before) result }
 {
@@ -101,7 +101,7 @@ fn number_rules_past_line(
     if let Some(rule) = numbered_rule_at(spot, line, said) {
         rules.push(rule)?;
     }
-    *spot = behind(spot, line, said);
+    *spot = numbering_behind(spot, line, said);
     Ok(())
 }
 

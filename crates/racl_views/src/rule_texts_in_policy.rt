@@ -37,7 +37,7 @@ fn rule_text_before_blanks(text: &[u8]) -> &[u8]
 }
 
 // As many bytes of a rule's text as are shown at most.
-fn front(text: &[u8]) -> &[u8]
+fn rule_text_cut(text: &[u8]) -> &[u8]
     ensures text { result.now ≡ take 200 text.now }
     ensures short { length result.now ≤ 200 }
 {
@@ -52,7 +52,7 @@ fn rule_text(line: &[u8]) -> RuleText<'_>
     ensures { shown_of result ≡ RuleTexts.rule_text line.now }
 {
     RuleText {
-        text: front(rule_text_before_blanks(rule_text_after_blanks(before_comment(line)))),
+        text: rule_text_cut(rule_text_before_blanks(rule_text_after_blanks(before_comment(line)))),
     }
 }
 

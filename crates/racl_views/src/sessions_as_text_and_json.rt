@@ -12,7 +12,7 @@ ghost use Rattle.racl_views.specs.inner.Fields.{HasAdded};
 
 use crate::address_text::push_address;
 use crate::flow_key::{four_flow, six_flow};
-use crate::json_fields::{add_address, add_number, begin, end};
+use crate::json_fields::{add_address, add_number, begin_json_object, end_json_object};
 use crate::line_room::Room;
 use crate::line_text::{append_line_text, push_line_flags, push_line_protocol, push_numbered};
 use crate::stored_flow::StoredFlow;
@@ -25,7 +25,7 @@ use session_state::{Session, Timeouts};
 use std::alloc::{AllocError, Global};
 
 // The port of an end in the text of a session, where the protocol has ports.
-fn push_port(piece: &mut Piece, proto: u8, port: u16)
+fn push_session_end_port(piece: &mut Piece, proto: u8, port: u16)
     requires { length piece.old + 30 ≤ 262144 }
     ensures text { piece.new ≡ piece.old ++ line.port_told proto port }
     ensures short { length piece.new ≤ length piece.old + 30 }
@@ -54,7 +54,7 @@ fn push_session_end(piece: &mut Piece, flow: &StoredFlow, end: FlowEnd, flags: u
     ensures short { length piece.new ≤ length piece.old + 145 }
 {
     push_address(piece, flow.family, end.address);
-    push_port(piece, flow.proto, end.port);
+    push_session_end_port(piece, flow.proto, end.port);
     push_session_end_flags(piece, flow.proto, flags);
 }
 
@@ -157,13 +157,13 @@ fn session_object(
 ) -> Result<Vec<u8>, AllocError>
     ensures { IfOk result (λ new. new.items ≡ text.items ++ object_line (line.session_object times.now (flow_facts flow.now) session.now)) }
 {
-    let mut object = begin(&text)?;
+    let mut object = begin_json_object(&text)?;
     add_number(&mut object, "interface", u64::from(flow.interface))?;
     add_number(&mut object, "protocol", u64::from(flow.proto))?;
     add_ends(&mut object, address, flow, session)?;
     add_number(&mut object, "last", u64::from(session.last()))?;
     add_number(&mut object, "until", session_until_to_tell(times, session))?;
-    end(object, text)
+    end_json_object(object, text)
 }
 
 // What is told of a session behind a text.

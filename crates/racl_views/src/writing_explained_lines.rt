@@ -41,7 +41,7 @@ fn make_room_for_explained<W: Sink>(writer: &mut W, piece: &mut Piece) -> Result
 }
 
 // Puts the explained line of a packet into the piece of the report, where it has one.
-fn tell<W: Sink>(
+fn tell_explained<W: Sink>(
     writer: &mut W,
     piece: &mut Piece,
     telling: Telling<'_, '_>,
@@ -85,7 +85,7 @@ fn write_packets<W: Sink>(
             write_all(writer, piece.as_slice())?;
             return Ok(());
         };
-        tell(writer, piece, telling, place, packet, *verdict)?;
+        tell_explained(writer, piece, telling, place, packet, *verdict)?;
         place.number += 1;
     }
     write_all(writer, piece.as_slice())?;

@@ -1,7 +1,7 @@
 //! A policy's text with what it says, and the texts of faults. `checks/rows/policies.txt` has the lines that are refused,
 //! and which packets a line takes.
 use super::{EVERY, filter_test_refused};
-use acl_policy::{Action, PolicyFault, Rule, add_line, empty_draft, read_policy};
+use acl_policy::{Action, PolicyFault, Rule, empty_draft, read_policy, read_policy_line};
 use packet_view::{Family, Mac};
 use std::test::Fail;
 
@@ -95,10 +95,10 @@ fn bits_beyond_a_length(rt: HostRuntime) -> Result<(), Fail> {
 #[test]
 fn a_line_at_fault_leaves_the_policy(rt: HostRuntime) -> Result<(), Fail> {
     let mut draft = empty_draft(rt.alloc());
-    add_line(rt.alloc(), &mut draft, b"mac 02:00:00:00:00:01", 1)?;
-    let second = add_line(rt.alloc(), &mut draft, b"mac 02:00:00:00:00:02", 2);
+    read_policy_line(rt.alloc(), &mut draft, b"mac 02:00:00:00:00:01", 1)?;
+    let second = read_policy_line(rt.alloc(), &mut draft, b"mac 02:00:00:00:00:02", 2);
     assert_eq!(rt; second, Err(PolicyFault::BadLine(2)));
-    add_line(rt.alloc(), &mut draft, b"in deny ipv4 any any", 3)?;
+    read_policy_line(rt.alloc(), &mut draft, b"in deny ipv4 any any", 3)?;
     assert_eq!(rt; draft.current.own, Some(Mac([2, 0, 0, 0, 0, 1])));
     assert_eq!(rt; draft.current.inbound.len(), 1);
     Ok(())

@@ -46,7 +46,7 @@ pub fn answer_for_tables(server: u8) -> [u8; 42] {
 type Row = (u32, u8, bool, Verdict);
 
 // The number of the first row whose packet gets another verdict by its one try over session tables, if one does.
-fn first_wrong<A: Shape, B: Shape>(
+fn first_wrong_over_tables<A: Shape, B: Shape>(
     filter: &Filter,
     tables: &Tables<A, B>,
     callers: &mut Callers<A, B>,
@@ -87,7 +87,7 @@ fn first_wrong_of_new<A: Shape>(alloc: Global, rows: &[Row]) -> Option<Option<us
     let Ok((tables, mut callers)) = create_tables::<A, ShapeV6>(alloc) else {
         return None;
     };
-    Some(first_wrong(&filter, &tables, &mut callers, rows))
+    Some(first_wrong_over_tables(&filter, &tables, &mut callers, rows))
 }
 
 // The number of the first row that gets another verdict over session tables that are opened again behind other rows.
@@ -104,11 +104,11 @@ fn first_wrong_of_renewed<A: Shape>(
     let Ok((tables, mut callers)) = create_tables::<A, ShapeV6>(alloc) else {
         return None;
     };
-    let wrong = first_wrong(&filter, &tables, &mut callers, before);
+    let wrong = first_wrong_over_tables(&filter, &tables, &mut callers, before);
     let Ok((tables, mut callers)) = renew_tables(alloc, tables, callers, Family::V4) else {
         return None;
     };
-    Some(wrong.or(first_wrong(&filter, &tables, &mut callers, rows)))
+    Some(wrong.or(first_wrong_over_tables(&filter, &tables, &mut callers, rows)))
 }
 
 // The verdict on a frame over new session tables, by as many tries as it takes.

@@ -39,7 +39,7 @@ impl Meeting {
     }
 
     // Holds a worker of a test at the gate until this flag is set, or for 100 million looks at it.
-    fn wait_for(&self, flag: &AtomicBool) {
+    fn hold_worker(&self, flag: &AtomicBool) {
         for _ in 0..100_000_000u64 {
             if flag.load(Ordering::SeqCst) {
                 return;
@@ -54,11 +54,11 @@ impl Gate for Meeting {
     fn before(&self, worker: usize, packet: usize) {
         if worker == 0 && packet == 0 {
             self.first.store(true, Ordering::SeqCst);
-            self.wait_for(&self.second);
+            self.hold_worker(&self.second);
         }
         if worker == 1 && packet == 1 && !self.in_turn {
             self.second.store(true, Ordering::SeqCst);
-            self.wait_for(&self.first);
+            self.hold_worker(&self.first);
         }
     }
 

@@ -3,7 +3,7 @@ ghost use Rattle.std.specs.Prelude.{◌≡◌, IfSome};
 
 use super::racl_test_refused;
 use racl_cli::remark;
-use racl_io::{Fault, Form, FrontKept, Joined, Other, marked, other_file, read_until};
+use racl_io::{Fault, Form, FrontKept, Joined, Other, joined_capture, other_file, read_until};
 use std::alloc::Global;
 use std::io::Read;
 use std::test::Fail;
@@ -34,7 +34,7 @@ fn joined(alloc: Global) -> Option<Joined<&'static [u8]>>
 {
     let mut captures = Vec::new(alloc);
     for (form, bytes) in CAPTURES {
-        let Ok(capture) = marked(alloc, form, bytes) else {
+        let Ok(capture) = joined_capture(alloc, form, bytes) else {
             return None;
         };
         let Ok(()) = captures.push(capture) else {

@@ -6,7 +6,7 @@ use racl_io::{Captured, Device, DeviceFault, Fault, Shown, Sink, write_report, w
 use std::test::Fail;
 
 // For tests of reports: one with a line for each verdict.
-fn lines_of_verdicts() -> &'static [u8] {
+fn report_of_verdicts() -> &'static [u8] {
     b"\
 1 pass session
 2 pass rule 1 reflect
@@ -47,14 +47,14 @@ fn a_report_line_per_verdict(rt: HostRuntime) -> Result<(), Fail> {
         truncated: true,
     }];
     let totals = write_report(Some(&rt), rt.alloc(), &mut writer, &VERDICTS, &CAPTURES)?;
-    assert_eq!(rt; writer.inner.as_slice(), lines_of_verdicts());
+    assert_eq!(rt; writer.inner.as_slice(), report_of_verdicts());
     assert_eq!(rt; (totals.packets, totals.passed, totals.dropped), (11, 4, 7));
     assert!(rt; totals.truncated);
     Ok(())
 }
 
 // For tests of reports: one with a part for each capture.
-fn lines_of_captures() -> &'static [u8] {
+fn report_of_captures() -> &'static [u8] {
     b"\
 1 if 0 pass rule 1 reflect
 if 0 truncated after 1
@@ -82,7 +82,7 @@ fn a_report_part_per_capture(rt: HostRuntime) -> Result<(), Fail> {
     ];
     let mut writer = Device::new(Vec::new(rt.alloc()));
     let totals = write_report(Some(&rt), rt.alloc(), &mut writer, &VERDICTS, &CAPTURES)?;
-    assert_eq!(rt; writer.inner.as_slice(), lines_of_captures());
+    assert_eq!(rt; writer.inner.as_slice(), report_of_captures());
     assert!(rt; totals.truncated);
     Ok(())
 }

@@ -13,16 +13,16 @@ use Rattle.acl_policy.proofs.policy_reading.read_lines.Goals as goal
 pub loop-line-preserved : goal.loop-line-preserved
 loop-line-preserved c =
     let turn = YieldsList-turn (YieldsList-from_lines c.args.text.now cc) c.loop-line.yielded _ c.loop-line.yielded_by _ _ c.in-Some.line c.in-Some.is c.next.ensures.steps in
-    let added = rw c.as_bytes.ensures.value at c.in_ok-add_line.ensures.ok in
+    let added = rw c.as_bytes.ensures.value at c.in_ok-read_policy_line.ensures.ok in
     let count = length_push c.loop-line.yielded c.in-Some.line in
-    let said = policy_so_far (draft_facts c.add_line.new.draft) in
-    let next = SayPolicy-take _ (lines c.args.text.now) (length c.loop-line.yielded) c.in-Some.line.now (draft_facts c.loop-line.draft) (draft_facts c.add_line.new.draft) turn.0 turn.1 c.loop-line.invariant.reads added in
+    let said = policy_so_far (draft_facts c.read_policy_line.new.draft) in
+    let next = SayPolicy-take _ (lines c.args.text.now) (length c.loop-line.yielded) c.in-Some.line.now (draft_facts c.loop-line.draft) (draft_facts c.read_policy_line.new.draft) turn.0 turn.1 c.loop-line.invariant.reads added in
     record { counted = omega (arith, count); reads = subst (λ (n : ℕ). SayPolicy (take n (lines c.args.text.now)) said) (sym count) next }
 
-pub returns-in_err-add_line-clause-fault : goal.returns-in_err-add_line-clause-fault
-returns-in_err-add_line-clause-fault c =
+pub returns-in_err-read_policy_line-clause-fault : goal.returns-in_err-read_policy_line-clause-fault
+returns-in_err-read_policy_line-clause-fault c =
     let turn = YieldsList-turn (YieldsList-from_lines c.args.text.now cc) c.loop-line.yielded _ c.loop-line.yielded_by _ _ c.in-Some.line c.in-Some.is c.next.ensures.steps in
-    let fails = rw c.as_bytes.ensures.value at c.in_err-add_line.ensures.fault in
+    let fails = rw c.as_bytes.ensures.value at c.in_err-read_policy_line.ensures.fault in
     let fault = LinesFail-take _ (lines c.args.text.now) (length c.loop-line.yielded) c.in-Some.line.now (draft_facts c.loop-line.draft) _ turn.0 turn.1 (omega arith) c.loop-line.invariant.reads fails in
     let given = err_from_is_err_and c.from_residual.result c.from_residual.ensures.1 in
     rw given.1 (subst (λ (f : PolicyFault). LinesFail (lines c.args.text.now) f) (sym given.2) fault)

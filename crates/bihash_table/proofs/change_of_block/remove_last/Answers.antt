@@ -52,8 +52,8 @@ publish_block-requires-clause-may g c =
     (emptied z h.lock.extent h.lock.now key (map_now s.view hashed.bucket) c.args.pair.1 c.args.pair.0 h.has.pairs h.told.0 h.told.1)
     c.pool_lock.new.caller.view (store_only z s.view c.pool_lock.new.caller.view hashed.bucket c.args.seen.now.word h.lock h.has locks)
 
-pub leave_store-requires : goal.leave_store-requires
-leave_store-requires g c =
+pub end_block_change-requires : goal.end_block_change-requires
+end_block_change-requires g c =
     let z = sizes_of g.S.Shape in let s = c.args.seat.now in let hashed = c.args.seen.now.hashed in
     let key = g.S.Shape.words_of hashed.key.now in
     let h = c.requires in
@@ -82,15 +82,15 @@ returns g c =
     let done = published s c.pool_lock.new.caller c.publish_block.new.caller n None hashed.bucket key (Some c.args.pair.1) Remove
     (c.pool_lock.ensures.same ∙ ap (with_view s) (store_only z s.view c.pool_lock.new.caller.view hashed.bucket c.args.seen.now.word h.lock h.has locks))
     (entered_as c.publish_block.ensures) in
-    finished_write g.S.Shape s c.leave_store.new.seat hashed.key.now (Some c.args.pair.1) Remove
-    (same_through s c.pool_lock.new.caller c.publish_block.new.caller c.leave_store.new.seat c.pool_lock.ensures.same
-    (seen_same c.pool_lock.new.caller c.publish_block.new.caller (entered_as c.publish_block.ensures)) c.leave_store.ensures.same)
-    (still_lawful z c.publish_block.new.caller.view c.leave_store.new.seat.view c.leave_store.ensures.left c.publish_block.ensures.lawful)
-    (ap (λ (v : View). locks_of v.records) c.leave_store.ensures.left.is
+    finished_write g.S.Shape s c.end_block_change.new.seat hashed.key.now (Some c.args.pair.1) Remove
+    (same_through s c.pool_lock.new.caller c.publish_block.new.caller c.end_block_change.new.seat c.pool_lock.ensures.same
+    (seen_same c.pool_lock.new.caller c.publish_block.new.caller (entered_as c.publish_block.ensures)) c.end_block_change.ensures.same)
+    (still_lawful z c.publish_block.new.caller.view c.end_block_change.new.seat.view c.end_block_change.ensures.left c.publish_block.ensures.lawful)
+    (ap (λ (v : View). locks_of v.records) c.end_block_change.ensures.left.is
     ∙ (locks_pushed _ _ _ (ap (λ (s : CallerState). s.view.records) (entered_as c.publish_block.ensures))
     ∙ ap (λ (v : View). locks_of v.records) locks.is))
-    (left_written z s.view c.publish_block.new.caller.view c.leave_store.new.seat.view hashed.bucket c.args.seen.now.word h.lock n None
-    (event key (Some c.args.pair.1) Remove (Changed (Some c.args.pair.1))) h.has (sym hashed.home) refl done c.leave_store.ensures.left
+    (left_written z s.view c.publish_block.new.caller.view c.end_block_change.new.seat.view hashed.bucket c.args.seen.now.word h.lock n None
+    (event key (Some c.args.pair.1) Remove (Changed (Some c.args.pair.1))) h.has (sym hashed.home) refl done c.end_block_change.ensures.left
     (published_log z s c.pool_lock.new.caller c.publish_block.new.caller n None hashed.bucket key (Some c.args.pair.1) Remove
     (c.pool_lock.ensures.same ∙ ap (with_view s) (store_only z s.view c.pool_lock.new.caller.view hashed.bucket c.args.seen.now.word h.lock h.has locks))
     c.publish_block.ensures.entered))

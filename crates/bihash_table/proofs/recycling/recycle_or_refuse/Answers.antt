@@ -32,8 +32,8 @@ recycle-requires g c =
           (c.requires.count ∙ ap (places e.page) (sym log2_at));
     }
 
-pub refuse-requires : goal.refuse-requires
-refuse-requires g c =
+pub refuse_to_recycle-requires : goal.refuse_to_recycle-requires
+refuse_to_recycle-requires g c =
     let z = sizes_of g.S.Shape in
     let h = c.requires.seen in
     let e = h.seen.extent in
@@ -60,8 +60,8 @@ offset_bounds-places-spare g c = let inside = pair_inside c.in-Some.ensures.plac
 pub bounds-places-spare : goal.bounds-places-spare
 bounds-places-spare g c = pair_inside c.in-Some.ensures.place.pair
 
-pub replace-requires : goal.replace-requires
-replace-requires g c =
+pub recycle_place-requires : goal.recycle_place-requires
+recycle_place-requires g c =
     let z = sizes_of g.S.Shape in
     let hashed = c.args.seen.now.hashed in
     let word = c.args.seen.now.word in
@@ -91,6 +91,6 @@ replace-requires g c =
 pub returns : goal.returns
 returns g c =
     let hashed = c.args.seen.now.hashed in
-    over_locked g.S.Shape c.args.seat.now c.lock_if_unchanged.new.seat c.replace.new.seat hashed.bucket c.args.seen.now.word hashed.key.now None
+    over_locked g.S.Shape c.args.seat.now c.lock_if_unchanged.new.seat c.recycle_place.new.seat hashed.bucket c.args.seen.now.word hashed.key.now None
     (Set c.args.entrant.now.value) (g.E.Expiry.is_expired c.args.entrant.now.expiry.now) c.lock_if_unchanged.ensures c.if-not-lock_if_unchanged.false
-    (sym hashed.home) c.replace.result c.replace.ensures
+    (sym hashed.home) c.recycle_place.result c.recycle_place.ensures

@@ -42,7 +42,7 @@ returns g c = λ h has.
     subst (λ (b : HeldBlock). c.args.place < places c.args.page b.log2) (same_block c.requires.has has) (omega arith) in
     placed g.S.Shape c.args.seat.now c.loop-i.seat c.store_held-2.new.caller c.args.page c.args.place
     c.WORDS.result c.WORDS-2.result c.loop-i.i c.args.value h c.args.key.now has there c.WORDS.ensures
-    c.WORDS-2.ensures (λ taken. let all = c.shown_word_count-i-end.ensures.all taken in omega arith)
-    (λ taken. let all = c.shown_word_count-i-end.ensures.all taken in c.loop-i.invariant.counted (omega arith))
+    c.WORDS-2.ensures (λ taken. let all = c.written_word_count-i-end.ensures.all taken in omega arith)
+    (λ taken. let all = c.written_word_count-i-end.ensures.all taken in c.loop-i.invariant.counted (omega arith))
     (c.loop-i.invariant.stored h has)
     c.store_held-2.ensures

@@ -36,25 +36,25 @@ returns-in-Err-live_cut_at-clause-told g c =
     c.in-Ok-tell_window.told.1 c.reads.invariant.live c.reads-test.true c.in-Ok-tell_window.ensures.told in
     told_long _ _ _ _ _ _ _ _ _ _ told c.in-Err-live_cut_at.fault c.in-Err-live_cut_at.ensures
 
-pub returns-in-Err-read_part-clause-told : goal.returns-in-Err-read_part-clause-told
-returns-in-Err-read_part-clause-told g c =
+pub returns-in-Err-read_live_part-clause-told : goal.returns-in-Err-read_live_part-clause-told
+returns-in-Err-read_live_part-clause-told g c =
     let told =
     live_told g.J.Tellers.became g.J.Tellers.judged c.args.judges c.args.order (g.R.Source.bytes c.args.reader.now) (g.W.Sink.bytes c.args.writer.now) _ _ _ c.reads.live c.in-Ok-tell_window.told.0
     c.in-Ok-tell_window.told.1 c.reads.invariant.live c.reads-test.true c.in-Ok-tell_window.ensures.told in
-    part_fault _ _ _ _ _ _ _ _ _ _ told (g.R.Source.bytes c.read_part.new.reader) c.in-Ok-live_cut_at.truncated c.in-Err-read_part.fault c.in-Ok-live_cut_at.ensures c.in-Err-read_part.ensures.got
+    part_fault _ _ _ _ _ _ _ _ _ _ told (g.R.Source.bytes c.read_live_part.new.reader) c.in-Ok-live_cut_at.truncated c.in-Err-read_live_part.fault c.in-Ok-live_cut_at.ensures c.in-Err-read_live_part.ensures.got
 
 pub returns-then-n-eq0-clause-told : goal.returns-then-n-eq0-clause-told
 returns-then-n-eq0-clause-told g c =
     let now = g.R.Source.bytes c.reads.reader in
-    let end = g.R.Source.bytes c.read_part.new.reader in
+    let end = g.R.Source.bytes c.read_live_part.new.reader in
     let mid = g.W.Sink.bytes c.tell_window.new.writer in
     let last = g.W.Sink.bytes c.write_live_end.new.writer in
     let next = c.in-Ok-tell_window.told.0 in
-    let longer = c.read_part.new.window.items in
+    let longer = c.read_live_part.new.window.items in
     let told =
     live_told g.J.Tellers.became g.J.Tellers.judged c.args.judges c.args.order (g.R.Source.bytes c.args.reader.now) (g.W.Sink.bytes c.args.writer.now) now _ mid c.reads.live next
     c.in-Ok-tell_window.told.1 c.reads.invariant.live c.reads-test.true c.in-Ok-tell_window.ensures.told in
-    let got = subst (HasGot now end next.window.items longer) c.if-n-eq0.true c.in-Ok-read_part.ensures.got in
+    let got = subst (HasGot now end next.window.items longer) c.if-n-eq0.true c.in-Ok-read_live_part.ensures.got in
     elim c.match-write_live_end.branch [
       | in-Ok-write_live_end w ↦
           rw w.result-is
@@ -74,8 +74,8 @@ reads-preserved g c =
     live_told g.J.Tellers.became g.J.Tellers.judged c.args.judges c.args.order (g.R.Source.bytes c.args.reader.now) (g.W.Sink.bytes c.args.writer.now) _ _ _ c.reads.live c.in-Ok-tell_window.told.0
     c.in-Ok-tell_window.told.1 c.reads.invariant.live c.reads-test.true c.in-Ok-tell_window.ensures.told in
     record {
-      live = live_more _ _ _ _ _ _ _ _ _ _ told _ _ c.in-Ok-read_part.n c.in-Ok-read_part.ensures.got refl refl refl refl refl;
-      reads = c.in-Ok-read_part.ensures.failures ∙ c.reads.invariant.reads;
+      live = live_more _ _ _ _ _ _ _ _ _ _ told _ _ c.in-Ok-read_live_part.n c.in-Ok-read_live_part.ensures.got refl refl refl refl refl;
+      reads = c.in-Ok-read_live_part.ensures.failures ∙ c.reads.invariant.reads;
       writes = c.in-Ok-tell_window.ensures.failures ∙ c.reads.invariant.writes;
     }
 

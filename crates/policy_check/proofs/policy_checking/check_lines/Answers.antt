@@ -26,7 +26,7 @@ loop-line-preserved-in-Ok c =
     let turn = YieldsList-turn (YieldsList-from_lines c.args.text.now cc) c.loop-line.yielded _ c.loop-line.yielded_by _ _ c.in-Some.line c.in-Some.is c.next.ensures.steps in
     let added = rw c.as_bytes-line.ensures.value at c.in-Ok.ensures.ok in
     let count = length_push c.loop-line.yielded c.in-Some.line in
-    let next = draft_facts c.add_line.new.draft in
+    let next = draft_facts c.read_policy_line.new.draft in
     let cs = map complaint_facts c.loop-line.complaints.items in
     record {
       counted = omega (arith, count);
@@ -53,8 +53,8 @@ loop-line-preserved c =
     ap (map complaint_facts) c.in_ok-push-in-Err-2.ensures.items ∙ map-append complaint_facts c.loop-line.complaints.items _ in
     record {
       counted = omega (arith, count);
-      sorted = subst (λ (n : ℕ). AreAmid texts n (map complaint_facts c.push.new.self.items) (draft_facts c.add_line.new.draft)) (sym count)
-          (subst (λ (ds : List ComplaintFacts). AreAmid texts (k + 1) ds (draft_facts c.add_line.new.draft)) (sym pushed)
+      sorted = subst (λ (n : ℕ). AreAmid texts n (map complaint_facts c.push.new.self.items) (draft_facts c.read_policy_line.new.draft)) (sym count)
+          (subst (λ (ds : List ComplaintFacts). AreAmid texts (k + 1) ds (draft_facts c.read_policy_line.new.draft)) (sym pushed)
           (subst (λ (d : DraftFacts). AreAmid texts (k + 1) (cs ++ told ∷ []) d) (sym (c.in-Err.ensures.stays other)) amid));
     }
 

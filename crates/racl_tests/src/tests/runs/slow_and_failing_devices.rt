@@ -111,7 +111,7 @@ fn a_run_on_unfailing_devices(rt: HostRuntime) {
 
 /// A run on slow devices: a read and a write for each byte.
 #[test]
-fn one_byte_at_a_time(rt: HostRuntime) {
+fn run_on_slow_devices(rt: HostRuntime) {
     let alloc = rt.alloc();
     let mut reader = Drip {
         rest: whole_run_input(),

@@ -9,4 +9,4 @@ returns c =
     let reason = string (codes "reason") (word_of c.args.reason) ∷ [] in
     let packets = number (codes "packets") c.args.count ∷ [] in
     let both = added_both _ _ _ reason packets (rw c.word_of.ensures.word at c.in_ok-add_string.ensures) c.in_ok-add_number.ensures in
-    line_done (λ v. v.items) _ _ _ _ _ c.in_ok-object.ensures both c.end.ensures
+    line_done (λ v. v.items) _ _ _ _ _ c.in_ok-object.ensures both c.end_json_object.ensures

@@ -14,4 +14,4 @@ returns c =
     let counted = added_both _ _ _ line packets c.in_ok-add_number-3.ensures c.in_ok-add_number-4.ensures in
     let named = added_both _ _ _ rule _ c.in_ok-add_number-2.ensures counted in
     let way = added_both _ _ _ (way_field at.rule.direction ∷ []) _ c.in_ok-add_way.ensures named in
-    line_done (λ v. v.items) _ _ _ _ _ c.in_ok-object.ensures (added_both _ _ _ interface _ (rw c.from.ensures at c.in_ok-add_number.ensures) way) c.end.ensures
+    line_done (λ v. v.items) _ _ _ _ _ c.in_ok-object.ensures (added_both _ _ _ interface _ (rw c.from.ensures at c.in_ok-add_number.ensures) way) c.end_json_object.ensures

@@ -14,6 +14,6 @@ returns c =
     let carried = added_both _ _ _ time (carried_fields entry.view) (rw c.from-2.ensures at c.in_ok-add_number-3.ensures) c.in_ok-add_carried.ensures in
     let way = added_both _ _ _ (frame_way entry.view) _ c.in_ok-add_frame_way.ensures carried in
     let seen = added_both _ _ _ interface _ (rw c.from.ensures at c.in_ok-add_number-2.ensures) way in
-    let line = added_both _ _ _ (line_field entry.line) _ c.in_ok-add_line.ensures seen in
+    let line = added_both _ _ _ (line_field entry.line) _ c.in_ok-add_line_to_object.ensures seen in
     let verdict = added_both _ _ _ (verdict_fields entry.verdict) _ c.in_ok-add_verdict.ensures line in
-    line_done (λ v. v.items) _ _ _ _ _ c.in_ok-object.ensures (added_both _ _ _ packet _ c.in_ok-add_number.ensures verdict) c.end.ensures
+    line_done (λ v. v.items) _ _ _ _ _ c.in_ok-object.ensures (added_both _ _ _ packet _ c.in_ok-add_number.ensures verdict) c.end_json_object.ensures

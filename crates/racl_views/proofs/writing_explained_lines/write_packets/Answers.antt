@@ -21,7 +21,7 @@ verdicts-preserved g c =
     (entries_by c.args.telling (remaining c.next.new.self) (drop (c.verdicts.verdict-index + 1) c.args.verdicts.now)) in
     let told = ap (λ (es : List EntryFacts). (h.front ++ c.verdicts.piece) ++ told_from (line_by c.args.telling c.verdicts.place.named) c.verdicts.place.number es) (sym next)
     ∙ h.told in
-    let pushed = c.in_ok-tell.ensures.0 in
+    let pushed = c.in_ok-tell_explained.ensures.0 in
     record {
       numbered = omega (arith, h.numbered);
       named = h.named;
@@ -29,8 +29,8 @@ verdicts-preserved g c =
           c.verdicts.verdict-index h.left c.in-Some.ensures;
       front = h.front ++ pushed.0;
       written = Appends-trans _ _ _ _ _ h.written pushed.1;
-      told = told_more h.front pushed.0 c.verdicts.piece c.tell.new.piece _ more _ told pushed.2;
-      sound = c.in_ok-tell.ensures.1 ∙ h.sound;
+      told = told_more h.front pushed.0 c.verdicts.piece c.tell_explained.new.piece _ more _ told pushed.2;
+      sound = c.in_ok-tell_explained.ensures.1 ∙ h.sound;
     }
 
 pub returns : goal.returns

@@ -30,6 +30,6 @@ pub returns-in-Ok-clause-pairs : goal.returns-in-Ok-clause-pairs
 returns-in-Ok-clause-pairs g c =
     let known : c.load_count.new.caller.view.known ≡ c.args.caller.seat.view.known =
     ap (λ (s : CallerState). s.view.known) c.load_count.ensures.view in
-    sorted_pairs g.S.Shape c.args.caller.seat.view.known c.in-Ok.pairs.items c.sort.new.pairs.items
+    sorted_pairs g.S.Shape c.args.caller.seat.view.known c.in-Ok.pairs.items c.sort_closed_pairs.new.pairs.items
     (subst (λ (k : Known). ListsBuckets g.S.Shape k (buckets (sizes_of g.S.Shape)) c.in-Ok.pairs.items) known c.in-Ok.ensures.pairs)
-    c.sort.ensures.same (c.sort.ensures.sorted c.is_sound.ensures.some_word)
+    c.sort_closed_pairs.ensures.same (c.sort_closed_pairs.ensures.sorted c.is_sound.ensures.some_word)

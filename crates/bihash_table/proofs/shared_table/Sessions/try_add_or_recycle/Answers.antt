@@ -12,8 +12,8 @@ use Rattle.bihash_table.proofs.shared_table.Sessions.try_add_or_recycle.Goals as
 pub pair_in_open_bucket-pair-requires : goal.pair_in_open_bucket-pair-requires
 pair_in_open_bucket-pair-requires g c = may_read (own_through c.args.caller.now.seat _ _ c.load_unlocked.ensures.same c.requires.own) c.in-Some.ensures.opened.has
 
-pub make-requires-clause-found : goal.make-requires-clause-found
-make-requires-clause-found g c = record {
+pub make_tried_change-requires-clause-found : goal.make_tried_change-requires-clause-found
+make_tried_change-requires-clause-found g c = record {
   own = own_through c.load_unlocked.new.seat _ _ c.pair_in_open_bucket-pair.ensures.same (own_through c.args.caller.now.seat _ _ c.load_unlocked.ensures.same c.requires.own);
   seen = seen_first (sizes_of g.S.Shape) _ _ _ _ c.pair_in_open_bucket-pair.ensures.saw c.in-Some.ensures.opened.has;
 }
@@ -24,17 +24,17 @@ returns g c =
     let s = c.args.caller.now.seat in
     let x = c.load_unlocked.new.seat in
     let y = c.pair_in_open_bucket-pair.new.seat in
-    let t = c.make.new.caller.seat in
+    let t = c.make_tried_change.new.caller.seat in
     let hashed = c.of-hashed.result in
     let found = value_of c.pair_in_open_bucket-pair.result in
     let change = c.decide-change.result in
-    let r = c.make.result in
+    let r = c.make_tried_change.result in
     let same = same_through s x y _ c.load_unlocked.ensures.same c.pair_in_open_bucket-pair.ensures.same in
     let ahead = seen_ahead z s.view x.view y.view hashed.bucket c.in-Some.word c.in-Some.ensures.opened c.pair_in_open_bucket-pair.ensures.saw in
     let locks = ap locks_of (seen_records z s.view x.view y.view hashed.bucket c.in-Some.word c.in-Some.ensures.opened c.pair_in_open_bucket-pair.ensures.saw) in
     let is_expired = g.E.Expiry.is_expired c.args.expiry.now in
     let all : TriedOver g.S.Shape s t hashed.key.now found change is_expired r
-    = over_seen g.S.Shape s y t hashed.bucket hashed.key.now found change is_expired same ahead (sym hashed.home) locks r c.make.ensures in
+    = over_seen g.S.Shape s y t hashed.bucket hashed.key.now found change is_expired same ahead (sym hashed.home) locks r c.make_tried_change.ensures in
     let key = c.args.key.now in
     let tried : TriedOver g.S.Shape s t key found change is_expired r
     = subst (λ k. TriedOver g.S.Shape s t k found change is_expired r) c.of-hashed.ensures.key all in

@@ -1,0 +1,32 @@
+use Rattle.std.proofs.Common.{◌∙◌, None, Err, refl, sym, true≢false}
+use Rattle.bihash_words.specs.Sizes.{sizes_of}
+use Rattle.bihash_words.specs.declared.patch.Change.TheVariants.{Set}
+use Rattle.bihash_words.specs.declared.patch.Reply.TheVariants.{Full}
+use Rattle.bihash_steps.specs.BucketSteps.{map_now}
+use Rattle.bihash_table.specs.Answers.{recycled_update}
+use Rattle.bihash_table.proofs.SeenBuckets.{seen_answer}
+use Rattle.bihash_table.proofs.Tries.{over, over_full, tried_invalid}
+use Rattle.bihash_table.proofs.recycling.refuse_to_recycle.Goals as goal
+
+pub validate-requires-clause-at : goal.validate-requires-clause-at
+validate-requires-clause-at g c = record { own = c.requires.own; inside = c.requires.seen.seen.inside }
+
+pub validate-requires-clause-may : goal.validate-requires-clause-may
+validate-requires-clause-may g c =
+    let hashed = c.args.seen.now.hashed in
+    let h = c.requires.seen in
+    seen_answer (sizes_of g.S.Shape) c.args.seat.now.view hashed.bucket c.args.seen.now.word h
+    (recycled_update (g.S.Shape.words_of hashed.key.now) None (Set c.args.entrant.now.value)
+    (g.E.Expiry.is_expired c.args.entrant.now.expiry.now) None Full)
+    (record { long = hashed.counted; home = sym hashed.home }) refl (λ log2 left e. let c : ⊥ = cc in c)
+    (λ told. told (map_now c.args.seat.now.view hashed.bucket) h.seen.pairs)
+
+pub returns-then-not-validate : goal.returns-then-not-validate
+returns-then-not-validate g c = over g.S.Shape _ _ _ _ _ _ (Err _)
+    (tried_invalid g.S.Shape _ _ _ _ _ _ (sym c.args.seen.now.hashed.home) _ c.requires.seen c.validate.ensures.lawful _
+    (c.validate.ensures.not c.if-not-validate.true)
+    (λ lone. true≢false (sym (c.validate.ensures.lone lone) ∙ c.if-not-validate.true)))
+
+pub returns : goal.returns
+returns g c = over_full g.S.Shape _ _ _ _ c.args.entrant.now.value _ (sym c.args.seen.now.hashed.home) _ c.requires.seen
+    c.validate.ensures.lawful c.validate.ensures.same (c.validate.ensures.valid c.if-not-validate.false)
