@@ -167,6 +167,6 @@ alone_begun ga gb all one rest =
       share = only.0;
       only = only.1;
       rest = subst (λ ss. IsAtRestAfter ga gb [] all.setup [] 0 (get_or ss 0 only.0)) only.1
-          (subst (λ vs. IsAtRestAfter ga gb vs all.setup [] 0 (get_or all.shares.items 0 only.0)) (rest.none one)
+          (subst (λ vs. IsAtRestAfter ga gb vs all.setup [] 0 (get_or all.shares.items 0 only.0)) (rest.kept one)
           (rest.each 0 only.0 (omega arith)));
     }

@@ -16,7 +16,7 @@ use Rattle.flow_workers.specs.declared.worker_share.Share.{Share}
 use Rattle.flow_workers.specs.declared.workers.Workers.{Workers}
 use Rattle.flow_workers.specs.Progress.{AreAtRest, IsAtRestAfter, IsSoundSetup}
 use Rattle.flow_workers.specs.inner.Jobs.{dealer_of, run_facts}
-use Rattle.flow_workers.specs.inner.Merges.{AreInPlace, AreJudges, AreMerged, AreTold, HaveLetGo, LetGo, MayMerge, saids}
+use Rattle.flow_workers.specs.inner.Merges.{AreInPlace, AreJudges, AreMerged, AreTold, HaveLetGo, LetGo, MayMerge, said_in_shares}
 use Rattle.flow_workers.specs.inner.Shares.{AreSplit}
 use Rattle.flow_workers.specs.inner.Work.{RunFacts}
 use Rattle.acl_policy.specs.Policies.{PolicyFacts}
@@ -30,9 +30,9 @@ use Rattle.flow_workers.proofs.WorkerResultLemmas.{get_or_at, shares_told}
 
 -- ---- Workers that judged no packet
 
-no_views : (policy : PolicyFacts) (views : List frames.FrameFacts) → AreFrames policy [] views → views ≡ []
-no_views policy [] these = refl
-no_views policy (v ∷ vs) these = absurd these
+no_frames : (policy : PolicyFacts) (views : List frames.FrameFacts) → AreFrames policy [] views → views ≡ []
+no_frames policy [] these = refl
+no_frames policy (v ∷ vs) these = absurd these
 
 nothing_in_place : (run : RunFacts) (verdicts : List Verdict) → run.packets ≡ [] → verdicts ≡ []
     → AreInPlace run (λ w. []) verdicts
@@ -40,7 +40,7 @@ nothing_in_place run verdicts none said = record {
   count = ap length said ∙ sym (ap length none);
   each = λ w views few these.
       ap (λ vs. map (λ n. get_elem? verdicts n) (numbers_from run.deal w 0 vs))
-      (no_views run.policy views (subst (λ ps. AreFrames run.policy ps views) none these))
+      (no_frames run.policy views (subst (λ ps. AreFrames run.policy ps views) none these))
       ∙ ap (map (λ n. get_elem? verdicts n)) (no_numbers run.deal w 0);
 }
 
@@ -54,7 +54,7 @@ all_begun ga gb all sound split none count = record {
   gone = λ w. [];
   each = λ i d inside. rest_begun ga gb all.setup i _ (split.each i d inside);
   merged = λ several. nothing_in_place _ all.verdicts.items refl none;
-  none = λ one. refl;
+  kept = λ one. refl;
 }
 
 -- ---- After a batch
@@ -95,11 +95,11 @@ module _ {A B R G K L : Type 0} (ga : Ghosts A K) (gb : Ghosts B L) (old : Worke
       each = λ i d inside. subst (λ ss. IsAtRestAfter ga gb (rest.gone i) old.setup (packets ++ remaining batch.packets) i
           (get_or ss i d)) (sym is) (each_after i d inside);
       merged = λ several. absurd (omega arith);
-      none = λ alone. rest.none alone;
+      kept = λ alone. rest.kept alone;
     }
 
     told : (traces : List (List Item))
-        × AreTold (run_facts ga gb old.setup (packets ++ remaining batch.packets)) traces rest.gone (saids shares)
+        × AreTold (run_facts ga gb old.setup (packets ++ remaining batch.packets)) traces rest.gone (said_in_shares shares)
     told = shares_told ga gb old.setup (packets ++ remaining batch.packets) rest.gone rest.sound shares
         (worked.count ∙ rest.shares) each_after
 
@@ -108,7 +108,7 @@ module _ {A B R G K L : Type 0} (ga : Ghosts A K) (gb : Ghosts B L) (old : Worke
         → (1 < batch.setup.workers → HaveNoted ga gb (dealer_of batch.setup) batch.first (remaining batch.packets) [] judges)
         → 1 < old.setup.workers
         → (run : RunFacts) × (traces : List (List Item)) × (gone : LetGo)
-        × MayMerge run traces gone (saids shares) judges old.verdicts
+        × MayMerge run traces gone (said_in_shares shares) judges old.verdicts
     may_merge judges all_noted several =
         let noted = all_noted (subst (λ (s : Setup A B R G K L). 1 < s.workers) (sym same) several) in
         let place = rest.merged several in
@@ -131,7 +131,7 @@ module _ {A B R G K L : Type 0} (ga : Ghosts A K) (gb : Ghosts B L) (old : Worke
                   (subst (λ (s : Setup A B R G K L). AreWorkers ga gb (dealer_of s) batch.first noted.workers (remaining batch.packets))
                   same noted.are))));
               before = in_place_before (run_facts ga gb old.setup packets) (remaining batch.packets) told.0 rest.gone
-                  (saids shares) old.verdicts told.1 place;
+                  (said_in_shares shares) old.verdicts told.1 place;
             };
             last = let ws = ap length noted.noted in omega arith;
           },
@@ -140,7 +140,7 @@ module _ {A B R G K L : Type 0} (ga : Ghosts A K) (gb : Ghosts B L) (old : Worke
     -- what several said is merged, and their shares keep it no longer
     pub rest_of_several : (judges : List ℕ)
         → (1 < batch.setup.workers → HaveNoted ga gb (dealer_of batch.setup) batch.first (remaining batch.packets) [] judges)
-        → 1 < old.setup.workers → (merged : Vec Verdict) → AreMerged (saids shares) judges old.verdicts merged.items
+        → 1 < old.setup.workers → (merged : Vec Verdict) → AreMerged (said_in_shares shares) judges old.verdicts merged.items
         → (kept : Vec (Share A B K L ga gb)) → HaveLetGo shares kept.items
         → (count : ℕ) → count ≡ old.count + length (remaining batch.packets)
         → AreAtRest (packets ++ remaining batch.packets)
@@ -161,7 +161,7 @@ module _ {A B R G K L : Type 0} (ga : Ghosts A K) (gb : Ghosts B L) (old : Worke
               (sym (get_or-map (λ (s : Share A B K L ga gb). s.said.items) shares i d [] there))
               (rest_silent ga gb old.setup (rest.gone i) (packets ++ remaining batch.packets) i (get_or shares i d)
               (get_or kept.items i d) (let_go.callers i d d there) (let_go.silent i d there) (each_after i d inside));
-          merged = λ _. in_place (run_facts ga gb old.setup (packets ++ remaining batch.packets)) told.0 rest.gone (saids shares) told.1
+          merged = λ _. in_place (run_facts ga gb old.setup (packets ++ remaining batch.packets)) told.0 rest.gone (said_in_shares shares) told.1
               (with_shares rest.gone shares)
               (λ w said at.
               let s = before_map (λ (s : Share A B K L ga gb). s.said) shares w said at in
@@ -170,5 +170,5 @@ module _ {A B R G K L : Type 0} (ga : Ghosts A K) (gb : Ghosts B L) (old : Worke
               (after_map (λ (x : Share A B K L ga gb). x.said.items) shares w s.0 s.1)
               ∙ ap (λ (v : Vec Verdict). v.items) s.2))
               merged.items placed;
-          none = λ one. absurd (omega arith);
+          kept = λ one. absurd (omega arith);
         }

@@ -30,7 +30,7 @@ use Rattle.flow_workers.specs.inner.Jobs.{AreDealtFrom, HasWorkedOn, IsChunkAt, 
 use Rattle.flow_workers.specs.inner.ViewedPackets.{IsViewed, TellsViewed}
 use Rattle.flow_workers.proofs.WorkSteps.{IsAt, one_more, work_passed}
 
-pub front_only : {X : Type 0} (xs ys : List X) (k : ℕ) → k < length xs → slice_get (xs ++ ys) k ≡ slice_get xs k
+front_only : {X : Type 0} (xs ys : List X) (k : ℕ) → k < length xs → slice_get (xs ++ ys) k ≡ slice_get xs k
 front_only [] ys k inside = absurd (omega arith)
 front_only (x ∷ xs) ys zero inside = refl
 front_only (x ∷ xs) ys (suc k) inside = front_only xs ys k (omega arith)

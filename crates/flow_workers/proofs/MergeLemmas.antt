@@ -27,7 +27,7 @@ use Rattle.flow_dealing.proofs.TraceMerges.{all_views, worker_few}
 use Rattle.flow_dealing.proofs.Places.{after_map, at_front, before_map, zip_count}
 use Rattle.flow_workers.specs.declared.verdict_merge.VerdictMerge.{VerdictMerge}
 use Rattle.flow_workers.specs.inner.Work.{AreSaid, RunFacts, numbers_of, verdict_in}
-use Rattle.flow_workers.specs.inner.Merges.{AreAllVerdicts, AreInPlace, AreJudges, ArePlacedBefore, AreTold, IsNext, LetGo, MayPlace, before_batch, numbers_behind, saids}
+use Rattle.flow_workers.specs.inner.Merges.{AreAllVerdicts, AreInPlace, AreJudges, ArePlacedBefore, AreTold, IsNext, LetGo, MayPlace, before_batch, numbers_behind, said_in_shares}
 use Rattle.flow_workers.specs.declared.worker_share.Share.{Share}
 use Rattle.flow_workers.proofs.WorkSteps.{IsAt, no_numbers, numbers_at, numbers_cons}
 
@@ -115,15 +115,15 @@ if_both P Q R (Err e) both p q = tt
 
 -- the share of the next packet's worker is there
 pub next_inside : {A B K L : Type 0} {ga : Ghosts A K} {gb : Ghosts B L} (run : RunFacts) (traces : List (List Item)) (gone : LetGo)
-    (shares : List (Share A B K L ga gb)) (placed : VerdictMerge) (w : ℕ) → IsNext run traces gone (saids shares) placed w
+    (shares : List (Share A B K L ga gb)) (placed : VerdictMerge) (w : ℕ) → IsNext run traces gone (said_in_shares shares) placed w
     → w < length shares
 next_inside {A} {B} {K} {L} {ga} {gb} run traces gone shares placed w is =
-    let inside = within (saids shares) w is.said is.here in
+    let inside = within (said_in_shares shares) w is.said is.here in
     let many = length-map shares (λ (s : Share A B K L ga gb). s.said) in omega arith
 
 -- what is in the share of a worker
 pub said_of : {A B K L : Type 0} {ga : Ghosts A K} {gb : Ghosts B L} (shares : List (Share A B K L ga gb)) (w : ℕ)
-    (d : Share A B K L ga gb) → w < length shares → (get_or shares w d).said ≡ get_or (saids shares) w (get_or shares w d).said
+    (d : Share A B K L ga gb) → w < length shares → (get_or shares w d).said ≡ get_or (said_in_shares shares) w (get_or shares w d).said
 said_of {A} {B} {K} {L} {ga} {gb} shares w d inside =
     sym (get_or-map (λ (s : Share A B K L ga gb). s.said) shares w d (get_or shares w d).said inside)
 

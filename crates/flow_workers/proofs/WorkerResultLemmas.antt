@@ -21,7 +21,7 @@ use Rattle.flow_dealing.proofs.TraceMerges.{judge_each_packet}
 use Rattle.flow_dealing.proofs.Places.{before_map, zip_count}
 use Rattle.std.specs.Global.{Vec}
 use Rattle.std.proofs.lemmas.List.{length-map}
-use Rattle.flow_workers.specs.inner.Merges.{AreTold, LetGo, saids}
+use Rattle.flow_workers.specs.inner.Merges.{AreTold, LetGo, said_in_shares}
 use Rattle.flow_workers.specs.declared.worker_share.WorkerResults.{WorkerResults}
 use Rattle.flow_workers.specs.declared.worker_share.Share.{Share}
 use Rattle.flow_workers.specs.declared.session_tables.Tables.{Tables}
@@ -123,7 +123,7 @@ module _ {A B K L : Type 0} (ga : Ghosts A K) (gb : Ghosts B L) (tables : Tables
 
   -- what all workers said
   all_told : (shares : List (Share A B K L ga gb)) → length shares ≡ run.deal.workers → 0 < run.deal.workers
-      → run.deal.workers ≤ 16 → (a : AllDone 0 shares) → AreTold run a.traces gone (saids shares)
+      → run.deal.workers ≤ 16 → (a : AllDone 0 shares) → AreTold run a.traces gone (said_in_shares shares)
   all_told shares count some_worker few a = record {
     some_worker = some_worker;
     few = few;
@@ -211,7 +211,7 @@ module _ {A B R G K L : Type 0} (ga : Ghosts A K) (gb : Ghosts B L) (setup : Set
   all = all_done ga gb setup.tables.now (run_facts ga gb setup packets) gone 0 shares done
 
   -- what all workers said, by the traces that they did
-  pub shares_told : (traces : List (List Item)) × AreTold (run_facts ga gb setup packets) traces gone (saids shares)
+  pub shares_told : (traces : List (List Item)) × AreTold (run_facts ga gb setup packets) traces gone (said_in_shares shares)
   shares_told = (
     all.traces,
     all_told ga gb setup.tables.now (run_facts ga gb setup packets) gone shares count

@@ -42,7 +42,8 @@ pub record IsAtRestAfter {A B R G K L : Type 0} (ga : Ghosts A K) (gb : Ghosts B
   pub work : (more : List PacketFacts)
       → HasDoneAfter ga gb said setup (packets ++ more) worker (length packets) began share
 
--- all workers after these packets: several let go what they said, which is merged; what the only one said is in its share
+-- All workers after these packets. Where they are several, what they said is merged, and they let it go; what the only one
+-- said is in its share.
 pub record AreAtRest {A B R G K L : Type 0} {ga : Ghosts A K} {gb : Ghosts B L} (packets : List PacketFacts)
     (all : Workers A B R G K L ga gb) : Type 0 where
   pub sound : IsSoundSetup ga gb all.setup
@@ -52,7 +53,7 @@ pub record AreAtRest {A B R G K L : Type 0} {ga : Ghosts A K} {gb : Ghosts B L} 
   pub each : (i : ℕ) (d : Share A B K L ga gb) → i < all.setup.workers
       → IsAtRestAfter ga gb (gone i) all.setup packets i (slice_index_or all.shares.items i d)
   pub merged : 1 < all.setup.workers → AreInPlace (run_facts ga gb all.setup packets) gone all.verdicts.items
-  pub none : all.setup.workers ≡ 1 → gone 0 ≡ []
+  pub kept : all.setup.workers ≡ 1 → gone 0 ≡ []
 
 -- workers of this setup that judged no packet
 pub record AreBegun {A B R G K L : Type 0} {ga : Ghosts A K} {gb : Ghosts B L} (setup : Setup A B R G K L)

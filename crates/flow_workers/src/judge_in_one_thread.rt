@@ -48,8 +48,8 @@ fn judge_by_one<A: Shape, B: Shape, R: Wait, G: Gate>(
     Ok(())
 }
 
-/// The shares of all workers after these judged the packets of a batch, one after the other in this thread. The workers of
-/// the packets come after those that are noted; a lone worker notes nothing.
+/// The shares of all workers after these judged the packets of a batch, one after the other in this thread. The worker of
+/// each packet is noted; a lone worker notes nothing.
 pub fn judge_together<A: Shape, B: Shape, R: Wait, G: Gate>(
     batch: Batch<'_, '_, '_, A, B, R, G>,
     shares: Vec<Share<A, B>>,

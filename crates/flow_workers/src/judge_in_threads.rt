@@ -13,7 +13,7 @@ use std::alloc::{AllocError, Global};
 use std::sync::Wait;
 use std::thread::Threads;
 
-// Before packets are judged in threads, the workers of these chunks' packets are noted after those that are there.
+// Before the packets of these chunks are judged in threads, the worker of each is noted.
 fn note_workers(judges: &mut Vec<u8>, dealt: &[DealtChunk<'_>]) -> Result<(), AllocError>
     ensures { IfOk result (λ _. judges.new.items ≡ judges.old.items ++ workers_in dealt.now) }
 {
@@ -23,8 +23,8 @@ fn note_workers(judges: &mut Vec<u8>, dealt: &[DealtChunk<'_>]) -> Result<(), Al
     Ok(())
 }
 
-/// The shares of all workers after they judged the packets of a batch, each in a thread of its own. The workers of the
-/// packets come after those that are noted.
+/// The shares of all workers after they judged the packets of a batch, each in a thread of its own. The worker of each
+/// packet is noted.
 pub fn judge_in_threads<
     A: Shape + Send + Sync,
     B: Shape + Send + Sync,

@@ -1,8 +1,6 @@
 //! The verdicts of all workers, in the order of the file.
-ghost use Rattle.std.specs.Prelude.{IfOk, List};
-ghost use Rattle.flow_dealing.specs.Traces.{Item};
-ghost use Rattle.flow_workers.specs.inner.Merges.{AreAllVerdicts, AreMerged, HaveLetGo, LetGo, MayMerge, saids};
-ghost use Rattle.flow_workers.specs.inner.Work.{RunFacts};
+ghost use Rattle.std.specs.Prelude.{IfOk};
+ghost use Rattle.flow_workers.specs.inner.Merges.{AreAllVerdicts, AreMerged, CanMerge, HaveLetGo, said_in_shares};
 
 use crate::worker_share::Share;
 use bihash_words::Shape;
@@ -20,10 +18,8 @@ pub struct VerdictMerge {
 }
 
 impl VerdictMerge {
-    ghost use Rattle.std.specs.Prelude.{IfOk, List};
-    ghost use Rattle.flow_dealing.specs.Traces.{Item};
-    ghost use Rattle.flow_workers.specs.inner.Merges.{HasPlaced, HasPlacedNext, LetGo, MayPlace, MayPlaceNext, saids};
-    ghost use Rattle.flow_workers.specs.inner.Work.{RunFacts};
+    ghost use Rattle.std.specs.Prelude.{IfOk};
+    ghost use Rattle.flow_workers.specs.inner.Merges.{CanPlace, CanPlaceNext, HasPlaced, HasPlacedNext, said_in_shares};
 
     /// Places the verdict on the next packet: the next one of its worker.
     fn place_next<A: Shape, B: Shape>(
@@ -31,8 +27,8 @@ impl VerdictMerge {
         shares: &[Share<A, B>],
         worker: usize,
     ) -> Result<(), AllocError>
-        requires { (run : RunFacts) × (traces : List (List Item)) × (gone : LetGo) × MayPlaceNext run traces gone (saids shares.now) self.old worker }
-        ensures { IfOk result (λ _. HasPlacedNext (saids shares.now) self.old worker self.new) }
+        requires { CanPlaceNext (said_in_shares shares.now) self.old worker }
+        ensures { IfOk result (λ _. HasPlacedNext (said_in_shares shares.now) self.old worker self.new) }
     {
         let at = self.next[worker];
         let said = &shares[worker].said;
@@ -47,8 +43,8 @@ impl VerdictMerge {
         judges: &[u8],
         shares: &[Share<A, B>],
     ) -> Result<(), AllocError>
-        requires { (run : RunFacts) × (traces : List (List Item)) × (gone : LetGo) × MayPlace run traces gone (saids shares.now) judges.now self.old }
-        ensures { IfOk result (λ _. HasPlaced (saids shares.now) judges.now self.old self.new) }
+        requires { CanPlace (said_in_shares shares.now) judges.now self.old }
+        ensures { IfOk result (λ _. HasPlaced (said_in_shares shares.now) judges.now self.old self.new) }
     {
         'packets: for judge in judges {
             self.place_next(shares, *judge as usize)?;
@@ -64,8 +60,8 @@ pub fn place_verdicts<A: Shape, B: Shape>(
     judges: &[u8],
     shares: &[Share<A, B>],
 ) -> Result<Vec<Verdict>, AllocError>
-    requires { (run : RunFacts) × (traces : List (List Item)) × (gone : LetGo) × MayMerge run traces gone (saids shares.now) judges.now before }
-    ensures { IfOk result (λ verdicts. AreMerged (saids shares.now) judges.now before verdicts.items) }
+    requires { CanMerge (said_in_shares shares.now) judges.now before }
+    ensures { IfOk result (λ verdicts. AreMerged (said_in_shares shares.now) judges.now before verdicts.items) }
 {
     let mut placed = VerdictMerge {
         verdicts: before,

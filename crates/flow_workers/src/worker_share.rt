@@ -52,7 +52,7 @@ pub struct Job<'t, 'f, 'a, A: Shape, B: Shape, R: Wait, G: Gate> {
 #[derive(Drop)]
 pub struct Share<A: Shape, B: Shape> {
     pub callers: Callers<A, B>,
-    /// What it said of its packets, in their order.
+    /// What it said of its packets and hasn't let go, in their order.
     pub said: Vec<Verdict>,
 }
 

@@ -23,8 +23,8 @@ pub struct Workers<'t, 'f, A: Shape, B: Shape, R: Wait, G: Gate> {
     pub setup: Setup<'t, 'f, A, B, R, G>,
     /// What each worker has, in their order.
     pub shares: Vec<Share<A, B>>,
-    /// The verdicts on the packets that they judged, in the packets' order, where there are several workers; one worker
-    /// has them in its share.
+    /// The verdicts on the packets that they judged, in the packets' order, where there are several workers. Those of one
+    /// are in its share, but for those that `judge_alone` gave out.
     pub verdicts: Vec<Verdict>,
     /// How many packets they judged.
     pub count: usize,

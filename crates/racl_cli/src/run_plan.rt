@@ -19,7 +19,7 @@ const SEVERAL_WINDOW: usize = 3_145_728;
 
 /// How many bytes of an input are read, at least, before it is planned who judges its packets.
 pub fn front_bytes(options: &Options) -> usize
-    ensures { result ≤ 4194304 }
+    ensures { result ≤ 3145728 }
 {
     if options.workers > 1 {
         SEVERAL_WINDOW
@@ -50,7 +50,8 @@ pub fn threads_beside<T>(rt: &T, are_several: bool) -> Option<&T>
     if are_several { Some(rt) } else { None }
 }
 
-/// How many times as many packets as stand in its front an input is expected to have that goes on after it.
+/// How many times as many packets as stand in its front an input is expected to have that goes on after it: the most bytes of
+/// an input are less than so many windows for several workers.
 const TIMES_FRONT: usize = 22;
 
 /// How many packets are expected, and how many workers judge them, where so many stand in the front of an input, or in all

@@ -19,8 +19,8 @@ abbrev pub LetGo : Type 0
 LetGo = ℕ → List Verdict
 
 -- what the workers' shares have that they said
-abbrev pub saids : {A B K L : Type 0} {ga : Ghosts A K} {gb : Ghosts B L} → List (Share A B K L ga gb) → List (Vec Verdict)
-saids {A} {B} {K} {L} {ga} {gb} shares = map (λ (s : Share A B K L ga gb). s.said) shares
+abbrev pub said_in_shares : {A B K L : Type 0} {ga : Ghosts A K} {gb : Ghosts B L} → List (Share A B K L ga gb) → List (Vec Verdict)
+said_in_shares {A} {B} {K} {L} {ga} {gb} shares = map (λ (s : Share A B K L ga gb). s.said) shares
 
 -- these are the workers of the run's packets from this number on
 pub record AreJudges (run : RunFacts) (first : ℕ) (workers : List ℕ) : Type 0 where
@@ -63,6 +63,11 @@ pub record MayPlace (run : RunFacts) (traces : List (List Item)) (gone : LetGo) 
   pub judges : AreJudges run (length placed.verdicts.items) workers
   pub before : ArePlacedBefore run traces gone placed
 
+-- so they are for some run
+abbrev pub CanPlace : List (Vec Verdict) → List ℕ → VerdictMerge → Type 0
+CanPlace all workers placed = (run : RunFacts) × (traces : List (List Item)) × (gone : LetGo)
+    × MayPlace run traces gone all workers placed
+
 -- the verdicts on the packets of these workers were placed after those that were
 pub record HasPlaced (all : List (Vec Verdict)) (workers : List ℕ) (old new : VerdictMerge) : Type 0 where
   pub count : length new.verdicts.items ≡ length old.verdicts.items + length workers
@@ -78,6 +83,11 @@ pub record MayMerge (run : RunFacts) (traces : List (List Item)) (gone : LetGo) 
     (workers : List ℕ) (verdicts : Vec Verdict) : Type 0 where
   pub may : MayPlace run traces gone all workers (before_batch verdicts)
   pub last : length verdicts.items + length workers ≡ length run.packets
+
+-- so they are for some run
+abbrev pub CanMerge : List (Vec Verdict) → List ℕ → Vec Verdict → Type 0
+CanMerge all workers verdicts = (run : RunFacts) × (traces : List (List Item)) × (gone : LetGo)
+    × MayMerge run traces gone all workers verdicts
 
 -- These verdicts are what was said, in the order of the packets, whatever the run and its traces were, and whatever the
 -- workers let go before.
@@ -124,6 +134,11 @@ pub record MayPlaceNext (run : RunFacts) (traces : List (List Item)) (gone : Let
     (placed : VerdictMerge) (w : ℕ) : Type 0 where
   pub before : ArePlacedBefore run traces gone placed
   pub next : IsNext run traces gone all placed w
+
+-- so it is for some run
+abbrev pub CanPlaceNext : List (Vec Verdict) → VerdictMerge → ℕ → Type 0
+CanPlaceNext all placed w = (run : RunFacts) × (traces : List (List Item)) × (gone : LetGo)
+    × MayPlaceNext run traces gone all placed w
 
 -- this worker's next verdict was placed
 pub record HasPlacedNext (all : List (Vec Verdict)) (old : VerdictMerge) (w : ℕ) (new : VerdictMerge) : Type 0 where

@@ -56,4 +56,3 @@ pub record HaveJudgedBatch {A B R G K L : Type 0} {ga : Ghosts A K} {gb : Ghosts
   pub worked : HaveWorked batch old new
   pub noted : 1 < batch.setup.workers
       → HaveNoted ga gb (dealer_of batch.setup) batch.first (remaining batch.packets) judges more
-  pub none : batch.setup.workers ≡ 1 → more ≡ judges

@@ -8,7 +8,7 @@ use Rattle.flow_dealing.specs.Traces.{HaveTraces, Item}
 use Rattle.flow_workers.specs.declared.worker_share.WorkerResults.{WorkerResults}
 use Rattle.flow_workers.specs.declared.worker_share.Share.{Share}
 use Rattle.flow_workers.specs.declared.session_tables.Tables.{Tables}
-use Rattle.flow_workers.specs.inner.Merges.{AreTold, LetGo, saids}
+use Rattle.flow_workers.specs.inner.Merges.{AreTold, LetGo, said_in_shares}
 use Rattle.flow_workers.specs.inner.Work.{RunFacts}
 
 -- each worker judged its packets: its trace is in the records of its callers, and it said its verdicts, of which it let go
@@ -29,7 +29,7 @@ pub record AreResultsOf {A B K L : Type 0} {ga : Ghosts A K} {gb : Ghosts B L} (
     (results : WorkerResults A B K L ga gb) : Type 0 where
   pub four : results.four.items ≡ map (λ (s : Share A B K L ga gb). s.callers.four) shares
   pub six : results.six.items ≡ map (λ (s : Share A B K L ga gb). s.callers.six) shares
-  pub said : results.said.items ≡ saids shares
+  pub said : results.said.items ≡ said_in_shares shares
 
 -- whatever shares they are of, this one was added to these
 abbrev pub HasAdded : {A B K L : Type 0} {ga : Ghosts A K} {gb : Ghosts B L} → Share A B K L ga gb

@@ -52,7 +52,7 @@ impl Source for Zeros {
     }
 }
 
-// Each window gets as many bytes as were read before, as where several workers judge.
+// Each window gets as many bytes as were read before.
 const GROWING: WindowSize = WindowSize {
     least: 65_536,
     most: 16_777_216,

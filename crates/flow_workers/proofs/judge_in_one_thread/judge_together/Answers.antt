@@ -19,7 +19,6 @@ returns-then-is_alone g c =
       worked = only_worked g.A.Shape g.B.Shape batch (length packets) c.args.shares.items c.index_mut.result.now c.judge_by_one.new.share one
           (sym c.index_mut.ensures.value) c.in_ok-judge_by_one.ensures;
       noted = λ several. absurd (omega arith);
-      none = λ _. refl;
     }
 
 pub packets-init : goal.packets-init
@@ -70,5 +69,4 @@ returns g c =
       worked = all_worked_to g.A.Shape g.B.Shape batch 0 c.packets.taken _ _ _ all c.packets.invariant.worked;
       noted = λ _. subst (λ n. HaveNotedSome g.A.Shape g.B.Shape (dealer_of batch.setup) batch.first (remaining batch.packets) n
           c.args.judges.now.items c.packets.judges.items) all c.packets.invariant.noted;
-      none = λ one. absurd (true≢false (sym (c.if-is_alone.ensures ∙ ap (λ n. n == 1) one)));
     }

@@ -18,6 +18,5 @@ returns g c =
           c.dealer.ensures c.in_ok-dealt.ensures)
           (c.in_ok-note_workers.ensures
           ∙ ap (λ chunks. c.args.judges.now.items ++ workers_in chunks) c.as_slice.ensures.value);
-      none = λ one. absurd (let several = c.requires.several in omega arith);
     })
     c.run_shares.ensures

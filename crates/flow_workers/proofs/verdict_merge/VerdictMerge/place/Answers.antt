@@ -1,5 +1,5 @@
 use Rattle.std.proofs.Common.{arith, refl}
-use Rattle.flow_workers.specs.inner.Merges.{saids}
+use Rattle.flow_workers.specs.inner.Merges.{said_in_shares}
 use Rattle.flow_workers.proofs.MergeLemmas.{may_place_next}
 use Rattle.flow_workers.proofs.verdict_merge.VerdictMerge.place.Goals as goal
 
@@ -11,7 +11,7 @@ place_next-requires g c =
       c.requires.2,
       record {
         before = before;
-        next = may_place_next c.requires.0 c.requires.1 c.requires.2 (saids c.args.shares.now) c.args.judges.now
+        next = may_place_next c.requires.0 c.requires.1 c.requires.2 (said_in_shares c.args.shares.now) c.args.judges.now
             c.args.self.now c.packets.self c.packets.judge-index _ c.requires.3 c.packets.invariant.count c.packets-test.true
             refl before;
       },
@@ -24,7 +24,7 @@ packets-preserved g c = record {
       let before = c.packets.invariant.placed run traces gone may in
       c.in_ok-place_next.ensures.placed run traces gone (record {
         before = before;
-        next = may_place_next run traces gone (saids c.args.shares.now) c.args.judges.now c.args.self.now c.packets.self
+        next = may_place_next run traces gone (said_in_shares c.args.shares.now) c.args.judges.now c.args.self.now c.packets.self
             c.packets.judge-index _ may c.packets.invariant.count c.packets-test.true refl before;
       });
 }

@@ -1,6 +1,6 @@
 use Rattle.std.proofs.Common.{ap, arith, get_or, length, refl}
 use Rattle.bihash_steps.proofs.Lists.{within}
-use Rattle.flow_workers.specs.inner.Merges.{saids}
+use Rattle.flow_workers.specs.inner.Merges.{said_in_shares}
 use Rattle.flow_workers.proofs.MergeLemmas.{next_inside, placed_more, said_is, said_of, told_next}
 use Rattle.flow_workers.proofs.verdict_merge.VerdictMerge.place_next.Goals as goal
 
@@ -32,7 +32,7 @@ overflow_add-self g c =
 pub returns : goal.returns
 returns g c = record {
   count = let longer = c.in_ok-push.ensures.len in omega arith;
-  placed = λ run traces gone may. placed_more run traces gone (saids c.args.shares.now) c.args.self.now _ c.args.worker
+  placed = λ run traces gone may. placed_more run traces gone (said_in_shares c.args.shares.now) c.args.self.now _ c.args.worker
       c.index.result.now may.before may.next
       (told_next _ _ _ _ _ _ may.next (get_or c.args.shares.now c.args.worker c.index-shares-worker.result).said c.index.result.now
       (said_of _ _ _ (next_inside _ _ _ c.args.shares.now _ _ may.next)) c.index.ensures)

@@ -41,6 +41,6 @@ returns g c = record {
       (c.join_worker_callers.ensures.whole, c.join_worker_callers-2.ensures.whole)
       (c.join_worker_callers.ensures.traces _ _ V4 p.traces p.four) (c.join_worker_callers-2.ensures.traces _ _ V6 p.traces p.six)
       c.all_verdicts.result.items
-      (all_verdicts_placed _ p.traces rest.gone c.in_ok-four.field-0.said.items c.args.self.verdicts p.told rest.merged rest.none
+      (all_verdicts_placed _ p.traces rest.gone c.in_ok-four.field-0.said.items c.args.self.verdicts p.told rest.merged rest.kept
       c.all_verdicts.result.items c.all_verdicts.ensures);
 }

@@ -1,7 +1,7 @@
 use Rattle.std.proofs.Common.{arith, refl, subst, sym}
 use Rattle.std.proofs.lemmas.Bool.{eqb-true}
 use Rattle.std.specs.Prelude.{IfOk}
-use Rattle.flow_workers.specs.inner.Merges.{AreMerged, MayMerge, saids}
+use Rattle.flow_workers.specs.inner.Merges.{AreMerged, MayMerge, said_in_shares}
 use Rattle.flow_workers.specs.inner.Together.{HaveJudgedBatch}
 use Rattle.flow_workers.proofs.BatchMerges.{may_merge, rest_of_one, rest_of_several, several_by}
 use Rattle.flow_workers.proofs.workers.Workers.judge.Goals as goal
@@ -24,9 +24,9 @@ place_verdicts-requires g c =
       may.0,
       may.1,
       may.2,
-      subst (λ ss. MayMerge may.0 may.1 may.2 (saids ss) c.as_slice.result.now c.args.self.verdicts)
+      subst (λ ss. MayMerge may.0 may.1 may.2 (said_in_shares ss) c.as_slice.result.now c.args.self.verdicts)
           (sym c.as_slice-then-not-is_alone.ensures.value)
-          (subst (λ ws. MayMerge may.0 may.1 may.2 (saids c.in_ok-shares.shares.items) ws c.args.self.verdicts)
+          (subst (λ ws. MayMerge may.0 may.1 may.2 (said_in_shares c.in_ok-shares.shares.items) ws c.args.self.verdicts)
           (sym c.as_slice.ensures.value) may.3),
     )
 
@@ -48,9 +48,9 @@ returns g c =
             rw (w.shares-is, w.verdicts-is) (rest_of_several g.A.Shape g.B.Shape c.args.self _ c.again.ensures refl
             c.in_ok-shares.shares.items batch.worked packets rest c.if-count-setup.judges.items
             (rw c.new-judges.ensures.items at batch.noted) several w.in_ok-verdicts.verdicts
-            (subst (λ ss. AreMerged (saids ss) c.if-count-setup.judges.items c.args.self.verdicts w.in_ok-verdicts.verdicts.items)
+            (subst (λ ss. AreMerged (said_in_shares ss) c.if-count-setup.judges.items c.args.self.verdicts w.in_ok-verdicts.verdicts.items)
             w.as_slice-then-not-is_alone.ensures.value
-            (subst (λ ws. AreMerged (saids w.as_slice-then-not-is_alone.result.now) ws c.args.self.verdicts
+            (subst (λ ws. AreMerged (said_in_shares w.as_slice-then-not-is_alone.result.now) ws c.args.self.verdicts
             w.in_ok-verdicts.verdicts.items) w.as_slice.ensures.value w.in_ok-verdicts.ensures))
             w.let_go_merged.new.shares w.let_go_merged.ensures _ (let n = c.count.ensures in omega arith))
         | else-not-is_alone w ↦
