@@ -16,9 +16,7 @@ pub use first_match_laws::rules_decide_each_packet;
 pub use policy::{Policy, PolicyFault, Section};
 pub use policy_draft::Draft;
 pub use policy_line::{Line, line_of};
-pub use policy_line_words::{
-    action_of_line_word, direction_of_line_word, family_of_line_word, interface_of_line_word,
-};
+pub use policy_line_words::{action_of_word, direction_of_word, family_of_word, interface_of_word};
 pub use policy_reading::{empty_draft, read_policy, read_policy_line};
 pub use policy_text_laws::one_reading;
 pub use policy_words::{

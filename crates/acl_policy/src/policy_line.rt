@@ -6,7 +6,7 @@ ghost use Rattle.policy_words.specs.Words.{words_of};
 ghost use Rattle.packet_view.specs.Addresses.{address_limit};
 
 use crate::policy_line_words::{
-    action_of_line_word, direction_of_line_word, family_of_line_word, interface_of_line_word,
+    action_of_word, direction_of_word, family_of_word, interface_of_word,
 };
 use crate::rule::{Action, Rule};
 use packet_view::{Direction, Family, Mac};
@@ -28,11 +28,11 @@ fn head_of(text: &[u8]) -> Option<(Direction, Action, Family, &[u8])>
     ensures { option_map (λ r. (r.0, r.1, r.2, words_of r.3.now)) result ≡ head_in (words_of text.now) }
 {
     let (word, text) = next_word(text)?;
-    let direction = direction_of_line_word(word)?;
+    let direction = direction_of_word(word)?;
     let (word, text) = next_word(text)?;
-    let action = action_of_line_word(word)?;
+    let action = action_of_word(word)?;
     let (word, text) = next_word(text)?;
-    let family = family_of_line_word(word)?;
+    let family = family_of_word(word)?;
     Some((direction, action, family, text))
 }
 
@@ -92,7 +92,7 @@ fn heading_of(text: &[u8]) -> Option<Line>
     ensures { option_map line_facts result ≡ heading_in (words_of text.now) }
 {
     let (word, text) = next_word(text)?;
-    let interface = interface_of_line_word(word)?;
+    let interface = interface_of_word(word)?;
     if is_end(text) {
         Some(Line::Begins(interface))
     } else {

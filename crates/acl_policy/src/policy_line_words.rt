@@ -7,7 +7,7 @@ use packet_view::{Direction, Family};
 use policy_words::number_up_to;
 
 /// A word of a policy's line that says a direction.
-pub fn direction_of_line_word(word: &[u8]) -> Option<Direction>
+pub fn direction_of_word(word: &[u8]) -> Option<Direction>
     ensures { result ≡ direction_in word.now }
 {
     match word {
@@ -18,7 +18,7 @@ pub fn direction_of_line_word(word: &[u8]) -> Option<Direction>
 }
 
 /// A word of a policy's line that says an action.
-pub fn action_of_line_word(word: &[u8]) -> Option<Action>
+pub fn action_of_word(word: &[u8]) -> Option<Action>
     ensures { result ≡ action_in word.now }
 {
     if word == b"deny".as_slice() {
@@ -34,7 +34,7 @@ pub fn action_of_line_word(word: &[u8]) -> Option<Action>
 }
 
 /// A word of a policy's line that says a family.
-pub fn family_of_line_word(word: &[u8]) -> Option<Family>
+pub fn family_of_word(word: &[u8]) -> Option<Family>
     ensures { result ≡ family_in word.now }
 {
     match word {
@@ -46,7 +46,7 @@ pub fn family_of_line_word(word: &[u8]) -> Option<Family>
 
 /// The words of a policy's line that begin the section of an interface: its number.
 #[tactic(auto, unfolding(crate::specs::inner::Reading::Lines::interface_in))]
-pub fn interface_of_line_word(word: &[u8]) -> Option<u8>
+pub fn interface_of_word(word: &[u8]) -> Option<u8>
     ensures { result ≡ interface_in word.now }
 {
     let number = number_up_to(word, u16::from(u8::MAX))?;

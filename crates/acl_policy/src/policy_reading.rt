@@ -21,7 +21,7 @@ const MOST_RULES: usize = 4096;
 
 /// Adds a rule that was read of a policy to those of its direction. `number` is its line.
 #[tactic(auto, unfolding(crate::specs::inner::Reading::Policies::rule_added))]
-fn reading_adds_rule(rules: &mut Vec<Rule>, rule: Rule, number: u64) -> Result<(), PolicyFault>
+fn add_read_rule(rules: &mut Vec<Rule>, rule: Rule, number: u64) -> Result<(), PolicyFault>
     ensures ok { OnOk result (rule_added number (map rule_facts rules.old.items) (rule_facts rule)
         ≡ Ok (map rule_facts rules.new.items)) }
     ensures fault { IfErr result
@@ -73,10 +73,10 @@ pub fn read_policy_line(
             draft.current.own = Some(mac);
         }
         Some(Line::Ruled(Direction::Inbound, rule)) => {
-            reading_adds_rule(&mut draft.current.inbound, rule, number)?;
+            add_read_rule(&mut draft.current.inbound, rule, number)?;
         }
         Some(Line::Ruled(Direction::Outbound, rule)) => {
-            reading_adds_rule(&mut draft.current.outbound, rule, number)?;
+            add_read_rule(&mut draft.current.outbound, rule, number)?;
         }
     }
     Ok(())

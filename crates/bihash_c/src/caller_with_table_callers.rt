@@ -16,7 +16,7 @@ use std::alloc::Global;
 
 impl<S: Shape> CallerWithTable<S> {
     /// Caller 1 of a new table, with this table. `None`: memory was refused.
-    pub fn first(alloc: Global) -> Option<CallerWithTable<S>>
+    pub fn first_caller(alloc: Global) -> Option<CallerWithTable<S>>
         requires sound { IsSound (sizes_of S.Shape) }
         ensures first { IfSome result (λ m. m.view ≡ first_view (sizes_of S.Shape)) }
     {

@@ -18,7 +18,7 @@ impl<S: Shape> Content<S> {
         requires { IsSound (sizes_of S.Shape) }
         ensures { IfSome result (IsFirst (sizes_of S.Shape)) }
     {
-        match CallerWithTable::first(alloc) {
+        match CallerWithTable::first_caller(alloc) {
             Some(caller) => Some(Content::Caller(caller)),
             None => None,
         }

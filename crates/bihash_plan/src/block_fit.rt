@@ -7,7 +7,7 @@ ghost use Rattle.bihash_plan.specs.Searches.{IsPlace, IsRange, MayHavePages, May
 ghost use Rattle.bihash_plan.specs.Plans.{Fits, HasRoom, keys_of};
 ghost use Rattle.bihash_plan.specs.inner.Tallies.{FitsWindow, IsCounted};
 
-use crate::block_pages::{open_page_places, page, page_count};
+use crate::block_pages::{page, page_count, places_open_to};
 use bihash_words::{BlockSize, FREE, PAGE_PLACES, Shape};
 
 /// How many pages are counted at a time: as many as the largest block of the flow tables has.
@@ -35,7 +35,7 @@ pub(crate) fn has_room<S: Shape>(
         return fits::<S>(places, key, log2);
     }
     // A page's pairs go to pages that no other page's go to, so only the key's page can overflow.
-    let (from, to) = open_page_places::<S>(places.len(), size, key);
+    let (from, to) = places_open_to::<S>(places.len(), size, key);
     has_other_page::<S>(places, from, to, key, log2)
 }
 

@@ -7,7 +7,7 @@ ghost use Rattle.bihash_plan.specs.Blocks.{IsCrowded, IsFirstFree};
 ghost use Rattle.bihash_plan.specs.Layouts.{HasPlacesTo, IsFirstFreeOrNone, IsNamed, IsRehash, IsTakenBefore};
 ghost use Rattle.bihash_plan.specs.Searches.{HasPlaces};
 
-use crate::block_pages::open_page_places;
+use crate::block_pages::places_open_to;
 use crate::block_search::free_place;
 use bihash_words::{BlockSize, FREE, Shape};
 
@@ -84,6 +84,6 @@ fn first_free<S: Shape>(
     if size.linear {
         return free_place(places, next, places.len());
     }
-    let (from, to) = open_page_places::<S>(places.len(), size, key);
+    let (from, to) = places_open_to::<S>(places.len(), size, key);
     free_place(places, from, to)
 }

@@ -25,7 +25,7 @@ pub fn page_count(log2: u64) -> usize
 
 /// The places of a block that are open to the key, those of its page or all, as the first of them and the one after the
 /// last.
-pub(crate) fn open_page_places<S: Shape>(
+pub(crate) fn places_open_to<S: Shape>(
     count: usize,
     size: BlockSize,
     key: &S::Key,

@@ -7,7 +7,7 @@ ghost use Rattle.bihash_words.specs.Pages.{page_of, paging_of};
 ghost use Rattle.bihash_plan.specs.Blocks.{HasKey, IsFree, IsLawfulBlock};
 ghost use Rattle.bihash_plan.specs.Searches.{IsFirstFreeOf, IsPlace, IsPlaceOfKey, IsRange, MayHavePlaces};
 
-use crate::block_pages::open_page_places;
+use crate::block_pages::places_open_to;
 use bihash_words::{BlockSize, FREE, Shape, is_same};
 
 /// Searches a block for the place where the key's pair stands. `places` has four places a page, and none
@@ -24,7 +24,7 @@ pub fn find<S: Shape>(places: &[(S::Key, u64)], size: BlockSize, key: &S::Key) -
     ensures lawful { IsLawfulBlock (paging_of ⟦<S as Shape>⟧) size.log2 size.linear places.now
         → IsPlaceOfKey places.now key.now result }
 {
-    let (from, to) = open_page_places::<S>(places.len(), size, key);
+    let (from, to) = places_open_to::<S>(places.len(), size, key);
     place_of_key::<S>(places, from, to, key)
 }
 

@@ -7,7 +7,7 @@ ghost use Rattle.bihash_plan.specs.Searches.{IsOnlyPlan, MayHavePlaces};
 ghost use Rattle.bihash_plan.specs.Plans.{IsSafe};
 
 use crate::block_fit::has_room;
-use crate::block_pages::open_page_places;
+use crate::block_pages::places_open_to;
 use crate::block_search::{free_place, place_of_key};
 use crate::plan_answer::Plan;
 use bihash_words::{BlockSize, Shape};
@@ -27,7 +27,7 @@ pub fn plan<S: Shape>(places: &[(S::Key, u64)], size: BlockSize, key: &S::Key) -
     ensures lawful { IsLawfulBlock (paging_of ⟦<S as Shape>⟧) size.log2 size.linear places.now
         → IsOnlyPlan (paging_of ⟦<S as Shape>⟧) size.log2 size.linear places.now key.now result }
 {
-    let (from, to) = open_page_places::<S>(places.len(), size, key);
+    let (from, to) = places_open_to::<S>(places.len(), size, key);
     if let Some(i) = place_of_key::<S>(places, from, to, key) {
         return Plan::InPlace(i);
     }
@@ -72,7 +72,7 @@ pub fn larger<S: Shape>(places: &[(S::Key, u64)], size: BlockSize, key: &S::Key)
             linear: true,
         });
     }
-    if !size.linear && has_place_for_planned_key(places) {
+    if !size.linear && has_free_place_for_plan(places) {
         return Plan::Grow(BlockSize {
             log2: S::MAX_LOG2,
             linear: true,
@@ -82,7 +82,7 @@ pub fn larger<S: Shape>(places: &[(S::Key, u64)], size: BlockSize, key: &S::Key)
 }
 
 /// Whether some place of the block is free, as the plan of a new key asks before it is Full.
-fn has_place_for_planned_key<K: Copy>(places: &[(K, u64)]) -> bool
+fn has_free_place_for_plan<K: Copy>(places: &[(K, u64)]) -> bool
     requires { length places.now < 2 ^ 62 }
     ensures { IsTrue result ↔ ((i : ℕ) × IsFree places.now i) }
 {

@@ -143,7 +143,7 @@ pub(crate) fn store_key<S: Shape>(
 {
     for i in 0..S::WORDS {
         let part = S::word(seen.hashed.key, i);
-        if word_to_change_in_place(row, seat, seen.word, place, i) == part {
+        if word_before_change(row, seat, seen.word, place, i) == part {
             continue;
         }
         store_word(row, seat, seen.word, place, i, part);
@@ -151,7 +151,7 @@ pub(crate) fn store_key<S: Shape>(
 }
 
 // Word i of a place of the locked bucket's block, which is changed in place.
-fn word_to_change_in_place<S: Shape>(
+fn word_before_change<S: Shape>(
     row: &Row<S>,
     seat: &mut CallerSeat<S>,
     word: BucketWord,

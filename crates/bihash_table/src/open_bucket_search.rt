@@ -46,7 +46,7 @@ pub(crate) fn value_found(pair: Option<(usize, u64)>) -> Option<u64>
 }
 
 /// The first free place that is open to the key in the block of the open bucket.
-pub(crate) fn free_in_open_bucket<S: Shape>(
+pub(crate) fn room_in_open_bucket<S: Shape>(
     row: &Row<S>,
     seat: &mut CallerSeat<S>,
     word: BucketWord,
@@ -134,13 +134,13 @@ fn pair_in_page<S: Shape>(
     ensures { HasRead seat.old seat.new (IsPairAmong (sizes_of S.Shape) (S.words_of hashed.now.key.now) (4 * page) (4 * (page + 1)) result) }
 {
     let first = PAGE_PLACES * page;
-    let mut marks = open_search_marks(row, seat, word, first, hashed);
+    let mut marks = search_marks(row, seat, word, first, hashed);
     'marked: while count_search_marks(marks) > 0 {
         let place = first + first_search_mark(marks);
         if let Some(value) = value_at(row, seat, word, place, hashed) {
             return Some((place, value));
         }
-        marks = later_open_search_marks(marks);
+        marks = later_search_marks(marks);
     }
     None
 }
@@ -192,7 +192,7 @@ fn first_search_mark(marks: (bool, bool, bool, bool)) -> usize
 }
 
 // The marks that a search of an open bucket's page makes, but the first that is set.
-fn later_open_search_marks(marks: (bool, bool, bool, bool)) -> (bool, bool, bool, bool)
+fn later_search_marks(marks: (bool, bool, bool, bool)) -> (bool, bool, bool, bool)
     ensures { result ≡ later_set marks }
 {
     let (a, b, c, d) = marks;
@@ -200,7 +200,7 @@ fn later_open_search_marks(marks: (bool, bool, bool, bool)) -> (bool, bool, bool
 }
 
 // At which of the four places of a page of an open bucket's block the last word of the searched key stands.
-fn open_search_marks<S: Shape>(
+fn search_marks<S: Shape>(
     row: &Row<S>,
     seat: &mut CallerSeat<S>,
     word: BucketWord,
@@ -210,15 +210,15 @@ fn open_search_marks<S: Shape>(
     requires { MayRead (sizes_of S.Shape) row.now seat.old word (first + 4) }
     ensures { HasRead seat.old seat.new (AreMarks (sizes_of S.Shape) (S.words_of hashed.now.key.now) first result) }
 {
-    let a = open_search_mark(row, seat, word, first, hashed);
-    let b = open_search_mark(row, seat, word, first + 1, hashed);
-    let c = open_search_mark(row, seat, word, first + 2, hashed);
-    let d = open_search_mark(row, seat, word, first + 3, hashed);
+    let a = search_mark(row, seat, word, first, hashed);
+    let b = search_mark(row, seat, word, first + 1, hashed);
+    let c = search_mark(row, seat, word, first + 2, hashed);
+    let d = search_mark(row, seat, word, first + 3, hashed);
     (a, b, c, d)
 }
 
 // One mark of a search: whether the last word of the searched key is at a place of the open bucket's block.
-fn open_search_mark<S: Shape>(
+fn search_mark<S: Shape>(
     row: &Row<S>,
     seat: &mut CallerSeat<S>,
     word: BucketWord,

@@ -16,7 +16,7 @@ use crate::contended::Contended;
 use crate::entered_value::Entrant;
 use crate::hashed_key::{HashedKey, SeenBucket};
 use crate::never_expired::Never;
-use crate::open_bucket_search::{free_in_open_bucket, pair_in_open_bucket, value_found};
+use crate::open_bucket_search::{pair_in_open_bucket, room_in_open_bucket, value_found};
 use crate::shared_table::Sessions;
 use crate::worn_bucket::is_worn;
 use bihash_steps::{Caller, CallerSeat, Event, Row};
@@ -175,7 +175,7 @@ fn enter_new<S: Shape, E: Expiry>(
         unreachable!();
     };
     let seat = &mut caller.seat;
-    match free_in_open_bucket(row, seat, seen.word, &seen.hashed) {
+    match room_in_open_bucket(row, seat, seen.word, &seen.hashed) {
         Some(place) => {
             if !lock_if_unchanged(row, seat, seen.hashed.bucket, seen.word) {
                 return Err(Contended);

@@ -9,8 +9,8 @@ use crate::windows_of_records::{Found, find_records};
 use flow_filter::Verdict;
 use packet_view::{Order, Packets, Records, Stop};
 use racl_io::{
-    Captured, Fault, Piece, Place, Sink, Source, Totals, write_totals, write_truncation,
-    write_whole_report_lines,
+    Captured, Fault, Piece, Place, Sink, Source, Totals, write_lines_whole, write_totals,
+    write_truncation,
 };
 use std::alloc::{AllocError, Global};
 
@@ -103,7 +103,7 @@ fn tell_window<J: Tellers + Drop, W: Sink>(
         Ok(judged) => judged,
         Err(_) => return Err(Fault::Memory),
     };
-    match write_whole_report_lines(writer, piece, place, &verdicts) {
+    match write_lines_whole(writer, piece, place, &verdicts) {
         Ok(more) => {
             next.passed += more;
             Ok((next, stop))
@@ -113,7 +113,7 @@ fn tell_window<J: Tellers + Drop, W: Sink>(
 }
 
 // Whether a live capture that ends here, where its records stop after so many packets, ends within one.
-fn live_cut_at(stop: Stop, packets: usize) -> Result<bool, Fault>
+fn is_live_cut(stop: Stop, packets: usize) -> Result<bool, Fault>
     requires { packets < 2 ^ 63 }
     ensures { MatchResult result (IsCutAt stop) (IsLongAt stop packets) }
 {
@@ -206,7 +206,7 @@ pub fn tell_live<J: Tellers + Drop, R: Source, W: Sink>(
             Ok(told) => told,
             Err(fault) => return Err(fault),
         };
-        let truncated = match live_cut_at(stop, next.packets) {
+        let truncated = match is_live_cut(stop, next.packets) {
             Ok(truncated) => truncated,
             Err(fault) => return Err(fault),
         };

@@ -28,7 +28,7 @@ fn begin(packets: usize, workers: usize, chunk: usize) -> usize
 }
 
 // The job of dealing this chunk of the packets, which is ahead.
-fn chunk_job_ahead<'a, A: Shape, B: Shape>(
+fn chunk_ahead<'a, A: Shape, B: Shape>(
     alloc: Global,
     dealer: Dealer,
     number: usize,
@@ -56,7 +56,7 @@ fn chunk_job_ahead<'a, A: Shape, B: Shape>(
 
 /// The jobs of the packets' chunks, one for each worker. The packets' numbers begin with this one. This thread gets the
 /// memory for all chunks: what another thread gives back goes back to the system, and costs a first touch again.
-pub fn chunk_jobs_ahead<'a, A: Shape, B: Shape>(
+pub fn chunks_ahead<'a, A: Shape, B: Shape>(
     alloc: Global,
     dealer: Dealer,
     number: usize,
@@ -68,7 +68,7 @@ pub fn chunk_jobs_ahead<'a, A: Shape, B: Shape>(
 {
     let mut chunks = Vec::with_capacity(alloc, dealer.workers)?;
     for chunk in 0..dealer.workers {
-        chunks.push(chunk_job_ahead(alloc, dealer, number, packets, chunk)?)?;
+        chunks.push(chunk_ahead(alloc, dealer, number, packets, chunk)?)?;
     }
     Ok(chunks)
 }

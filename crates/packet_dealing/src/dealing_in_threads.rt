@@ -3,7 +3,7 @@ ghost use Rattle.std.specs.Prelude.{◌≤◌, ◌<◌, ◌+◌, ◌^◌, IfOk, 
 ghost use Rattle.packet_view.specs.CheckedCaptures.{remaining};
 ghost use Rattle.packet_dealing.specs.Dealt.{AreDealt, AreShapes};
 
-use crate::chunk_jobs::{chunk_jobs_ahead, chunks_over};
+use crate::chunk_jobs::{chunks_ahead, chunks_over};
 use crate::dealt_chunk::DealtChunk;
 use crate::packet_worker::Dealer;
 use crate::tasks_in_threads::run_all;
@@ -30,7 +30,7 @@ where
     requires fits { number + length (remaining packets) < 2 ^ 64 }
     ensures { IfOk result (λ chunks. AreDealt ⟦<A as Shape>⟧ ⟦<B as Shape>⟧ dealer number chunks.items (remaining packets.entry)) }
 {
-    let ahead = chunk_jobs_ahead::<A, B>(alloc, dealer, number, packets)?;
+    let ahead = chunks_ahead::<A, B>(alloc, dealer, number, packets)?;
     let over = run_all(rt, ahead)?;
     chunks_over(alloc, over)
 }

@@ -15,7 +15,7 @@ use crate::reason::Reason;
 use crate::rule_head_findings::head;
 use crate::unseen_characters::unseen;
 use crate::word_finding::{Finding, missing, of};
-use crate::word_readers::{read_interface_word, read_mac_word, read_next_word, read_word_is};
+use crate::word_readers::{is_read_word, read_interface_word, read_mac_word, read_next_word};
 use acl_policy::{Line, before_comment, line_of};
 
 // What is wrong with a line that begins with `mac`, by the words after it.
@@ -66,9 +66,9 @@ fn words_of_line(text: &[u8]) -> Result<(), Finding<'_>>
     let Some((word, rest)) = read_next_word(text) else {
         return Ok(());
     };
-    if read_word_is(word, b"mac") {
+    if is_read_word(word, b"mac") {
         own_line(rest)
-    } else if read_word_is(word, b"interface") {
+    } else if is_read_word(word, b"interface") {
         heading(rest)
     } else {
         rule_line(text)

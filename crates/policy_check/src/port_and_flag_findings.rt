@@ -7,7 +7,7 @@ ghost use Rattle.policy_check.specs.Reasons.{HasRange, IsPartReason, IsRangeReas
 use crate::reason::Reason;
 use crate::word_finding::{Finding, missing, of};
 use crate::word_readers::{
-    read_cut_word, read_flags_word, read_next_word, read_number_word, read_range_word, read_word_is,
+    cut_word_at, is_read_word, read_flags_word, read_next_word, read_number_word, read_range_word,
 };
 
 // Why a word is no range of ports, types or codes, where it is none: the last number of it is too large, or it is
@@ -16,7 +16,7 @@ fn range_fault(word: &[u8], most: u16) -> Reason
     requires { (range : ℕ × ℕ) → IsRange most word.now range → ⊥ }
     ensures { IsRangeReason most word.now result }
 {
-    match read_cut_word(word, b'-') {
+    match cut_word_at(word, b'-') {
         None => match read_number_word(word) {
             Some(n) if n > u32::from(most) => Reason::TooLarge(most),
             _ => Reason::NoRange,
@@ -38,7 +38,7 @@ pub fn after_range<'a>(text: &'a [u8], name: &[u8], most: u16) -> Result<&'a [u8
     let Some((word, rest)) = read_next_word(text) else {
         return Ok(text);
     };
-    if !read_word_is(word, name) {
+    if !is_read_word(word, name) {
         return Ok(text);
     }
     let Some((value, rest)) = read_next_word(rest) else {
@@ -76,7 +76,7 @@ pub fn after_flags(text: &[u8]) -> Result<&[u8], Finding<'_>>
     let Some((word, rest)) = read_next_word(text) else {
         return Ok(text);
     };
-    if !read_word_is(word, b"flags") {
+    if !is_read_word(word, b"flags") {
         return Ok(text);
     }
     let Some((value, rest)) = read_next_word(rest) else {

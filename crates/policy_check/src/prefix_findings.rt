@@ -7,7 +7,7 @@ ghost use Rattle.policy_check.specs.Reasons.{HasDottedEnd, IsEndReason, IsLong, 
 use crate::reason::Reason;
 use crate::word_finding::{Finding, missing, of};
 use crate::word_readers::{
-    read_address_word, read_cut_word, read_next_word, read_number_word, read_prefix_word,
+    cut_word_at, read_address_word, read_next_word, read_number_word, read_prefix_word,
 };
 use acl_policy::width_of;
 use packet_view::Family;
@@ -16,7 +16,7 @@ use packet_view::Family;
 fn is_long(family: Family, word: &[u8]) -> bool
     ensures { IsTrue result → IsLong family word.now }
 {
-    let Some((front, bits)) = read_cut_word(word, b'/') else {
+    let Some((front, bits)) = cut_word_at(word, b'/') else {
         return false;
     };
     match (read_address_word(family, front), read_number_word(bits)) {
@@ -29,8 +29,8 @@ fn is_long(family: Family, word: &[u8]) -> bool
 fn last_piece(word: &[u8]) -> Option<&[u8]>
     ensures { IfSome result (λ piece. (front : List ℕ) × (word.now ≡ front ++ 58 ∷ piece.now)) }
 {
-    let (_, mut piece) = read_cut_word(word, b':')?;
-    'colons: while let Some((_, behind)) = read_cut_word(piece, b':') {
+    let (_, mut piece) = cut_word_at(word, b':')?;
+    'colons: while let Some((_, behind)) = cut_word_at(piece, b':') {
         piece = behind;
     }
     Some(piece)
@@ -40,7 +40,7 @@ fn last_piece(word: &[u8]) -> Option<&[u8]>
 fn before_length(word: &[u8]) -> &[u8]
     ensures { (rest : List ℕ) × (word.now ≡ result.now ++ rest) × ((rest ≡ []) ⊎ ((bits : List ℕ) × (rest ≡ 47 ∷ bits))) }
 {
-    match read_cut_word(word, b'/') {
+    match cut_word_at(word, b'/') {
         Some((address, _)) => address,
         None => word,
     }

@@ -62,7 +62,7 @@ fn push_told_remark(alloc: Global, out: &mut Vec<u8>, remark: &Remark) -> Result
 }
 
 // How many rules a policy has, which the text of a check tells in its last line.
-fn rule_count_in_told_line(policy: &Policy) -> usize {
+fn told_rule_count(policy: &Policy) -> usize {
     let mut count: usize = 0;
     for section in &policy.sections {
         count = count
@@ -78,7 +78,7 @@ fn push_told_policy(alloc: Global, out: &mut Vec<u8>, policy: &Policy) -> Result
     for remark in &remarks {
         push_told_remark(alloc, out, remark)?;
     }
-    let rules = rule_count_in_told_line(policy);
+    let rules = told_rule_count(policy);
     let sections = policy.sections.len();
     push_told_text(
         out,

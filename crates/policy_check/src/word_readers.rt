@@ -19,14 +19,14 @@ pub fn read_next_word(text: &[u8]) -> Option<(&[u8], &[u8])>
 }
 
 /// Reads a word of a checked policy: whether it is this one.
-pub fn read_word_is(word: &[u8], name: &[u8]) -> bool
+pub fn is_read_word(word: &[u8], name: &[u8]) -> bool
     ensures { IsTrue result → word.now ≡ name.now }
 {
     word == name
 }
 
 /// Reads a word of a checked line up to a byte: what stands in front of it, and what behind it.
-pub fn read_cut_word(word: &[u8], byte: u8) -> Option<(&[u8], &[u8])>
+pub fn cut_word_at(word: &[u8], byte: u8) -> Option<(&[u8], &[u8])>
     ensures { IfSome result (λ r. word.now ≡ r.0.now ++ byte ∷ r.1.now) }
 {
     acl_policy::cut_at(word, byte)
@@ -36,21 +36,21 @@ pub fn read_cut_word(word: &[u8], byte: u8) -> Option<(&[u8], &[u8])>
 pub fn read_direction_word(word: &[u8]) -> Option<Direction>
     ensures { Reads result (λ d. word.now ≡ direction_word d) }
 {
-    acl_policy::direction_of_line_word(word)
+    acl_policy::direction_of_word(word)
 }
 
 /// Reads the action that a word of a checked line says.
 pub fn read_action_word(word: &[u8]) -> Option<Action>
     ensures { Reads result (λ a. word.now ≡ action_word a) }
 {
-    acl_policy::action_of_line_word(word)
+    acl_policy::action_of_word(word)
 }
 
 /// Reads the family that a word of a checked line says.
 pub fn read_family_word(word: &[u8]) -> Option<Family>
     ensures { Reads result (λ f. word.now ≡ family_word f) }
 {
-    acl_policy::family_of_line_word(word)
+    acl_policy::family_of_word(word)
 }
 
 /// Reads the prefix that a word of a checked line says.
@@ -107,5 +107,5 @@ pub fn read_mac_word(word: &[u8]) -> Option<Mac>
 pub fn read_interface_word(word: &[u8]) -> Option<u8>
     ensures { Reads result (IsInterface word.now) }
 {
-    acl_policy::interface_of_line_word(word)
+    acl_policy::interface_of_word(word)
 }

@@ -13,7 +13,7 @@ pub fn is_blank(byte: u8) -> bool
 }
 
 // Where the first such byte of a line or of a word stands, where it has one.
-fn place_in_line_or_word(text: &[u8], byte: u8) -> Option<usize>
+fn place_of_byte(text: &[u8], byte: u8) -> Option<usize>
     ensures place { result ≡ position (λ b. b == byte) text.now }
     ensures within { IfSome result (λ i. i < length text.now) }
 {
@@ -41,7 +41,7 @@ fn word_end(text: &[u8]) -> Option<usize>
 pub fn before_comment(line: &[u8]) -> &[u8]
     ensures { result.now ≡ without_comment line.now }
 {
-    match place_in_line_or_word(line, b'#') {
+    match place_of_byte(line, b'#') {
         Some(start) => &line[..start],
         None => line,
     }
@@ -69,6 +69,6 @@ pub fn is_end(text: &[u8]) -> bool
 pub fn cut_at(word: &[u8], byte: u8) -> Option<(&[u8], &[u8])>
     ensures { option_map (λ r. (r.0.now, r.1.now)) result ≡ cut_in byte word.now }
 {
-    let place = place_in_line_or_word(word, byte)?;
+    let place = place_of_byte(word, byte)?;
     Some((&word[..place], &word[place + 1..]))
 }

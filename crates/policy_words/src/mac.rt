@@ -4,7 +4,7 @@ ghost use Rattle.policy_words.specs.inner.Reading.Numerals.{pair_in, piece_in};
 ghost use Rattle.policy_words.specs.inner.Reading.Prefixes.{mac_in};
 
 use crate::line_words::cut_at;
-use crate::number_parsing::number_of_hex_pair;
+use crate::number_parsing::hex_pair_of;
 use packet_view::Mac;
 
 // The first pair of hexadecimal digits of a MAC address as text, and what follows its colon.
@@ -13,7 +13,7 @@ fn pair_before_colon(text: &[u8]) -> Option<(u8, &[u8])>
     ensures { option_map (λ r. (r.0, r.1.now)) result ≡ piece_in 58 pair_in text.now }
 {
     let (first, rest) = cut_at(text, b':')?;
-    let pair = number_of_hex_pair(first)?;
+    let pair = hex_pair_of(first)?;
     Some((pair, rest))
 }
 
@@ -27,6 +27,6 @@ pub fn mac_of(text: &[u8]) -> Option<Mac>
     let (c, text) = pair_before_colon(text)?;
     let (d, text) = pair_before_colon(text)?;
     let (e, text) = pair_before_colon(text)?;
-    let f = number_of_hex_pair(text)?;
+    let f = hex_pair_of(text)?;
     Some(Mac([a, b, c, d, e, f]))
 }

@@ -65,7 +65,7 @@ pub fn group_of(word: &[u8]) -> Option<u16>
 
 /// Parses the number that two hexadecimal digits of a policy's word spell.
 #[tactic(auto, unfolding(crate::specs::inner::Reading::Numerals::pair_in))]
-pub fn number_of_hex_pair(word: &[u8]) -> Option<u8>
+pub fn hex_pair_of(word: &[u8]) -> Option<u8>
     ensures { result ≡ pair_in word.now }
 {
     if word.len() != 2 {

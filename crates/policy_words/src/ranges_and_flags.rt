@@ -5,7 +5,7 @@ ghost use Rattle.policy_words.specs.Traffic.{every};
 ghost use Rattle.policy_words.specs.Words.{words_of};
 
 use crate::line_words::{cut_at, next_word};
-use crate::number_parsing::{number_of_hex_pair, number_up_to};
+use crate::number_parsing::{hex_pair_of, number_up_to};
 
 /// Every port, type or code.
 pub const EVERY: (u16, u16) = (0, u16::MAX);
@@ -30,14 +30,14 @@ pub fn flags_of_word(word: &[u8]) -> Option<(u8, u8)>
     ensures { result ≡ flags_in word.now }
 {
     let (value, mask) = cut_at(word, b'/')?;
-    let value = number_of_hex_pair(value)?;
-    let mask = number_of_hex_pair(mask)?;
+    let value = hex_pair_of(value)?;
+    let mask = hex_pair_of(mask)?;
     Some((value, mask))
 }
 
 /// The text after a name before a range or flags. `None`: the first word is another, or there is none.
 #[tactic(auto, unfolding(crate::specs::inner::Reading::Traffic::after_in))]
-fn text_of_range_or_flags<'a>(text: &'a [u8], name: &[u8]) -> Option<&'a [u8]>
+fn after_part_name<'a>(text: &'a [u8], name: &[u8]) -> Option<&'a [u8]>
     ensures { option_map (λ rest. words_of rest.now) result ≡ after_in name.now (words_of text.now) }
 {
     let (word, rest) = next_word(text)?;
@@ -51,7 +51,7 @@ fn range_part<'a>(text: &'a [u8], name: &[u8], most: u16) -> Option<((u16, u16),
     ensures { option_map (λ r. (r.0, words_of r.1.now)) result
         ≡ part_in name.now (range_in most) every (words_of text.now) }
 {
-    let Some(rest) = text_of_range_or_flags(text, name) else {
+    let Some(rest) = after_part_name(text, name) else {
         return Some((EVERY, text));
     };
     let (word, rest) = next_word(rest)?;
@@ -66,7 +66,7 @@ pub fn flags_part(text: &[u8]) -> Option<((u8, u8), &[u8])>
     ensures { option_map (λ r. (r.0, words_of r.1.now)) result
         ≡ part_in (codes "flags") flags_in (0, 0) (words_of text.now) }
 {
-    let Some(rest) = text_of_range_or_flags(text, b"flags") else {
+    let Some(rest) = after_part_name(text, b"flags") else {
         return Some(((0, 0), text));
     };
     let (word, rest) = next_word(rest)?;

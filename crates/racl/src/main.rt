@@ -18,7 +18,7 @@ use std::sync::Wait;
 use std::thread::Threads;
 
 fn main(rt: HostRuntime) -> ExitCode {
-    let status = match main_status(&rt, &rt, rt.alloc()) {
+    let status = match status_of_main(&rt, &rt, rt.alloc()) {
         Ok(status) => status,
         Err(error) => failure_status(&rt, &error),
     };
@@ -27,7 +27,7 @@ fn main(rt: HostRuntime) -> ExitCode {
 
 // The main function's work: does what the program's words ask for, and answers the exit status. The workers' threads
 // come from `threads`.
-fn main_status<T: Threads + Wait + Sync>(
+fn status_of_main<T: Threads + Wait + Sync>(
     rt: &HostRuntime,
     threads: &T,
     alloc: Global,

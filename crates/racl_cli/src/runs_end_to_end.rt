@@ -86,7 +86,7 @@ fn judge_kept<R: Source + Send, T: Threads + Wait + Sync>(
 }
 
 // Whose threads a run may take beside this one, from end to end: nobody's where the options ask for one worker.
-fn run_threads<'a, T>(rt: &'a T, options: &Options) -> Option<&'a T> {
+fn threads_for<'a, T>(rt: &'a T, options: &Options) -> Option<&'a T> {
     threads_beside(rt, options.workers > 1)
 }
 
@@ -125,14 +125,14 @@ pub fn run<R: Source + Send, W: Sink, T: Threads + Wait + Sync>(
 {
     if !needs_bytes(options) {
         return match judge_source(rt, alloc, options, reader) {
-            Ok(judged) => write_plain(run_threads(rt, options), alloc, writer, options, &judged),
+            Ok(judged) => write_plain(threads_for(rt, options), alloc, writer, options, &judged),
             Err(fault) => Err(fault),
         };
     }
     let mut bytes = Vec::new(alloc);
     match judge_kept(rt, alloc, options, reader, &mut bytes) {
         Ok(judged) => write_judged(
-            run_threads(rt, options),
+            threads_for(rt, options),
             alloc,
             writer,
             options,
@@ -176,7 +176,7 @@ pub fn run_saving<R: Source + Send, W: Sink, S: Sink, T: Threads + Wait + Sync>(
         Err(fault) => return Err(fault),
     };
     let totals = match write_judged(
-        run_threads(rt, options),
+        threads_for(rt, options),
         alloc,
         writer,
         options,

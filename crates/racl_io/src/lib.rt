@@ -36,4 +36,4 @@ pub use reading_and_writing::{MOST_BYTES, drain, read_until, write_all};
 pub use report_piece::Piece;
 pub use shown_lines_report::{Shown, has_line, write_shown};
 pub use totals_and_truncation::{Captured, Totals, totals_on, write_totals, write_truncation};
-pub use whole_report::{Place, write_report, write_whole_report_lines};
+pub use whole_report::{Place, write_lines_whole, write_report};

@@ -9,7 +9,7 @@ use crate::number_printing::Counter;
 use crate::packet_lines::{LINES, push_lines};
 use crate::reading_and_writing::write_all;
 use crate::report_piece::Piece;
-use crate::whole_report::{Place, write_whole_report_lines};
+use crate::whole_report::{Place, write_lines_whole};
 use flow_filter::Verdict;
 use std::alloc::{AllocError, Global};
 use std::thread::{Threads, join_mut};
@@ -102,7 +102,7 @@ fn write_beside<W: Sink, T: Threads>(
     ensures { HasWritten W.bytes W.failures writer.old writer.new place verdicts.now result }
 {
     let Some((lines, earlier)) = parts.split_last_mut() else {
-        return write_whole_report_lines(writer, piece, place, verdicts);
+        return write_lines_whole(writer, piece, place, verdicts);
     };
     let (front, last) = verdicts.split_at(verdicts.len().saturating_sub(lines.count));
     let behind = Place {
@@ -144,7 +144,7 @@ fn write_batch<W: Sink, T: Threads>(
 {
     match Lines::parts(alloc, verdicts.len()) {
         Ok(mut parts) => write_beside(rt, writer, piece, &mut parts, place, verdicts),
-        Err(_) => write_whole_report_lines(writer, piece, place, verdicts),
+        Err(_) => write_lines_whole(writer, piece, place, verdicts),
     }
 }
 
@@ -163,10 +163,10 @@ pub fn write_packets<W: Sink, T: Threads>(
     ensures { HasWritten W.bytes W.failures writer.old writer.new place verdicts.now result }
 {
     let Some(rt) = beside else {
-        return write_whole_report_lines(writer, piece, place, verdicts);
+        return write_lines_whole(writer, piece, place, verdicts);
     };
     if verdicts.len() < FEW_LINES {
-        return write_whole_report_lines(writer, piece, place, verdicts);
+        return write_lines_whole(writer, piece, place, verdicts);
     }
     let mut passed = 0;
     let mut others = place.others;

@@ -13,7 +13,7 @@ pub const LINES: usize = 3600;
 
 /// The number of the rule in the report's packet line: it has few digits, which are pushed one by one.
 #[tactic(auto, using(std::proofs::lemmas::Fmt::decimal_digit, std::proofs::lemmas::Fmt::decimal_step, crate::proofs::NumeralLemmas::length_digit, crate::proofs::NumeralLemmas::length_step))]
-fn push_packet_line_rule(piece: &mut Piece, n: u64)
+fn push_rule_number(piece: &mut Piece, n: u64)
     requires { length piece.old + length (decimal n) ≤ 262144 }
     ensures { piece.new ≡ piece.old ++ decimal n }
 {
@@ -21,7 +21,7 @@ fn push_packet_line_rule(piece: &mut Piece, n: u64)
         piece.push(&[b'0' + n as u8]);
         return;
     }
-    push_packet_line_rule(piece, n / 10);
+    push_rule_number(piece, n / 10);
     piece.push(&[b'0' + (n % 10) as u8]);
 }
 
@@ -33,7 +33,7 @@ fn push_rule(piece: &mut Piece, effect: &[u8], n: u16, rest: &[u8])
     ensures short { length piece.new ≤ length piece.old + length effect.now + length rest.now + 20 }
 {
     piece.push(effect);
-    push_packet_line_rule(piece, n as u64);
+    push_rule_number(piece, n as u64);
     piece.push(rest);
 }
 

@@ -30,7 +30,7 @@ pub struct Place {
 }
 
 /// Writes the lines that the whole report has for the packets at this place, and answers how many of them pass.
-pub fn write_whole_report_lines<W: Sink>(
+pub fn write_lines_whole<W: Sink>(
     writer: &mut W,
     piece: &mut Piece,
     place: Place,

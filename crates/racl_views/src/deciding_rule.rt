@@ -31,7 +31,7 @@ fn rule_number(verdict: Verdict) -> Option<u16>
 }
 
 // The own address of an interface, by which the direction of a packet, and so of its deciding rule, is seen.
-fn own_address_for_deciding_rule(policy: &Policy, interface: u8) -> Option<Mac>
+fn own_address_at(policy: &Policy, interface: u8) -> Option<Mac>
     ensures { result ≡ (section_of interface (policy_facts policy.now)).own }
 {
     match policy.section(interface) {
@@ -41,11 +41,11 @@ fn own_address_for_deciding_rule(policy: &Policy, interface: u8) -> Option<Mac>
 }
 
 /// What a packet's frame is at its interface, by which the rule that decided it is known.
-pub fn frame_for_deciding_rule(policy: &Policy, packet: Packet<'_>) -> Frame
+pub fn packet_as_seen(policy: &Policy, packet: Packet<'_>) -> Frame
     ensures shown { IsSeen (policy_facts policy.now) (packet_facts packet.entry) (frame_facts result) }
     ensures only { frame_facts result ≡ view_at (policy_facts policy.now) (packet_facts packet.entry) }
 {
-    let own = own_address_for_deciding_rule(policy, packet.interface);
+    let own = own_address_at(policy, packet.interface);
     view(packet.frame, packet.interface, own)
 }
 
@@ -74,9 +74,5 @@ pub fn deciding_rule(policy: &Policy, packet: Packet<'_>, verdict: Verdict) -> O
     ensures interface { IfSome result (λ rule. rule.interface < 2 ^ 8) }
     ensures number { IfSome result (λ rule. rule.number < 2 ^ 16) }
 {
-    rule_on(
-        packet.interface,
-        frame_for_deciding_rule(policy, packet),
-        verdict,
-    )
+    rule_on(packet.interface, packet_as_seen(policy, packet), verdict)
 }

@@ -39,7 +39,7 @@ fn tell_packet_in_json(
 }
 
 // The objects of the report in JSON on these packets, of which the first has this number.
-fn tell_packets(
+fn tell_packets_in_json(
     text: Vec<u8>,
     address: &mut String,
     telling: Telling<'_, '_>,
@@ -92,7 +92,7 @@ fn tell_captures_in_json(
     let mut left = run.captures;
     'each: while let Some((captured, after)) = left.split_first() {
         let (first, behind) = rest.split_at(captured.packets);
-        told = tell_packets(
+        told = tell_packets_in_json(
             told,
             &mut address,
             telling,

@@ -6,7 +6,7 @@ ghost use Rattle.racl_views.specs.declared.rule_name.RuleLine as code;
 ghost use Rattle.racl_views.specs.Entries.{entry_facts};
 ghost use Rattle.racl_views.specs.inner.EntryLists.{AreAtPlaces, entry_on};
 
-use crate::deciding_rule::{frame_for_deciding_rule, rule_on};
+use crate::deciding_rule::{packet_as_seen, rule_on};
 use crate::rule_lines_by_place::line_of;
 use acl_policy::Policy;
 use flow_filter::Verdict;
@@ -37,7 +37,7 @@ pub fn entry_of(policy: &Policy, lines: &[u64], packet: Packet<'_>, verdict: Ver
     ensures { (rules : List code.RuleLine) → AreAtPlaces lines.now rules
         → entry_facts result ≡ entry_on (policy_facts policy.now) rules (packet_facts packet.entry) verdict }
 {
-    let frame = frame_for_deciding_rule(policy, packet);
+    let frame = packet_as_seen(policy, packet);
     let line = line_of(lines, rule_on(packet.interface, frame, verdict));
     Entry {
         verdict,

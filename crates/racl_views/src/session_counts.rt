@@ -44,7 +44,7 @@ fn count_session_entries(verdicts: &[Verdict]) -> u64
 }
 
 // The latest second of any packet, at which the sessions that are live are counted.
-fn session_count_second(packets: Packets<'_>) -> u32
+fn latest_count_second(packets: Packets<'_>) -> u32
     ensures { result ≡ Hits.latest_second (remaining packets.entry) }
 {
     let mut left = packets;
@@ -87,7 +87,7 @@ fn count_live_sessions<const N: usize>(
 pub fn count_sessions(times: Timeouts, run: Run<'_>, stored: &StoredPairs) -> SessionCounts
     ensures { result ≡ session_counts times (run_facts run.entry) (stored_facts stored.now) }
 {
-    let latest = session_count_second(run.packets);
+    let latest = latest_count_second(run.packets);
     let entered = count_session_entries(run.verdicts);
     let four = count_live_sessions(&times, latest, &stored.four);
     let six = count_live_sessions(&times, latest, &stored.six);

@@ -25,7 +25,7 @@ use session_state::{Session, Timeouts};
 use std::alloc::{AllocError, Global};
 
 // The port of an end in the text of a session, where the protocol has ports.
-fn push_session_end_port(piece: &mut Piece, proto: u8, port: u16)
+fn push_flow_end_port(piece: &mut Piece, proto: u8, port: u16)
     requires { length piece.old + 30 ≤ 262144 }
     ensures text { piece.new ≡ piece.old ++ line.port_told proto port }
     ensures short { length piece.new ≤ length piece.old + 30 }
@@ -36,7 +36,7 @@ fn push_session_end_port(piece: &mut Piece, proto: u8, port: u16)
 }
 
 // The flags that are kept of an end in the text of a session, where the protocol has flags.
-fn push_session_end_flags(piece: &mut Piece, proto: u8, flags: u8)
+fn push_flow_end_flags(piece: &mut Piece, proto: u8, flags: u8)
     requires { length piece.old + 9 ≤ 262144 }
     ensures text { piece.new ≡ piece.old ++ line.end_flags proto flags }
     ensures short { length piece.new ≤ length piece.old + 9 }
@@ -47,15 +47,15 @@ fn push_session_end_flags(piece: &mut Piece, proto: u8, flags: u8)
 }
 
 // The address, port and flags of an end in the text of a session.
-fn push_session_end(piece: &mut Piece, flow: &StoredFlow, end: FlowEnd, flags: u8)
+fn push_flow_end(piece: &mut Piece, flow: &StoredFlow, end: FlowEnd, flags: u8)
     requires fits { end.address < address_limit flow.now.family }
     requires room { length piece.old + 145 ≤ 262144 }
     ensures text { piece.new ≡ piece.old ++ line.end_told (flow_facts flow.now) (end_facts end) flags }
     ensures short { length piece.new ≤ length piece.old + 145 }
 {
     push_address(piece, flow.family, end.address);
-    push_session_end_port(piece, flow.proto, end.port);
-    push_session_end_flags(piece, flow.proto, flags);
+    push_flow_end_port(piece, flow.proto, end.port);
+    push_flow_end_flags(piece, flow.proto, flags);
 }
 
 // The interface and the protocol of a flow in the text of its session.
@@ -69,7 +69,7 @@ fn push_flow(piece: &mut Piece, flow: &StoredFlow)
 }
 
 // The last second in which a session is live, as it is told in lines and objects.
-fn session_until_to_tell(times: &Timeouts, session: &Session) -> u64
+fn session_live_until(times: &Timeouts, session: &Session) -> u64
     ensures { result ≡ Sessions.live_until session.now times.now }
 {
     u64::from(session.last()) + u64::from(session.timeout(times))
@@ -82,7 +82,7 @@ fn push_seconds(piece: &mut Piece, times: &Timeouts, session: &Session)
     ensures short { length piece.new ≤ length piece.old + 62 }
 {
     push_numbered(piece, b" last ", u64::from(session.last()));
-    push_numbered(piece, b" until ", session_until_to_tell(times, session));
+    push_numbered(piece, b" until ", session_live_until(times, session));
     piece.push(b"\n");
 }
 
@@ -92,9 +92,9 @@ fn push_session(piece: &mut Piece, times: &Timeouts, flow: &StoredFlow, session:
 {
     push_flow(piece, flow);
     piece.push(b" ");
-    push_session_end(piece, flow, flow.first, session.flags_seen(0));
+    push_flow_end(piece, flow, flow.first, session.flags_seen(0));
     piece.push(b" and ");
-    push_session_end(piece, flow, flow.second, session.flags_seen(1));
+    push_flow_end(piece, flow, flow.second, session.flags_seen(1));
     push_seconds(piece, times, session);
 }
 
@@ -112,7 +112,7 @@ fn add_end_fields(object: &mut Writer, proto: u8, end: FlowEnd, flags: u8) -> Re
 }
 
 // The address, port and flags of an end in the object of a session.
-fn write_session_end(
+fn write_flow_end(
     object: &mut Writer,
     address: &mut String,
     flow: &StoredFlow,
@@ -141,8 +141,8 @@ fn add_ends(
 {
     object.key("ends")?;
     object.begin_array()?;
-    write_session_end(object, address, flow, flow.first, session.flags_seen(0))?;
-    write_session_end(object, address, flow, flow.second, session.flags_seen(1))?;
+    write_flow_end(object, address, flow, flow.first, session.flags_seen(0))?;
+    write_flow_end(object, address, flow, flow.second, session.flags_seen(1))?;
     object.end_array()?;
     Ok(())
 }
@@ -162,7 +162,7 @@ fn session_object(
     add_number(&mut object, "protocol", u64::from(flow.proto))?;
     add_ends(&mut object, address, flow, session)?;
     add_number(&mut object, "last", u64::from(session.last()))?;
-    add_number(&mut object, "until", session_until_to_tell(times, session))?;
+    add_number(&mut object, "until", session_live_until(times, session))?;
     end_json_object(object, text)
 }
 

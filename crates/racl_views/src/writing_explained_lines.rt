@@ -64,7 +64,7 @@ fn tell_explained<W: Sink>(
 }
 
 // Writes the explained lines on these packets, of which the first stands at this place.
-fn write_packets<W: Sink>(
+fn write_explained_packets<W: Sink>(
     writer: &mut W,
     piece: &mut Piece,
     telling: Telling<'_, '_>,
@@ -114,7 +114,7 @@ fn write_explained_captures<W: Sink>(
             named: captured.named,
             number: others as u64 + 1,
         };
-        write_packets(writer, piece, telling, place, &mut packets, first)?;
+        write_explained_packets(writer, piece, telling, place, &mut packets, first)?;
         write_truncation(writer, piece, captured)?;
         others += captured.packets;
         rest = behind;

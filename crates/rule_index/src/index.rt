@@ -40,7 +40,7 @@ pub struct RuleIndex {
 }
 
 // The index is searched by this number of a packet: its source port, or its type.
-fn indexed_first(fields: &Fields) -> Option<u128>
+fn lookup_first(fields: &Fields) -> Option<u128>
     ensures { IfSome result (IsFirst fields.now) }
 {
     match fields {
@@ -51,7 +51,7 @@ fn indexed_first(fields: &Fields) -> Option<u128>
 }
 
 // The index is searched by this number of a packet: its destination port, or its code.
-fn indexed_second(fields: &Fields) -> Option<u128>
+fn lookup_second(fields: &Fields) -> Option<u128>
     ensures { IfSome result (IsSecond fields.now) }
 {
     match fields {
@@ -62,7 +62,7 @@ fn indexed_second(fields: &Fields) -> Option<u128>
 }
 
 // The index is searched by these flags of a packet of TCP.
-fn indexed_flags(fields: &Fields) -> Option<u8>
+fn lookup_flags(fields: &Fields) -> Option<u8>
     ensures { IfSome result (IsFlagsOf fields.now) }
 {
     match fields {
@@ -72,7 +72,7 @@ fn indexed_flags(fields: &Fields) -> Option<u8>
 }
 
 // The index is searched by this number of a packet: its protocol, and its family.
-fn indexed_protocol(tuple: &Tuple) -> u128
+fn lookup_protocol(tuple: &Tuple) -> u128
     ensures { IsAt Protocol (tuple_facts tuple.now) result }
 {
     base_of(tuple.family) + u128::from(tuple.proto)
@@ -106,14 +106,14 @@ impl RuleIndex {
     fn candidates(&self, tuple: &Tuple) -> Candidates<'_>
         ensures { AllSift (map rule_facts self.now.rules.items) (tuple_facts tuple.now) result }
     {
-        let protocol = self.protocol.row(indexed_protocol(tuple));
+        let protocol = self.protocol.row(lookup_protocol(tuple));
         Candidates {
             source: self.source.row(tuple.source),
             dest: self.dest.row(tuple.dest),
             protocol,
-            first: self.first.row_or(indexed_first(&tuple.fields), protocol),
-            second: self.second.row_or(indexed_second(&tuple.fields), protocol),
-            flags: self.flags.row_or(indexed_flags(&tuple.fields), protocol),
+            first: self.first.row_or(lookup_first(&tuple.fields), protocol),
+            second: self.second.row_or(lookup_second(&tuple.fields), protocol),
+            flags: self.flags.row_or(lookup_flags(&tuple.fields), protocol),
         }
     }
 

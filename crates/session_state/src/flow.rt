@@ -96,8 +96,8 @@ fn oriented(tuple: &Tuple, first: End, second: End, starts: bool) -> Flow
     }
 }
 
-// The rank of an end in an IPv4 flow: a number, so that the order of ends is that of their numbers.
-fn flow_rank(end: End) -> u64
+// The number of an end in an IPv4 flow: the order of ends is that of their numbers.
+fn end_number(end: End) -> u64
     requires { end.address < 2 ^ 32 }
     ensures is { end_of_number result ≡ end }
     ensures fits { result < 2 ^ 48 }
@@ -136,8 +136,8 @@ fn by_order(tuple: &Tuple) -> Flow
 {
     match tuple.family {
         Family::V4 => flow_by_number(
-            flow_rank(sender(tuple)),
-            flow_rank(receiver(tuple)),
+            end_number(sender(tuple)),
+            end_number(receiver(tuple)),
             tuple.proto,
             tuple.interface,
         ),
@@ -207,5 +207,5 @@ pub fn plain_flow(packet: PlainPacket, interface: u8) -> Flow
         address: u128::from(packet.dest),
         port: packet.to,
     };
-    flow_by_number(flow_rank(from), flow_rank(to), packet.proto, interface)
+    flow_by_number(end_number(from), end_number(to), packet.proto, interface)
 }

@@ -291,7 +291,7 @@ const FOUND: [(&[Place], BlockSize, u64, Option<usize>); 19] = [
 ];
 
 // For tests of plans: how many places a block of this size has. A small table has blocks of at most four pages.
-fn places_to_plan(size: BlockSize) -> Option<usize>
+fn count_to_plan(size: BlockSize) -> Option<usize>
     ensures size { IfSome result (λ _. size.log2 ≤ 2) }
     ensures count { IfSome result (λ count. count ≡ 4 * 2 ^ size.log2) }
     ensures few { IfSome result (λ count. count ≤ 16) }
@@ -307,7 +307,7 @@ fn places_to_plan(size: BlockSize) -> Option<usize>
 // For tests of plans: what is planned for the key of this number. `None`: a block of this size doesn't have so many
 // places.
 fn planned(places: &[Place], size: BlockSize, key: u64) -> Option<Plan> {
-    let count = places_to_plan(size)?;
+    let count = count_to_plan(size)?;
     if !places.is_empty() && places.len() != count {
         return None;
     }
@@ -316,7 +316,7 @@ fn planned(places: &[Place], size: BlockSize, key: u64) -> Option<Plan> {
 
 // For tests of plans: what a block grows to for a new key without a place.
 fn grown(places: &[Place], size: BlockSize, key: u64) -> Option<Plan> {
-    let count = places_to_plan(size)?;
+    let count = count_to_plan(size)?;
     if !places.is_empty() && places.len() != count {
         return None;
     }
@@ -325,7 +325,7 @@ fn grown(places: &[Place], size: BlockSize, key: u64) -> Option<Plan> {
 
 // For tests of plans: where the key is in a block. `None`: nowhere.
 fn place_of(places: &[Place], size: BlockSize, key: u64) -> Option<usize> {
-    let count = places_to_plan(size)?;
+    let count = count_to_plan(size)?;
     if places.len() != count {
         return None;
     }
@@ -334,7 +334,7 @@ fn place_of(places: &[Place], size: BlockSize, key: u64) -> Option<usize> {
 
 // For tests of plans: whether these places and a new pair are laid out so in a block of this size.
 fn lays(places: &[Place], new: &Place, size: BlockSize, wanted: &[Place]) -> bool {
-    let Some(count) = places_to_plan(size) else {
+    let Some(count) = count_to_plan(size) else {
         return false;
     };
     let mut all = [FREE; 16];

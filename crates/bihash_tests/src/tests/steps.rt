@@ -69,7 +69,7 @@ fn split_steps_make_a_caller(rt: HostRuntime) -> Result<(), Fail> {
     Ok(())
 }
 
-// Steps on callers of a row: two that meet before they made a call have no stamp.
+// Steps on callers of a row: two that meet keep their numbers, and have no stamp before their first call.
 #[test]
 fn meet_steps_keep_numbers(rt: HostRuntime) -> Result<(), Fail> {
     let Ok((row, first)) = open_row::<Small>(rt.alloc()) else {

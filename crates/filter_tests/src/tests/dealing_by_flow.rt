@@ -23,7 +23,7 @@ fn flow(key: FlowKey) -> Option<Flow> {
 
 /// Dealing in turn goes by a packet's number, whatever its flow.
 #[test]
-fn flows_dealt_in_turn(rt: HostRuntime) {
+fn dealing_in_turn(rt: HostRuntime) {
     assert_eq!(rt; worker_in(Dealing::Round, None), 4);
     assert_eq!(rt;
         worker_in(Dealing::Round, flow(FlowKey::Four([0, STEP]))),
@@ -33,7 +33,7 @@ fn flows_dealt_in_turn(rt: HostRuntime) {
 
 /// Dealing by bucket: worker 0 without a flow, and else the worker of the bucket of the flow's key.
 #[test]
-fn flows_dealt_by_bucket(rt: HostRuntime) {
+fn dealing_by_bucket(rt: HostRuntime) {
     assert_eq!(rt; worker_in(Dealing::Bucket, None), 0);
     for (key, bucket) in [
         (FlowKey::Four([0, 0]), 0),

@@ -114,7 +114,7 @@ fn filter_of_two_interfaces(rt: HostRuntime) -> Result<(), Fail> {
 
 /// The verdicts that a filter's rules alone give, by the place of the rule that decides.
 #[test]
-fn filter_rules_count_from_1(rt: HostRuntime) {
+fn filter_rules_begin_at_1(rt: HostRuntime) {
     assert_eq!(rt; verdict_of_rules(None), Verdict::ByDefault);
     for (number, action, verdict) in [
         (0, Action::Deny, Verdict::Deny(1)),

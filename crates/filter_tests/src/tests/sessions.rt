@@ -129,7 +129,7 @@ fn keys_of_one_address(rt: HostRuntime) {
 
 /// Keys of sessions, and the senders' sides, of plain packets by UDP and TCP.
 #[test]
-fn session_keys_of_plain_packets(rt: HostRuntime) {
+fn keys_of_plain_packets(rt: HostRuntime) {
     let key = 0x0a00_0001_0a00_0002;
     let asked = plain_flow(
         PlainPacket {

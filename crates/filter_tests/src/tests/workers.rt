@@ -78,7 +78,7 @@ struct Counts {
 }
 
 // A one in the packet's byte of what tests of workers count at the gate.
-fn one_at_worker_gate(packet: usize) -> u64 {
+fn one_in_gate_count(packet: usize) -> u64 {
     match packet {
         0 => 0x1,
         1 => 0x100,
@@ -93,14 +93,14 @@ impl Gate for Counts {
     fn before(&self, worker: usize, packet: usize) {
         let _ = worker;
         self.before
-            .fetch_add(one_at_worker_gate(packet), Ordering::SeqCst);
+            .fetch_add(one_in_gate_count(packet), Ordering::SeqCst);
     }
 
     // Counts, in a test of workers, that the packet left the gate.
     fn after(&self, worker: usize, packet: usize) {
         let _ = worker;
         self.after
-            .fetch_add(one_at_worker_gate(packet), Ordering::SeqCst);
+            .fetch_add(one_in_gate_count(packet), Ordering::SeqCst);
     }
 }
 
@@ -261,7 +261,7 @@ fn two_workers_at_once(rt: HostRuntime) -> Result<(), Fail> {
 // Workers that judge two parts: packets are numbered on, and sessions last from part to part. Both sessions stand in
 // the table at the end, with the second of their last packet; the lesser end is 10.0.0.1, whose port is 1000.
 #[test]
-fn workers_number_on_over_parts(rt: HostRuntime) -> Result<(), Fail> {
+fn workers_judge_two_parts(rt: HostRuntime) -> Result<(), Fail> {
     let alloc = rt.alloc();
     let Ok(filter) = filter_for_session_tables(alloc, NAMES) else {
         return filter_test_refused();

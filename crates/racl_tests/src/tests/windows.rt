@@ -191,9 +191,9 @@ fn windows_end_at_the_limit(rt: HostRuntime) {
     assert_eq!(rt; reader.left, 2 * MOST_BYTES - most);
 }
 
-// Windows are read until an input would be too long, or a read fails before that.
+// Windows: a read that fails within the limit is told, one behind it isn't made.
 #[test]
-fn windows_fail_up_to_the_limit(rt: HostRuntime) {
+fn reads_fail_up_to_the_limit(rt: HostRuntime) {
     let most = MOST_BYTES + 1 - 54;
     let (reader, answer) = read_zeros(&rt, rt.alloc(), most);
     assert_eq!(rt; (answer, reader.failures), (Some(Fault::TooLarge), 0));

@@ -33,4 +33,4 @@ page_room paging log2 size false places key from to false plain small within ope
 pub returns-clause-exact : goal.returns-clause-exact
 returns-clause-exact g c =
     page_room _ _ _ _ _ _ _ _ _ c.if-size.false
-    (omega arith) c.open_page_places-from.ensures.within c.open_page_places-from.ensures.exact c.has_other_page.ensures.other c.has_other_page.ensures.same
+    (omega arith) c.places_open_to-from.ensures.within c.places_open_to-from.ensures.exact c.has_other_page.ensures.other c.has_other_page.ensures.same

@@ -50,6 +50,6 @@ returns-then-size-clause-first g c = λ before. record {
 
 pub returns-clause-first : goal.returns-clause-first
 returns-clause-first g c = λ before. record {
-  found = first_in_page _ _ _ _ _ _ c.open_page_places-from.ensures.exact c.free_place-2.ensures.found c.free_place-2.ensures.first;
-  none = crowded_page _ _ _ _ _ _ c.open_page_places-from.ensures.exact c.free_place-2.ensures.none;
+  found = first_in_page _ _ _ _ _ _ c.places_open_to-from.ensures.exact c.free_place-2.ensures.found c.free_place-2.ensures.first;
+  none = crowded_page _ _ _ _ _ _ c.places_open_to-from.ensures.exact c.free_place-2.ensures.none;
 }

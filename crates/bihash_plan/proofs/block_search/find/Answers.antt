@@ -39,12 +39,12 @@ absent : (i : ℕ) (r : Option ℕ) → r ≡ None → r ≡ Some i → ⊥
 absent i r none found = cc
 
 pub returns-clause-reached : goal.returns-clause-reached
-returns-clause-reached g c = reached _ _ _ _ _ _ _ (λ i inside. (c.open_page_places-from.ensures.exact i inside).0)
+returns-clause-reached g c = reached _ _ _ _ _ _ _ (λ i inside. (c.places_open_to-from.ensures.exact i inside).0)
     c.place_of_key.ensures.found c.place_of_key.ensures.among
 
 pub returns-clause-open_only : goal.returns-clause-open_only
 returns-clause-open_only g c = open_only _ _ _ _ _ _ _
-    (λ i inside. (c.open_page_places-from.ensures.exact i inside).1) c.place_of_key.ensures.none
+    (λ i inside. (c.places_open_to-from.ensures.exact i inside).1) c.place_of_key.ensures.none
 
 pub returns-clause-lawful : goal.returns-clause-lawful
 returns-clause-lawful g c = λ lawful.

@@ -12,8 +12,8 @@ use Rattle.bihash_table.proofs.SameCallers.{own_through, same_through}
 use Rattle.bihash_table.proofs.StoredWords.{held_now, holds_stored, stored_more, stored_none, stored_same, view_stored}
 use Rattle.bihash_table.proofs.change_in_place.store_key.Goals as goal
 
-pub word_to_change_in_place-requires : goal.word_to_change_in_place-requires
-word_to_change_in_place-requires g c =
+pub word_before_change-requires : goal.word_before_change-requires
+word_before_change-requires g c =
     let h = c.requires in let key = g.S.Shape.words_of c.args.seen.now.hashed.key.now in
     record {
       own = own_through c.args.seat.now _ _ c.loop-i.invariant.0 c.requires.own;
@@ -26,7 +26,7 @@ pub store_word-requires : goal.store_word-requires
 store_word-requires g c =
     let z = sizes_of g.S.Shape in
     let h = c.requires in let key = g.S.Shape.words_of c.args.seen.now.hashed.key.now in
-    subst (λ (s : CallerState). HoldsWord z c.args.row.now s c.args.seen.now.word c.args.place c.loop-i.i) (sym c.word_to_change_in_place.ensures.same)
+    subst (λ (s : CallerState). HoldsWord z c.args.row.now s c.args.seen.now.word c.args.place c.loop-i.i) (sym c.word_before_change.ensures.same)
     record {
       own = own_through c.args.seat.now _ _ c.loop-i.invariant.0 c.requires.own;
       held = holds_stored z c.args.seat.now.view c.args.seen.now.hashed.bucket c.args.seen.now.word h.lock h.has c.loop-i.seat.view
@@ -41,12 +41,12 @@ loop-i-init g c = (
       (g.S.Shape.words_of c.args.seen.now.hashed.key.now),
 )
 
-pub loop-i-preserved-then-word_to_change_in_place-part : goal.loop-i-preserved-then-word_to_change_in_place-part
-loop-i-preserved-then-word_to_change_in_place-part g c =
+pub loop-i-preserved-then-word_before_change-part : goal.loop-i-preserved-then-word_before_change-part
+loop-i-preserved-then-word_before_change-part g c =
     let z = sizes_of g.S.Shape in let v = c.args.seat.now.view in let w = c.loop-i.seat.view in
     let key = g.S.Shape.words_of c.args.seen.now.hashed.key.now in let b = c.args.seen.now.hashed.bucket in
     let word = c.args.seen.now.word in let i = c.args.place in
-    let back = sym c.word_to_change_in_place.ensures.same in (
+    let back = sym c.word_before_change.ensures.same in (
       subst (λ (s : CallerState). s ≡ with_view c.args.seat.now s.view) back c.loop-i.invariant.0,
       λ lock has.
           let inside : i < places lock.extent.page lock.extent.size.log2 =
@@ -54,9 +54,9 @@ loop-i-preserved-then-word_to_change_in_place-part g c =
           (same_lock z v b word c.requires.lock lock c.requires.has has) c.requires.inside in
           let h = c.loop-i.invariant.1 lock has in
           subst (λ (s : CallerState). HasStored z v s.view lock i key (c.loop-i.i + 1)) back
-          (stored_same z v b word lock has w i inside key c.loop-i.i h c.word_to_change_in_place.result
-          (c.word_to_change_in_place.ensures.value (record lock { now = h.now; stored = h.stored }) (held_now z v b word lock has w i inside key c.loop-i.i h))
-          (c.if-word_to_change_in_place-part.true ∙ c.word-part.ensures.word)),
+          (stored_same z v b word lock has w i inside key c.loop-i.i h c.word_before_change.result
+          (c.word_before_change.ensures.value (record lock { now = h.now; stored = h.stored }) (held_now z v b word lock has w i inside key c.loop-i.i h))
+          (c.if-word_before_change-part.true ∙ c.word-part.ensures.word)),
     )
 
 pub loop-i-preserved : goal.loop-i-preserved
@@ -69,7 +69,7 @@ loop-i-preserved g c =
     let below = c.loop-i-test.true in let same = c.WORDS-i-end.ensures in omega arith in
     let at : ℕ = i * place_words z + c.loop-i.i in
     let stores = subst (λ (s : CallerState). (l : LockedBucket) → s.view.holds.bucket ≡ Some l
-    → c.store_word.new.seat ≡ with_view s (with_lock s.view (Some (stored_in l at c.word-part.result)))) c.word_to_change_in_place.ensures.same
+    → c.store_word.new.seat ≡ with_view s (with_lock s.view (Some (stored_in l at c.word-part.result)))) c.word_before_change.ensures.same
     c.store_word.ensures in (
       same_through c.args.seat.now c.loop-i.seat c.store_word.new.seat _ c.loop-i.invariant.0
           (stores _ (held_now z v b word own.lock own.has w i own.inside key c.loop-i.i mine)),

@@ -22,26 +22,26 @@ pub returns-in-Err-tell_window-clause-told : goal.returns-in-Err-tell_window-cla
 returns-in-Err-tell_window-clause-told g c =
     window_fault g.J.Tellers.became g.J.Tellers.judged c.args.judges c.args.order _ _ _ _ _ c.reads.live c.in-Err-tell_window.fault c.reads.invariant.live c.in-Err-tell_window.ensures.told
 
-pub live_cut_at-requires : goal.live_cut_at-requires
-live_cut_at-requires g c =
+pub is_live_cut-requires : goal.is_live_cut-requires
+is_live_cut-requires g c =
     let told =
     live_told g.J.Tellers.became g.J.Tellers.judged c.args.judges c.args.order (g.R.Source.bytes c.args.reader.now) (g.W.Sink.bytes c.args.writer.now) _ _ _ c.reads.live c.in-Ok-tell_window.told.0
     c.in-Ok-tell_window.told.1 c.reads.invariant.live c.reads-test.true c.in-Ok-tell_window.ensures.told in
     told_few _ _ _ _ _ _ _ _ _ _ told
 
-pub returns-in-Err-live_cut_at-clause-told : goal.returns-in-Err-live_cut_at-clause-told
-returns-in-Err-live_cut_at-clause-told g c =
+pub returns-in-Err-is_live_cut-clause-told : goal.returns-in-Err-is_live_cut-clause-told
+returns-in-Err-is_live_cut-clause-told g c =
     let told =
     live_told g.J.Tellers.became g.J.Tellers.judged c.args.judges c.args.order (g.R.Source.bytes c.args.reader.now) (g.W.Sink.bytes c.args.writer.now) _ _ _ c.reads.live c.in-Ok-tell_window.told.0
     c.in-Ok-tell_window.told.1 c.reads.invariant.live c.reads-test.true c.in-Ok-tell_window.ensures.told in
-    told_long _ _ _ _ _ _ _ _ _ _ told c.in-Err-live_cut_at.fault c.in-Err-live_cut_at.ensures
+    told_long _ _ _ _ _ _ _ _ _ _ told c.in-Err-is_live_cut.fault c.in-Err-is_live_cut.ensures
 
 pub returns-in-Err-read_live_part-clause-told : goal.returns-in-Err-read_live_part-clause-told
 returns-in-Err-read_live_part-clause-told g c =
     let told =
     live_told g.J.Tellers.became g.J.Tellers.judged c.args.judges c.args.order (g.R.Source.bytes c.args.reader.now) (g.W.Sink.bytes c.args.writer.now) _ _ _ c.reads.live c.in-Ok-tell_window.told.0
     c.in-Ok-tell_window.told.1 c.reads.invariant.live c.reads-test.true c.in-Ok-tell_window.ensures.told in
-    part_fault _ _ _ _ _ _ _ _ _ _ told (g.R.Source.bytes c.read_live_part.new.reader) c.in-Ok-live_cut_at.truncated c.in-Err-read_live_part.fault c.in-Ok-live_cut_at.ensures c.in-Err-read_live_part.ensures.got
+    part_fault _ _ _ _ _ _ _ _ _ _ told (g.R.Source.bytes c.read_live_part.new.reader) c.in-Ok-is_live_cut.truncated c.in-Err-read_live_part.fault c.in-Ok-is_live_cut.ensures c.in-Err-read_live_part.ensures.got
 
 pub returns-then-n-eq0-clause-told : goal.returns-then-n-eq0-clause-told
 returns-then-n-eq0-clause-told g c =
@@ -58,13 +58,13 @@ returns-then-n-eq0-clause-told g c =
     elim c.match-write_live_end.branch [
       | in-Ok-write_live_end w ↦
           rw w.result-is
-          (told_all _ _ _ _ _ _ now mid next _ told end last longer c.in-Ok-live_cut_at.truncated c.totals_at-totals.result c.in-Ok-live_cut_at.ensures got
+          (told_all _ _ _ _ _ _ now mid next _ told end last longer c.in-Ok-is_live_cut.truncated c.totals_at-totals.result c.in-Ok-is_live_cut.ensures got
           c.totals_at-totals.ensures w.in-Ok-write_live_end.ensures.0)
       | in-Err-write_live_end w ↦
           rw w.result-is
           (subst (IsLiveFault g.J.Tellers.judged c.args.judges c.args.order (g.R.Source.bytes c.args.reader.now) end (g.W.Sink.bytes c.args.writer.now) last)
           (sym w.in-Err-write_live_end.ensures.3)
-          (end_fault _ _ _ _ _ _ now mid next _ told end last longer c.in-Ok-live_cut_at.truncated c.totals_at-totals.result c.in-Ok-live_cut_at.ensures got
+          (end_fault _ _ _ _ _ _ now mid next _ told end last longer c.in-Ok-is_live_cut.truncated c.totals_at-totals.result c.in-Ok-is_live_cut.ensures got
           c.totals_at-totals.ensures w.in-Err-write_live_end.ensures.4))
     ]
 

@@ -8,4 +8,4 @@ use Rattle.policy_check.proofs.word_readers.read_direction_word.Goals as goal
 pub returns : goal.returns
 returns c =
     let w = c.args.word.now in
-    read_as (direction_in w) c.direction_of_line_word.result (λ d. w ≡ direction_word d) c.direction_of_line_word.ensures (λ d found. direction_in-sound w d found) (λ d same. ap direction_in same ∙ direction_in-complete d)
+    read_as (direction_in w) c.direction_of_word.result (λ d. w ≡ direction_word d) c.direction_of_word.ensures (λ d found. direction_in-sound w d found) (λ d same. ap direction_in same ∙ direction_in-complete d)

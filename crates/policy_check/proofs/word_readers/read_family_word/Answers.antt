@@ -8,4 +8,4 @@ use Rattle.policy_check.proofs.word_readers.read_family_word.Goals as goal
 pub returns : goal.returns
 returns c =
     let w = c.args.word.now in
-    read_as (family_in w) c.family_of_line_word.result (λ f. w ≡ family_word f) c.family_of_line_word.ensures (λ f found. family_in-sound w f found) (λ f same. ap family_in same ∙ family_in-complete f)
+    read_as (family_in w) c.family_of_word.result (λ f. w ≡ family_word f) c.family_of_word.ensures (λ f found. family_in-sound w f found) (λ f same. ap family_in same ∙ family_in-complete f)

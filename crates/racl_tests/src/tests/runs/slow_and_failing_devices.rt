@@ -1,4 +1,4 @@
-//! Devices that move a byte at a time, and devices that fail.
+//! Runs on devices that are sound, that move a byte at a time, and that fail.
 ghost use Rattle.std.specs.Prelude.{◌≡◌, None};
 
 use super::{DEFAULTS, whole_run_input, whole_run_report};
@@ -93,7 +93,7 @@ pub fn trickling(alloc: Global, writes: usize) -> Trickle
 
 /// A run on devices that are neither slow nor failing.
 #[test]
-fn a_run_on_unfailing_devices(rt: HostRuntime) {
+fn run_on_sound_devices(rt: HostRuntime) {
     let alloc = rt.alloc();
     let mut reader = Device::new(whole_run_input());
     let mut writer = Device::new(Vec::new(alloc));

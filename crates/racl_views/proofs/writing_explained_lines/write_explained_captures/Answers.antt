@@ -19,13 +19,13 @@ each-preserved g c =
     let captured = c.in-Some.captured.now in
     let rest = c.each.rest.now in
     let packets = remaining c.each.packets in
-    let left = remaining c.write_packets.new.packets in
+    let left = remaining c.write_explained_packets.new.packets in
     let first = c.split_at.result.0.now in
     let behind = c.split_at.result.1.now in
     let parted = c.in-Some.ensures.cases.0 in
     let cut : rest ≡ first ++ behind = c.split_at.ensures.by_index.0 in
     let taken = entries-take policy rules captured.packets packets rest ∙ ap (entries_on policy rules packets) (sym c.split_at.ensures.front) in
-    let others = c.in_ok-write_packets.ensures.left ∙ ap (λ (k : ℕ). drop k packets) c.split_at.ensures.front_len in
+    let others = c.in_ok-write_explained_packets.ensures.left ∙ ap (λ (k : ℕ). drop k packets) c.split_at.ensures.front_len in
     let dropped = entries-drop policy rules captured.packets packets rest ∙ ap₂ (entries_on policy rules) (sym others) (sym c.split_at.ensures.back) in
     let told = told_from (line_by telling captured.named) (c.each.others + 1) (entries_by telling packets first) ++ truncation_told captured in
     record {
@@ -35,7 +35,7 @@ each-preserved g c =
         inv.written.0 ++ told,
         captures_more (λ captured. line_by telling captured.named) truncation_told inv.written.0 _ (c.each.others + 1) _ (entries_by telling packets rest) (entries_by telling packets first) (entries_by telling left behind)
             captured c.each.left.now c.in-Some.after.now inv.written.1 parted taken dropped (omega arith),
-        Appends-trans _ _ _ _ _ inv.written.2 (Appends-trans _ _ _ _ _ c.in_ok-write_packets.ensures.put.0 c.in_ok-write_truncation.ensures.0),
+        Appends-trans _ _ _ _ _ inv.written.2 (Appends-trans _ _ _ _ _ c.in_ok-write_explained_packets.ensures.put.0 c.in_ok-write_truncation.ensures.0),
       );
-      sound = c.in_ok-write_truncation.ensures.1 ∙ c.in_ok-write_packets.ensures.put.1 ∙ inv.sound;
+      sound = c.in_ok-write_truncation.ensures.1 ∙ c.in_ok-write_explained_packets.ensures.put.1 ∙ inv.sound;
     }
