@@ -24,4 +24,5 @@ pieces-preserved c =
           ∙ more_lines named c.pieces.text.items c.as_slice.result.now lines (c.pieces.number + 1) next c.pieces.rest.now first behind inv.told parted
           (piece ∙ made.text ∙ ap (λ n. lines_from n (c.pieces.number + 1) first) c.of-name.ensures) (omega (arith, made.number, ap length parted, both));
       room = omega (arith, inv.room, ap length text, ap length piece, size, made.short, ap length parted, both, c.in-Ok.ensures.capacity);
+      kept = omega (arith, inv.kept, c.in-Ok.ensures.capacity);
     }

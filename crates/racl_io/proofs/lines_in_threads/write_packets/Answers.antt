@@ -12,9 +12,9 @@ batches-preserved g c =
     let behind = c.split_at.result.1.now in
     let parted : c.batches.rest.now ≡ batch ++ behind = c.split_at.ensures.by_index.0 in
     let lines = lines_from c.args.place.named (c.batches.others + 1) batch in
-    let appended : Appends (g.W.Sink.bytes c.batches.writer) (g.W.Sink.bytes c.write_batch.new.writer) lines = search rules in
+    let appended : Appends (g.W.Sink.bytes c.batches.writer) (g.W.Sink.bytes c.write_beside.new.writer) lines = search rules in
     let more : c.in_ok-passed.field-0 ≡ passed batch = search rules in
-    let sound : g.W.Sink.failures c.write_batch.new.writer ≡ g.W.Sink.failures c.batches.writer = search rules in
+    let sound : g.W.Sink.failures c.write_beside.new.writer ≡ g.W.Sink.failures c.batches.writer = search rules in
     record {
       counted = omega (arith, inv.counted, ap length parted, length-append batch behind);
       passing = omega (arith, inv.passing, more, ap passed parted, passed_of_both batch behind);
