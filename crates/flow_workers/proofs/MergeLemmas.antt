@@ -44,7 +44,7 @@ no_zeros zero i = refl
 no_zeros (suc n) zero = refl
 no_zeros (suc n) (suc i) = no_zeros n i
 
-pub at_or : {X : Type 0} (xs : List X) (i : ℕ) (d : X) → i < length xs → get_elem? xs i ≡ some (get_or xs i d)
+at_or : {X : Type 0} (xs : List X) (i : ℕ) (d : X) → i < length xs → get_elem? xs i ≡ some (get_or xs i d)
 at_or [] i d inside = absurd (omega arith)
 at_or (x ∷ xs) zero d inside = refl
 at_or (x ∷ xs) (suc i) d inside = at_or xs i d (omega arith)
@@ -107,11 +107,6 @@ one_placed run trace verdicts alone is said =
     }
 
 -- ---- What workers of one run said
-
-pub if_both : {X E : Type 0} (P Q R : X → Type 0) (r : Result X E) → ((x : X) → P x → Q x → R x) → IfOk r P → IfOk r Q
-    → IfOk r R
-if_both P Q R (Ok x) both p q = both x p q
-if_both P Q R (Err e) both p q = tt
 
 -- the share of the next packet's worker is there
 pub next_inside : {A B K L : Type 0} {ga : Ghosts A K} {gb : Ghosts B L} (run : RunFacts) (traces : List (List Item)) (gone : LetGo)

@@ -7,7 +7,7 @@ use crate::judge_in_one_thread::judge_together;
 use crate::lone_caller::wait_until_lone;
 use crate::run_fault::RunFault;
 use crate::session_tables::Tables;
-use crate::worker_share::{Batch, Share};
+use crate::worker_share::{Batch, JudgedBatch, Share};
 use crate::workers::Workers;
 use bihash_words::Shape;
 use flow_filter::Verdict;
@@ -57,8 +57,7 @@ impl<'t, 'f, A: Shape, B: Shape, R: Wait, G: Gate> Workers<'t, 'f, A, B, R, G> {
             verdicts,
             ..
         } = self;
-        let mut judges = Vec::new(alloc);
-        let mut shares = judge_together(batch, shares, &mut judges)?;
+        let JudgedBatch { mut shares, .. } = judge_together(alloc, batch, shares)?;
         let said = let_go(setup.rt, alloc, setup.tables, &mut shares[0]);
         let workers = Workers {
             setup,

@@ -7,11 +7,11 @@ ghost use Rattle.flow_workers.specs.inner.Turns.{MayJudgeBatch};
 
 use crate::gate::Gate;
 use crate::worker_packet_verdict::judge_packet;
-use crate::worker_share::{Batch, Share};
+use crate::worker_share::{Batch, JudgedBatch, Share};
 use bihash_words::Shape;
 use packet_dealing::worker_of_packet;
 use packet_view::{Packet, PacketBursts};
-use std::alloc::AllocError;
+use std::alloc::{AllocError, Global};
 use std::sync::Wait;
 
 // The packet at this place of the batch is judged by its worker, whose number is answered.
@@ -48,20 +48,21 @@ fn judge_by_one<A: Shape, B: Shape, R: Wait, G: Gate>(
     Ok(())
 }
 
-/// The shares of all workers after these judged the packets of a batch, one after the other in this thread. The worker of
-/// each packet is noted; a lone worker notes nothing.
+/// The shares of all workers after these judged the packets of a batch, one after the other in this thread, with the worker
+/// of each packet; a lone worker notes nothing.
 pub fn judge_together<A: Shape, B: Shape, R: Wait, G: Gate>(
+    alloc: Global,
     batch: Batch<'_, '_, '_, A, B, R, G>,
     shares: Vec<Share<A, B>>,
-    judges: &mut Vec<u8>,
-) -> Result<Vec<Share<A, B>>, AllocError>
+) -> Result<JudgedBatch<A, B>, AllocError>
     requires { MayJudgeBatch batch shares.items }
-    ensures { IfOk result (λ v. HaveJudgedBatch batch.entry shares.items v.items judges.old.items judges.new.items) }
+    ensures { IfOk result (HaveJudgedBatch batch.entry shares.items) }
 {
     let mut shares = shares;
+    let mut judges = Vec::new(alloc);
     if batch.setup.is_alone() {
         judge_by_one(&batch, &mut shares[0])?;
-        return Ok(shares);
+        return Ok(JudgedBatch { shares, judges });
     }
     judges.reserve(batch.packets.count())?;
     let mut packets = PacketBursts::new(batch.packets);
@@ -71,5 +72,5 @@ pub fn judge_together<A: Shape, B: Shape, R: Wait, G: Gate>(
         judges.push(worker as u8)?;
         taken += 1;
     }
-    Ok(shares)
+    Ok(JudgedBatch { shares, judges })
 }

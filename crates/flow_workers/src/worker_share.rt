@@ -63,3 +63,11 @@ pub struct WorkerResults<A: Shape, B: Shape> {
     pub six: Vec<Caller<B>>,
     pub said: Vec<Vec<Verdict>>,
 }
+
+/// What workers have who judged the packets of a batch.
+#[derive(Drop)]
+pub struct JudgedBatch<A: Shape, B: Shape> {
+    pub shares: Vec<Share<A, B>>,
+    /// The worker of each packet, where there are several.
+    pub judges: Vec<u8>,
+}

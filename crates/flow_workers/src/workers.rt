@@ -9,7 +9,7 @@ use crate::verdict_merge::{all_verdicts, let_go_merged, place_verdicts};
 use crate::worker_callers::join_worker_callers;
 use crate::worker_results::results_of;
 use crate::worker_setup::Setup;
-use crate::worker_share::{Batch, Share, WorkerResults};
+use crate::worker_share::{Batch, JudgedBatch, Share, WorkerResults};
 use bihash_words::Shape;
 use flow_filter::Verdict;
 use packet_view::Packets;
@@ -110,13 +110,12 @@ where
             first: count,
             packets,
         };
-        let mut judges = Vec::new(alloc);
         let judged = if setup.is_alone() || batch.packets.count() < setup.many {
-            judge_together(batch, shares, &mut judges)
+            judge_together(alloc, batch, shares)
         } else {
-            judge_in_threads(alloc, batch, shares, &mut judges)
+            judge_in_threads(alloc, batch, shares)
         };
-        let mut shares = judged?;
+        let JudgedBatch { mut shares, judges } = judged?;
         if !setup.is_alone() {
             verdicts = place_verdicts(verdicts, judges.as_slice(), shares.as_slice())?;
             let_go_merged(&mut shares);

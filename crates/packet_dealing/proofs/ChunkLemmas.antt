@@ -79,25 +79,25 @@ module _ {A B K L : Type 0} (ga : Ghosts A K) (gb : Ghosts B L) (dealer : Dealer
       one = subst (λ n. AreBetween ga gb dealer number (remaining packets) (begin n) (begin (n + 1)) chunk)
           (let e : k + 0 ≡ k = omega arith in e) (each 0 (Over (Ok chunk)) (omega arith))
 
-  -- the chunks of all workers have all packets
-  pub all_chunks : (chunks : List DealtChunk) (others : List (Chunk A B)) → 0 < dealer.workers
-      → others ≡ map (λ chunk. Over (Ok chunk)) chunks → length others ≡ dealer.workers
-      → ((i : ℕ) (d : Chunk A B) → i < dealer.workers → IsOver ga gb dealer number packets
-      (begin_of (length (remaining packets)) dealer.workers i)
-      (begin_of (length (remaining packets)) dealer.workers (i + 1)) (get_or others i d))
+  -- so many chunks have all packets
+  pub all_chunks : (count : ℕ) (chunks : List DealtChunk) (others : List (Chunk A B)) → 0 < count
+      → others ≡ map (λ chunk. Over (Ok chunk)) chunks → length others ≡ count
+      → ((i : ℕ) (d : Chunk A B) → i < count → IsOver ga gb dealer number packets
+      (begin_of (length (remaining packets)) count i)
+      (begin_of (length (remaining packets)) count (i + 1)) (get_or others i d))
       → AreDealt ga gb dealer number chunks (remaining packets)
-  all_chunks chunks others some_worker are count each =
+  all_chunks count chunks others some are many each =
       subst (λ n. AreDealt ga gb dealer n chunks (remaining packets)) (let e : number + 0 ≡ number = omega arith in e)
       (subst (λ n. AreDealt ga gb dealer (number + n) chunks (drop n (remaining packets)))
-      (begin_first (length (remaining packets)) dealer.workers some_worker)
-      (all_dealt begin dealer.workers (begin_last (length (remaining packets)) dealer.workers) 0 chunks counted
+      (begin_first (length (remaining packets)) count some)
+      (all_dealt begin count (begin_last (length (remaining packets)) count) 0 chunks counted
       (λ i d inside. subst (λ n. IsOver ga gb dealer number packets (begin n) (begin (n + 1))
       (get_or (map (λ chunk. Over (Ok chunk)) chunks) i d)) (let e : i ≡ 0 + i = omega arith in e)
       (subst (λ os. IsOver ga gb dealer number packets (begin i) (begin (i + 1)) (get_or os i d)) are
       (each i d (let c = counted in omega arith))))))
     where
       begin : ℕ → ℕ
-      begin = begin_of (length (remaining packets)) dealer.workers
+      begin = begin_of (length (remaining packets)) count
 
-      counted : 0 + length chunks ≡ dealer.workers
-      counted = let e = sym (length-map chunks (λ p. Over (Ok p))) ∙ (sym (ap length are) ∙ count) in omega arith
+      counted : 0 + length chunks ≡ count
+      counted = let e = sym (length-map chunks (λ p. Over (Ok p))) ∙ (sym (ap length are) ∙ many) in omega arith

@@ -12,37 +12,37 @@ use packet_view::Packets;
 use std::alloc::{AllocError, Global};
 use std::marker::PhantomData;
 
-// The place of the first packet of a chunk's job. There is one chunk for each worker, and the packets end where one
-// more began.
-fn begin(packets: usize, workers: usize, chunk: usize) -> usize
-    requires some { 0 < workers }
-    requires one { chunk ≤ workers }
-    ensures is { result ≡ begin_of packets workers chunk }
+// The place of the first packet of a chunk's job, of so many chunks. The packets end where one more began.
+fn begin(packets: usize, chunks: usize, chunk: usize) -> usize
+    requires some { 0 < chunks }
+    requires one { chunk ≤ chunks }
+    ensures is { result ≡ begin_of packets chunks chunk }
     ensures inside { result ≤ packets }
 {
-    if chunk == workers {
+    if chunk == chunks {
         packets
     } else {
-        chunk * (packets / workers)
+        chunk * (packets / chunks)
     }
 }
 
-// The job of dealing this chunk of the packets, which is ahead.
+// The job of dealing this one of so many chunks of the packets, which is ahead.
 fn chunk_ahead<'a, A: Shape, B: Shape>(
     alloc: Global,
     dealer: Dealer,
     number: usize,
     packets: Packets<'a>,
+    chunks: usize,
     chunk: usize,
 ) -> Result<Chunk<'a, A, B>, AllocError>
     requires may { MayDeal ⟦<A as Shape>⟧ ⟦<B as Shape>⟧ dealer }
     requires fits { number + length (remaining packets) < 2 ^ 64 }
-    requires one { chunk < dealer.workers }
-    ensures { IfOk result (IsAhead ⟦<A as Shape>⟧ ⟦<B as Shape>⟧ dealer number packets.entry (begin_of (length (remaining packets.entry)) dealer.workers chunk) (begin_of (length (remaining packets.entry)) dealer.workers (chunk + 1))) }
+    requires one { chunk < chunks }
+    ensures { IfOk result (IsAhead ⟦<A as Shape>⟧ ⟦<B as Shape>⟧ dealer number packets.entry (begin_of (length (remaining packets.entry)) chunks chunk) (begin_of (length (remaining packets.entry)) chunks (chunk + 1))) }
 {
     let count = packets.count();
-    let first = begin(count, dealer.workers, chunk);
-    let next = begin(count, dealer.workers, chunk + 1);
+    let first = begin(count, chunks, chunk);
+    let next = begin(count, chunks, chunk + 1);
     Ok(Chunk::Ahead(Job {
         dealer,
         packets,
@@ -54,21 +54,22 @@ fn chunk_ahead<'a, A: Shape, B: Shape>(
     }))
 }
 
-/// The jobs of the packets' chunks, one for each worker. The packets' numbers begin with this one. This thread gets the
+/// The jobs of so many chunks of the packets. The packets' numbers begin with this one. This thread gets the
 /// memory for all chunks: what another thread gives back goes back to the system, and costs a first touch again.
 pub fn chunks_ahead<'a, A: Shape, B: Shape>(
     alloc: Global,
     dealer: Dealer,
     number: usize,
     packets: Packets<'a>,
+    count: usize,
 ) -> Result<Vec<Chunk<'a, A, B>>, AllocError>
     requires may { MayDeal ⟦<A as Shape>⟧ ⟦<B as Shape>⟧ dealer }
     requires fits { number + length (remaining packets) < 2 ^ 64 }
-    ensures { IfOk result (λ v. AreChunksAhead ⟦<A as Shape>⟧ ⟦<B as Shape>⟧ dealer number packets.entry v.items) }
+    ensures { IfOk result (λ v. AreChunksAhead ⟦<A as Shape>⟧ ⟦<B as Shape>⟧ dealer number packets.entry count v.items) }
 {
-    let mut chunks = Vec::with_capacity(alloc, dealer.workers)?;
-    for chunk in 0..dealer.workers {
-        chunks.push(chunk_ahead(alloc, dealer, number, packets, chunk)?)?;
+    let mut chunks = Vec::with_capacity(alloc, count)?;
+    for chunk in 0..count {
+        chunks.push(chunk_ahead(alloc, dealer, number, packets, count, chunk)?)?;
     }
     Ok(chunks)
 }

@@ -12,8 +12,9 @@ use packet_view::Packets;
 use std::alloc::{AllocError, Global};
 use std::thread::Threads;
 
-/// The packets, whose numbers begin with this one, with the workers that judge them, in their order, in as many chunks
-/// as there are workers. Each chunk is found by a thread of its own, or by this one where no thread can be made.
+/// The packets, whose numbers begin with this one, with the workers that judge them, in their order, in chunks. Each is found
+/// by a thread of its own, or by this one where no thread can be made. There is one chunk less than workers, since another
+/// thread may read meanwhile, and at least one.
 pub fn deal_packets<'a, A: Shape + Send, B: Shape + Send, R: Threads + Sync>(
     rt: &R,
     alloc: Global,
@@ -30,7 +31,8 @@ where
     requires fits { number + length (remaining packets) < 2 ^ 64 }
     ensures { IfOk result (λ chunks. AreDealt ⟦<A as Shape>⟧ ⟦<B as Shape>⟧ dealer number chunks.items (remaining packets.entry)) }
 {
-    let ahead = chunks_ahead::<A, B>(alloc, dealer, number, packets)?;
+    let count = (dealer.workers - 1).max(1);
+    let ahead = chunks_ahead::<A, B>(alloc, dealer, number, packets, count)?;
     let over = run_all(rt, ahead)?;
     chunks_over(alloc, over)
 }

@@ -20,7 +20,7 @@ pub trait Task {
 }
 
 /// Runs each task in a thread of its own, or in this one where no thread can be made. This thread makes all of them, one after
-/// the other, and runs the first task itself: where threads make further ones, these may wait for a processor.
+/// the other, and then only waits: where threads make further ones, or it works itself, some may wait for its processor.
 #[cycle(tasks)]
 pub fn run_all<T: Task + Send + Drop, R: Threads + Sync>(
     rt: &R,
@@ -34,10 +34,6 @@ pub fn run_all<T: Task + Send + Drop, R: Threads + Sync>(
     let Some(last) = tasks.pop() else {
         return Ok(tasks);
     };
-    if tasks.is_empty() {
-        tasks.push(last.run())?;
-        return Ok(tasks);
-    }
     let theirs = move || -> T
         requires { IsSend T.row × T.can_run last }
         ensures { T.becomes last result }

@@ -12,10 +12,10 @@ use Rattle.packet_dealing.specs.declared.chunk.Job.{Job}
 use Rattle.packet_dealing.specs.declared.chunk.Chunk.{Chunk}
 use Rattle.packet_dealing.specs.declared.chunk.Chunk.TheVariants.{Ahead, Over}
 
--- The place of a chunk's first packet, of so many packets and workers. All chunks are as long, but for the last one,
+-- The place of a chunk's first packet, of so many packets and chunks. All chunks are as long, but for the last one,
 -- which goes on to the end.
 abbrev pub begin_of : ℕ → ℕ → ℕ → ℕ
-begin_of packets workers chunk = if chunk == workers then packets else chunk * (packets / workers)
+begin_of packets chunks chunk = if chunk == chunks then packets else chunk * (packets / chunks)
 
 -- what dealing rests on
 pub record MayDeal {A B K L : Type 0} (ga : Ghosts A K) (gb : Ghosts B L) (dealer : Dealer) : Type 0 where
@@ -64,14 +64,14 @@ abbrev pub IsAhead : {A B K L : Type 0} (ga : Ghosts A K) (gb : Ghosts B L) → 
 IsAhead ga gb dealer number packets first next (Ahead job) = IsJob ga gb dealer number packets first next job
 IsAhead ga gb dealer number packets first next (Over done) = ⊥
 
--- the chunks of these packets, one for each worker
+-- so many chunks of these packets
 pub record AreChunksAhead {A B K L : Type 0} (ga : Ghosts A K) (gb : Ghosts B L) (dealer : Dealer) (number : ℕ)
-    (packets : Packets) (chunks : List (Chunk A B)) : Type 0 where
+    (packets : Packets) (count : ℕ) (chunks : List (Chunk A B)) : Type 0 where
   pub ready : All (CanRunChunk ga gb) chunks
-  pub count : length chunks ≡ dealer.workers
-  pub each : (i : ℕ) (d : Chunk A B) → i < dealer.workers
-      → IsAhead ga gb dealer number packets (begin_of (length (remaining packets)) dealer.workers i)
-      (begin_of (length (remaining packets)) dealer.workers (i + 1)) (slice_index_or chunks i d)
+  pub many : length chunks ≡ count
+  pub each : (i : ℕ) (d : Chunk A B) → i < count
+      → IsAhead ga gb dealer number packets (begin_of (length (remaining packets)) count i)
+      (begin_of (length (remaining packets)) count (i + 1)) (slice_index_or chunks i d)
 
 abbrev pub IsChunkPast : {A B : Type 0} → Chunk A B → Type 0
 IsChunkPast (Ahead job) = ⊥

@@ -1,4 +1,4 @@
-use Rattle.std.proofs.Common.{ap, refl, true≢false, ◌==◌, ◌≡◌, ◌∙◌, arith, length, subst, sym}
+use Rattle.std.proofs.Common.{[], ap, refl, true≢false, ◌==◌, ◌≡◌, ◌∙◌, arith, length, subst, sym}
 use Rattle.std.proofs.lemmas.Bool.{eqb-true}
 use Rattle.packet_view.specs.Captures.{packet_facts}
 use Rattle.packet_view.specs.CheckedCaptures.{remaining}
@@ -28,8 +28,8 @@ packets-init g c =
       left = sym c.new-packets.ensures;
       inside = omega arith;
       worked = none_worked g.A.Shape g.B.Shape batch c.args.shares.items c.requires.idle;
-      noted = rw c.in_ok-reserve.ensures.items
-          (none_noted g.A.Shape g.B.Shape (dealer_of batch.setup) batch.first (remaining batch.packets) c.args.judges.now.items);
+      noted = rw (c.in_ok-reserve.ensures.items ∙ c.new-judges.ensures.items)
+          (none_noted g.A.Shape g.B.Shape (dealer_of batch.setup) batch.first (remaining batch.packets) []);
     }
 
 pub judge_next-requires : goal.judge_next-requires
@@ -68,5 +68,5 @@ returns g c =
     record {
       worked = all_worked_to g.A.Shape g.B.Shape batch 0 c.packets.taken _ _ _ all c.packets.invariant.worked;
       noted = λ _. subst (λ n. HaveNotedSome g.A.Shape g.B.Shape (dealer_of batch.setup) batch.first (remaining batch.packets) n
-          c.args.judges.now.items c.packets.judges.items) all c.packets.invariant.noted;
+          [] c.packets.judges.items) all c.packets.invariant.noted;
     }

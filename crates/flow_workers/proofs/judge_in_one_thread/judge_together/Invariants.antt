@@ -1,4 +1,4 @@
-use Rattle.std.proofs.Common.{◌≡◌, ◌≤◌, drop, length}
+use Rattle.std.proofs.Common.{◌≡◌, ◌≤◌, [], drop, length}
 use Rattle.packet_view.specs.CheckedCaptures.{remaining}
 use Rattle.flow_workers.specs.inner.Jobs.{dealer_of}
 use Rattle.flow_workers.specs.inner.Together.{HaveNotedSome}
@@ -11,7 +11,7 @@ invariant-packets g l = record {
   inside : l.taken ≤ length (remaining l.batch.packets);
   worked : HaveWorkedOn {ga = g.A.Shape} {gb = g.B.Shape} l.batch 0 l.taken l.fn.shares.items l.shares.items;
   noted : HaveNotedSome g.A.Shape g.B.Shape (dealer_of l.batch.setup) l.batch.first (remaining l.batch.packets) l.taken
-      l.fn.judges.items l.judges.items;
+      [] l.judges.items;
 }
 
 abbrev pub decreases-packets : goal.decreases-packets

@@ -4,4 +4,4 @@ use Rattle.flow_workers.proofs.judge_in_threads.note_workers.Given as goal
 
 abbrev pub invariant-loop-chunk : goal.invariant-loop-chunk
 invariant-loop-chunk l =
-    l.judges.items ++ workers_in (drop l.chunk-index l.dealt) ≡ l.fn.judges.items ++ workers_in l.dealt
+    l.judges.items ++ workers_in (drop l.chunk-index l.dealt) ≡ workers_in l.dealt

@@ -6,8 +6,8 @@ use Rattle.packet_dealing.proofs.chunk_jobs.chunks_ahead.Given as goal
 
 abbrev pub invariant-loop-chunk : goal.invariant-loop-chunk
 invariant-loop-chunk g l = record {
-  count : length l.chunks.items ≡ l.chunk;
+  many : length l.chunks.items ≡ l.chunk;
   each : (i : ℕ) (d : _) → i < l.chunk → IsAhead g.A.Shape g.B.Shape l.fn.dealer l.fn.number l.fn.packets
-      (begin_of (length (remaining l.fn.packets)) l.fn.dealer.workers i)
-      (begin_of (length (remaining l.fn.packets)) l.fn.dealer.workers (i + 1)) (slice_index_or l.chunks.items i d);
+      (begin_of (length (remaining l.fn.packets)) l.fn.count i)
+      (begin_of (length (remaining l.fn.packets)) l.fn.count (i + 1)) (slice_index_or l.chunks.items i d);
 }

@@ -5,7 +5,7 @@ use Rattle.packet_dealing.proofs.dealing_in_threads.deal_packets.Goals as goal
 
 pub chunks_over-requires : goal.chunks_over-requires
 chunks_over-requires g c k d inside =
-    let count = c.in_ok-ahead.ensures.count in
+    let count = c.in_ok-ahead.ensures.many in
     let many = c.in_ok-over.ensures.count in
     over_past g.A.Shape g.B.Shape c.args.dealer c.args.number c.args.packets _ _ _
     (turned g.A.Shape g.B.Shape c.args.dealer c.args.number c.args.packets _ _ (get_or c.in_ok-ahead.ahead.items k d)
@@ -14,12 +14,11 @@ chunks_over-requires g c k d inside =
 
 pub returns : goal.returns
 returns g c =
-    let count = c.in_ok-ahead.ensures.count in
+    let count = c.in_ok-ahead.ensures.many in
     let many = c.in_ok-over.ensures.count in
-    let some_worker = c.requires.some in
     IfOk-weaker c.chunks_over.result _ _
-    (λ chunks are. all_chunks g.A.Shape g.B.Shape c.args.dealer c.args.number c.args.packets chunks.items
-    c.in_ok-over.over.items (omega arith) are (many ∙ count)
+    (λ chunks are. all_chunks g.A.Shape g.B.Shape c.args.dealer c.args.number c.args.packets _ chunks.items
+    c.in_ok-over.over.items (let some = c.max-count.ensures in omega arith) are (many ∙ count)
     (λ i d inside. turned g.A.Shape g.B.Shape c.args.dealer c.args.number c.args.packets _ _ (get_or c.in_ok-ahead.ahead.items i d)
     (get_or c.in_ok-over.over.items i d)
     (c.in_ok-ahead.ensures.each i d (omega arith)) (c.in_ok-over.ensures.each i d d (omega arith))))

@@ -4,7 +4,7 @@ use Rattle.flow_workers.proofs.workers.Workers.judge_alone.Goals as goal
 
 pub let_go-said-requires : goal.let_go-said-requires
 let_go-said-requires g c =
-    let shares = c.in_ok-shares.shares.items in
+    let shares = c.in_ok-shares.field-0.shares.items in
     let judged = c.index_mut.result.now in
     let worked = c.in_ok-shares.ensures.worked in
     let one = only_here shares judged judged (worked.count ∙ ap length c.requires.alone.only) (sym c.index_mut.ensures.value) in
@@ -13,7 +13,7 @@ let_go-said-requires g c =
 
 pub returns : goal.returns
 returns g c =
-    let shares = c.in_ok-shares.shares.items in
+    let shares = c.in_ok-shares.field-0.shares.items in
     let judged = c.index_mut.result.now in
     let worked = c.in_ok-shares.ensures.worked in
     let one = only_here shares judged judged (worked.count ∙ ap length c.requires.alone.only) (sym c.index_mut.ensures.value) in
