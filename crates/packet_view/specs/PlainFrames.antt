@@ -1,10 +1,12 @@
 -- What a plain frame's packet says, by what the frame turns out to be (RFC 791, RFC 9293, RFC 768).
-use Rattle.std.specs.Prelude.{◌≡◌, ◌⊎◌, ℕ, List}
+use Rattle.std.specs.Prelude.{◌≡◌, ◌≤◌, ◌<◌, ◌⊎◌, ℕ, List, length, slice_index, slice_range}
 use Rattle.packet_view.specs.declared.tuple.Direction.{Direction}
 use Rattle.packet_view.specs.declared.tuple.Family.TheVariants.{V4}
 use Rattle.packet_view.specs.declared.tuple.Fields.{Fields}
 use Rattle.packet_view.specs.declared.tuple.Fields.TheVariants.{Absent, Ports, Tcp, Icmp}
 use Rattle.packet_view.specs.declared.plain_packet.PlainPacket.{PlainPacket}
+use Rattle.packet_view.specs.declared.plain_packet.PlainFrame.{PlainFrame}
+use Rattle.packet_view.specs.Bytes.{number_from}
 use Rattle.packet_view.specs.Frames.{IsFrame, Ip}
 use Rattle.packet_view.specs.Interfaces.{Interface}
 use Rattle.packet_view.specs.Tuples.{TupleFacts}
@@ -34,3 +36,15 @@ abbrev pub IsPlain : List ℕ → PlainPacket → Type 0
 IsPlain frame packet =
     (at : Interface)
     → (way : Direction) × (tuple : TupleFacts) × IsFrame frame at (Ip way tuple) × IsTupleOf packet tuple
+
+-- the number of the address that a frame comes from: that of its bytes from the seventh to the twelfth (IEEE 802.3)
+pub record IsSender (frame : List ℕ) (sender : ℕ) : Type 0 where
+  pub long : 12 ≤ length frame
+  pub number : sender ≡ number_from 0 6 (slice_range frame 6 12)
+  pub bytes : (place : ℕ) → place < 6 → slice_index (slice_range frame 6 12) place < 256
+
+-- what a plain frame has, wherever it is seen
+pub record IsPlainFrame (frame : List ℕ) (said : PlainFrame) : Type 0 where
+  pub packet : IsPlain frame said.packet
+  pub kind : IsTcpOrUdp said.packet
+  pub sender : IsSender frame said.sender

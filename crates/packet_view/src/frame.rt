@@ -5,7 +5,7 @@ ghost use Rattle.packet_view.specs.inner.FrameSteps.{packets, view_of, view_of_p
 
 use crate::frame_direction::direction;
 use crate::ip_packet::{IpPacket, Upper};
-use crate::plain_packet::plain;
+use crate::plain_frame_at::read_plain_frame;
 use crate::tuple::{Direction, Fields, Mac, Tuple};
 use crate::{ethernet, ipv4, ipv6, transport};
 
@@ -78,8 +78,7 @@ pub fn plain_frame(frame: &[u8], interface: u8, own: Option<Mac>) -> Option<Fram
     ensures shown { IfSome result (λ seen. IsFrame frame.now (record { number = interface; own = own }) (frame_facts seen)) }
     ensures only { IfSome result (λ seen. (other : FrameFacts) → IsFrame frame.now (record { number = interface; own = own }) other → other ≡ frame_facts seen) }
 {
-    let packet = plain(frame)?;
-    Some(Frame::Ip(direction(frame, own), packet.tuple(interface)))
+    Some(read_plain_frame(frame)?.at(interface, own))
 }
 
 /// What a frame is at the interface with this number and own address: from that address it goes out, from every other

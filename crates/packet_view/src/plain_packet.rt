@@ -51,6 +51,14 @@ impl PlainPacket {
     }
 }
 
+/// What a plain frame has, wherever it is seen: its packet, and the address that it comes from.
+#[derive(Clone, Copy, Debug, PartialEq, Eq)]
+pub struct PlainFrame {
+    pub packet: PlainPacket,
+    /// That address as a number in host order.
+    pub sender: u64,
+}
+
 /// What a plain frame has: untagged, of IPv4 (RFC 791, section 3.1) with a header of 20 bytes, no later fragment, of
 /// TCP (RFC 9293) or UDP (RFC 768) with their fields.
 ///
