@@ -10,6 +10,7 @@ use bihash_words::{Shape, bucket_of};
 use session_state::{Flow, FlowKey};
 
 // The bucket by which the packets of a flow get their worker, by the words of the flow's key.
+#[inline(always)]
 fn worker_bucket_in<S: Shape>(words: &[u64]) -> u64
     requires sound { IsSound (sizes_of ⟦<S as Shape>⟧) }
     requires counted { length words.now ≡ S.WORDS }
@@ -19,6 +20,7 @@ fn worker_bucket_in<S: Shape>(words: &[u64]) -> u64
 }
 
 // The bucket by which the packets of a flow get their worker, in the table of the flow's family.
+#[inline(always)]
 fn worker_bucket<A: Shape, B: Shape>(key: FlowKey) -> u64
     requires four { IsSound (sizes_of ⟦<A as Shape>⟧) }
     requires six { IsSound (sizes_of ⟦<B as Shape>⟧) }
@@ -33,6 +35,7 @@ fn worker_bucket<A: Shape, B: Shape>(key: FlowKey) -> u64
 
 // The worker of a flow's bucket. By a power of two that the compiler knows this takes no division, and workers are
 // often so many.
+#[inline(always)]
 fn remainder(bucket: u64, workers: u64) -> u64
     requires some { 0 < workers }
     ensures is { result ≡ bucket % workers }
@@ -48,6 +51,7 @@ fn remainder(bucket: u64, workers: u64) -> u64
 }
 
 /// The worker that a packet goes to, by its number, from 0, and its flow, `None` where it takes no part in sessions.
+#[inline(always)]
 pub fn worker_of<A: Shape, B: Shape>(
     dealing: Dealing,
     workers: usize,

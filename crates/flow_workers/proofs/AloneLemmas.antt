@@ -133,7 +133,7 @@ module _ {A B R G K L : Type 0} (ga : Ghosts A K) (gb : Ghosts B L) (old : Worke
     pub alone_on : (kept : Share A B K L ga gb) (verdicts : List Verdict) (left : Vec (Share A B K L ga gb)) (merged : Vec Verdict)
         (count : ℕ) → HasLetGo ga gb old.setup.tables.now judged kept verdicts → left.items ≡ kept ∷ []
         → count ≡ old.count + length (remaining batch.packets)
-        → HasGoneOn old batch.packets (record { setup = old.setup; shares = left; verdicts = merged; count = count }) verdicts
+        → HasGoneOn old batch.packets (record { setup = old.setup; shares = left; verdicts = merged; count = count; rooms = old.rooms }) verdicts
     alone_on kept verdicts left merged count gone set counted = record {
       by = refl;
       alone = λ packets said alone.

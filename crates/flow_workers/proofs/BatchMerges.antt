@@ -10,6 +10,7 @@ use Rattle.flow_filter.specs.declared.verdict.Verdict.{Verdict}
 use Rattle.flow_dealing.specs.Traces.{AreFrames, Item, numbers_from}
 use Rattle.flow_dealing.proofs.Places.{after_map, before_map}
 use Rattle.packet_dealing.specs.Dealt.{AreWorkers}
+use Rattle.packet_dealing.specs.declared.dealt_chunk.DealtRoom.{DealtRoom}
 use Rattle.flow_workers.specs.declared.worker_setup.Setup.{Setup}
 use Rattle.flow_workers.specs.declared.worker_share.Batch.{Batch}
 use Rattle.flow_workers.specs.declared.worker_share.Share.{Share}
@@ -84,10 +85,10 @@ module _ {A B R G K L : Type 0} (ga : Ghosts A K) (gb : Ghosts B L) (old : Worke
 
     -- the only worker has in its share what it said
     pub rest_of_one : old.setup.workers ≡ 1 → (kept : Vec (Share A B K L ga gb)) → kept.items ≡ shares
-        → (count : ℕ) → count ≡ old.count + length (remaining batch.packets)
+        → (count : ℕ) (rooms : Vec DealtRoom) → count ≡ old.count + length (remaining batch.packets)
         → AreAtRest (packets ++ remaining batch.packets)
-        (record { setup = old.setup; shares = kept; verdicts = old.verdicts; count = count })
-    rest_of_one one kept is count counted = record {
+        (record { setup = old.setup; shares = kept; verdicts = old.verdicts; count = count; rooms = rooms })
+    rest_of_one one kept is count rooms counted = record {
       sound = rest.sound;
       count = longer count counted;
       shares = ap length is ∙ (worked.count ∙ rest.shares);
@@ -142,11 +143,11 @@ module _ {A B R G K L : Type 0} (ga : Ghosts A K) (gb : Ghosts B L) (old : Worke
         → (1 < batch.setup.workers → HaveNoted ga gb (dealer_of batch.setup) batch.first (remaining batch.packets) [] judges)
         → 1 < old.setup.workers → (merged : Vec Verdict) → AreMerged (said_in_shares shares) judges old.verdicts merged.items
         → (kept : Vec (Share A B K L ga gb)) → HaveLetGo shares kept.items
-        → (count : ℕ) → count ≡ old.count + length (remaining batch.packets)
+        → (count : ℕ) (rooms : Vec DealtRoom) → count ≡ old.count + length (remaining batch.packets)
         → AreAtRest (packets ++ remaining batch.packets)
-        (record { setup = old.setup; shares = kept; verdicts = merged; count = count })
+        (record { setup = old.setup; shares = kept; verdicts = merged; count = count; rooms = rooms })
     unfolding may_merge told
-    rest_of_several judges noted several merged are kept let_go count counted =
+    rest_of_several judges noted several merged are kept let_go count rooms counted =
         let may = may_merge judges noted several in
         let placed = are may.0 may.1 may.2 may.3 in
         record {

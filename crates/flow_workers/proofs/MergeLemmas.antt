@@ -1,5 +1,5 @@
 -- What workers said, placed in the order of the packets.
-use Rattle.std.proofs.Common.{Bool, false, append-nil, map, ◌≡◌, ◌≢◌, ◌∙◌, ◌+◌, ◌<◌, ℕ, zero, suc, true, cond, List, [], ◌∷◌, ◌++◌, drop, get_or, length, replicate, set, IfOk, Result, Ok, Err, ap, refl, sym, subst, arith, inl, inr, eq-eqb, get_or-set_same, get_or-set_other}
+use Rattle.std.proofs.Common.{Bool, false, append-nil, map, ◌≡◌, ◌≢◌, ◌∙◌, ◌+◌, ◌<◌, ℕ, zero, suc, true, cond, List, [], ◌∷◌, ◌++◌, drop, get_or, length, replicate, set, ap, refl, sym, subst, arith, inl, inr, eq-eqb, get_or-set_same, get_or-set_other}
 use Rattle.std.specs.Prelude.{◌==◌, slice_get, slice_index}
 use Rattle.std.specs.Global.{Vec}
 use Rattle.std.proofs.lemmas.Bool.Decides.{eqb_tells}

@@ -1,21 +1,23 @@
 -- A worker at its own packets of a chunk.
 use Rattle.std.proofs.Common.{◌≡◌, ◌≢◌, ◌∙◌, ◌+◌, ◌<◌, ◌≤◌, Fits, w64, ℕ, List, [], ◌∷◌, Some, ap, arith, drop, get_or, inl, inr, length, map, refl, slice_get, subst, sym}
 use Rattle.std.proofs.lemmas.Bool.Decides.{eqb_tells}
+use Rattle.std.specs.List.{AllZip}
 use Rattle.std.specs.Prelude.{◌^◌}
 use Rattle.std.proofs.lemmas.List.{drop_all, drop_more}
 use Rattle.std.proofs.lemmas.Option.{slice_get_within}
 use Rattle.packet_view.specs.Captures.{PacketFacts, packet_facts}
 use Rattle.packet_view.specs.CheckedCaptures.{remaining}
+use Rattle.packet_view.specs.declared.packet.Packet.{Packet}
 use Rattle.bihash_words.specs.declared.shape.Shape.{Ghosts}
 use Rattle.packet_dealing.proofs.DealtLists.{left_behind, none_left, stands_at}
 use Rattle.packet_dealing.proofs.HandedPackets.{none_picked, none_there, picked_mine, picked_other}
-use Rattle.packet_dealing.specs.Dealt.{IsDealtTo, picked, placed_facts}
+use Rattle.packet_dealing.specs.Dealt.{IsDealtPacket, IsDealtTo, IsFoundOf, picked}
 use Rattle.packet_dealing.specs.declared.dealt_chunk.DealtPacket.{DealtPacket}
 use Rattle.packet_dealing.specs.declared.dealt_chunk.DealtChunk.{DealtChunk}
 use Rattle.flow_workers.specs.declared.worker_share.Batch.{Batch}
 use Rattle.flow_workers.specs.declared.worker_share.Share.{Share}
-use Rattle.flow_workers.specs.Callers.{AreIdle}
-use Rattle.flow_workers.specs.inner.Jobs.{HasWorkedOn, IsChunkAt, dealer_of}
+use Rattle.flow_workers.specs.Callers.{AreIdle, AreShapes}
+use Rattle.flow_workers.specs.inner.Jobs.{HasWorkedOn, IsChunkAt, MayJudgeFound, dealer_of}
 use Rattle.flow_workers.proofs.DealtLemmas.{chunk_left, chunk_mine, worked_none, worked_on, worked_past, worked_to}
 use Rattle.flow_workers.proofs.WorkSteps.{taken_inside}
 
@@ -24,8 +26,8 @@ pub record HasLeft {A B R G K L : Type 0} (ga : Ghosts A K) (gb : Ghosts B L) (b
     (chunk : DealtChunk) (left : List DealtPacket) (old new : Share A B K L ga gb) : Type 0 where
   pub place : ℕ
   pub inside : place ≤ length chunk.workers.items
-  pub own : map placed_facts left
-      ≡ picked w place (drop place chunk.workers.items) (drop (first + place) (remaining batch.packets))
+  pub own : AllZip (IsDealtPacket (map packet_facts chunk.others.items)) left
+      (picked w place (drop place chunk.workers.items) (drop (first + place) (remaining batch.packets)))
   pub worked : HasWorkedOn ga gb batch w first (first + place) old new
 
 -- The worker has looked at the packets before this one, which is its own, and these are its own behind it.
@@ -37,6 +39,15 @@ pub record IsNext {A B R G K L : Type 0} (ga : Ghosts A K) (gb : Ghosts B L) (ba
   pub mine : IsDealtTo ga gb (dealer_of batch.setup) (batch.first + (first + at)) packet w
   pub own : left ≡ picked w (at + 1) (drop (at + 1) chunk.workers.items) (drop (first + (at + 1)) (remaining batch.packets))
   pub worked : HasWorkedOn ga gb batch w first (first + at) old new
+
+-- This was dealt of the worker's next packet, and these are its own behind it.
+pub record IsNextFound {A B R G K L : Type 0} (ga : Ghosts A K) (gb : Ghosts B L) (batch : Batch A B R G K L) (w first : ℕ)
+    (chunk : DealtChunk) (dealt : DealtPacket) (left : List DealtPacket) (old new : Share A B K L ga gb) : Type 0 where
+  pub packet : PacketFacts
+  pub placed : List (ℕ × PacketFacts)
+  pub found : IsFoundOf (map packet_facts chunk.others.items) packet dealt.found
+  pub zipped : AllZip (IsDealtPacket (map packet_facts chunk.others.items)) left placed
+  pub next : IsNext ga gb batch w first chunk dealt.at packet placed old new
 
 same_front : {X : Type 0} (x y : X) (xs ys : List X) → x ∷ xs ≡ y ∷ ys → x ≡ y
 same_front x y xs ys e = cc
@@ -122,24 +133,39 @@ module _ {A B R G K L : Type 0} (ga : Ghosts A K) (gb : Ghosts B L) (batch : Bat
         (own ∙ picked_other w k x ws p ps differ) (past k x ws p ps behind here differ worked)
   ]
 
-  -- the packet that the worker judges next
+  -- the packet that the worker judges next, and what was found of it
   pub next_own : (own : List DealtPacket) (i : ℕ) (d : DealtPacket) → i < length own
       → HasLeft ga gb batch w first chunk (drop i own) old new
-      → IsNext ga gb batch w first chunk (get_or own i d).at (packet_facts (get_or own i d).packet)
-      (map placed_facts (drop (i + 1) own)) old new
+      → IsNextFound ga gb batch w first chunk (get_or own i d) (drop (i + 1) own) old new
   next_own own i d inside has =
-      found (drop has.place chunk.workers.items) (drop (first + has.place) (remaining batch.packets)) has.place (get_or own i d).at
-      (packet_facts (get_or own i d).packet) (map placed_facts (drop (i + 1) own)) refl refl
-      (ap (map placed_facts) (sym (drop_more own i d inside)) ∙ has.own) has.worked
+      one_found (picked w has.place (drop has.place chunk.workers.items) (drop (first + has.place) (remaining batch.packets)))
+      refl (subst (λ ds. AllZip (IsDealtPacket (map packet_facts chunk.others.items)) ds
+      (picked w has.place (drop has.place chunk.workers.items) (drop (first + has.place) (remaining batch.packets))))
+      (drop_more own i d inside) has.own)
+    where
+      one_found : (placed : List (ℕ × PacketFacts))
+          → placed ≡ picked w has.place (drop has.place chunk.workers.items) (drop (first + has.place) (remaining batch.packets))
+          → AllZip (IsDealtPacket (map packet_facts chunk.others.items)) (get_or own i d ∷ drop (i + 1) own) placed
+          → IsNextFound ga gb batch w first chunk (get_or own i d) (drop (i + 1) own) old new
+      one_found [] are zipped = absurd zipped
+      one_found ((at, packet) ∷ placed) are zipped = record {
+        packet = packet;
+        placed = placed;
+        found = zipped.0.found;
+        zipped = zipped.1;
+        next = subst (λ n. IsNext ga gb batch w first chunk n packet placed old new) (sym zipped.0.at)
+            (found (drop has.place chunk.workers.items) (drop (first + has.place) (remaining batch.packets)) has.place at packet
+            placed refl refl are has.worked);
+      }
 
   -- it stands within the batch
   pub next_fits : (own : List DealtPacket) (i : ℕ) (d : DealtPacket) → i < length own
       → HasLeft ga gb batch w first chunk (drop i own) old new → batch.first + length (remaining batch.packets) < 2 ^ 64
       → Fits w64 (first + (get_or own i d).at)
   next_fits own i d inside has fits =
+      let next = next_own own i d inside has in
       let within =
-      slice_get_within (remaining batch.packets) (first + (get_or own i d).at) (packet_facts (get_or own i d).packet)
-      (next_own own i d inside has).there in
+      slice_get_within (remaining batch.packets) (first + (get_or own i d).at) next.packet next.next.there in
       omega arith
 
   -- the worker judged its own packets, all of them
@@ -147,32 +173,60 @@ module _ {A B R G K L : Type 0} (ga : Ghosts A K) (gb : Ghosts B L) (batch : Bat
       → HasWorkedOn ga gb batch w first (first + length chunk.workers.items) old new
   own_over own i past has =
       passed (drop has.place chunk.workers.items) (drop (first + has.place) (remaining batch.packets)) has.place has.inside refl
-      refl (ap (map placed_facts) (sym (drop_all i own past)) ∙ has.own) has.worked
+      refl (none_zipped (picked w has.place (drop has.place chunk.workers.items) (drop (first + has.place) (remaining batch.packets)))
+      (subst (λ ds. AllZip (IsDealtPacket (map packet_facts chunk.others.items)) ds
+      (picked w has.place (drop has.place chunk.workers.items) (drop (first + has.place) (remaining batch.packets))))
+      (drop_all i own past) has.own)) has.worked
+    where
+      none_zipped : (placed : List (ℕ × PacketFacts))
+          → AllZip (IsDealtPacket (map packet_facts chunk.others.items)) [] placed → [] ≡ placed
+      none_zipped [] zipped = refl
+      none_zipped (p ∷ placed) zipped = absurd zipped
 
 module _ {A B R G K L : Type 0} (ga : Ghosts A K) (gb : Ghosts B L) (batch : Batch A B R G K L) (w first : ℕ)
     (chunk : DealtChunk) where
   -- all of the worker's own packets are left
   pub all_left : (own : List DealtPacket) (share : Share A B K L ga gb)
-      → map placed_facts own ≡ picked w 0 chunk.workers.items (drop first (remaining batch.packets))
+      → AllZip (IsDealtPacket (map packet_facts chunk.others.items)) own
+      (picked w 0 chunk.workers.items (drop first (remaining batch.packets)))
       → AreIdle ga gb batch.setup.tables.now share.callers → HasLeft ga gb batch w first chunk own share share
   all_left own share are idle = record {
     place = 0;
     inside = omega arith;
-    own = are ∙ ap (λ n. picked w 0 chunk.workers.items (drop n (remaining batch.packets))) start;
+    own = subst (λ n. AllZip (IsDealtPacket (map packet_facts chunk.others.items)) own
+        (picked w 0 chunk.workers.items (drop n (remaining batch.packets)))) start are;
     worked = worked_to ga gb batch w first first (first + 0) share share start (worked_none ga gb batch w first share idle);
   }
     where
       start : first ≡ first + 0
       start = omega arith
 
+  -- the next one may be judged by what was found of it
+  pub may_judge_found : (dealt : DealtPacket) (left : List DealtPacket) (old between : Share A B K L ga gb)
+      (others : List Packet) → IsNextFound ga gb batch w first chunk dealt left old between
+      → others ≡ chunk.others.items → AreShapes ga gb → batch.first + length (remaining batch.packets) < 2 ^ 64
+      → MayJudgeFound ga gb batch w (first + dealt.at) (map packet_facts others) dealt.found between
+  may_judge_found dealt left old between others is same shapes fits = record {
+    packet = is.packet;
+    is = subst (λ os. IsFoundOf (map packet_facts os) is.packet dealt.found) (sym same) is.found;
+    may = record {
+      shapes = shapes;
+      idle = is.next.worked.idle;
+      fits = fits;
+      there = is.next.there;
+      mine = is.next.mine;
+    };
+  }
+
   -- the next one was judged
-  pub left_next : (at : ℕ) (packet : PacketFacts) (left : List DealtPacket) (old between new : Share A B K L ga gb)
-      → IsNext ga gb batch w first chunk at packet (map placed_facts left) old between
-      → HasWorkedOn ga gb batch w (first + at) (first + at + 1) between new → HasLeft ga gb batch w first chunk left old new
-  left_next at packet left old between new next judged = record {
-    place = at + 1;
-    inside = let inside = next.inside in omega arith;
-    own = next.own;
-    worked = worked_to ga gb batch w first (first + at + 1) (first + (at + 1)) old new (omega arith)
-        (worked_on ga gb batch w first (first + at) (first + at + 1) old between new next.worked judged);
+  pub left_next : (dealt : DealtPacket) (left : List DealtPacket) (old between new : Share A B K L ga gb)
+      → IsNextFound ga gb batch w first chunk dealt left old between
+      → HasWorkedOn ga gb batch w (first + dealt.at) (first + dealt.at + 1) between new
+      → HasLeft ga gb batch w first chunk left old new
+  left_next dealt left old between new is judged = record {
+    place = dealt.at + 1;
+    inside = let inside = is.next.inside in omega arith;
+    own = subst (AllZip (IsDealtPacket (map packet_facts chunk.others.items)) left) is.next.own is.zipped;
+    worked = worked_to ga gb batch w first (first + dealt.at + 1) (first + (dealt.at + 1)) old new (omega arith)
+        (worked_on ga gb batch w first (first + dealt.at) (first + dealt.at + 1) old between new is.next.worked judged);
   }

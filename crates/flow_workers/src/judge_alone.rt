@@ -55,6 +55,7 @@ impl<'t, 'f, A: Shape, B: Shape, R: Wait, G: Gate> Workers<'t, 'f, A, B, R, G> {
             setup,
             shares,
             verdicts,
+            rooms,
             ..
         } = self;
         let JudgedBatch { mut shares, .. } = judge_together(alloc, batch, shares)?;
@@ -64,6 +65,7 @@ impl<'t, 'f, A: Shape, B: Shape, R: Wait, G: Gate> Workers<'t, 'f, A, B, R, G> {
             shares,
             verdicts,
             count,
+            rooms,
         };
         Ok((workers, said))
     }

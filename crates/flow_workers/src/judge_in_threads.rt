@@ -8,8 +8,9 @@ use crate::gate::Gate;
 use crate::turns_in_threads::run_shares;
 use crate::worker_share::{Batch, Dealt, JudgedBatch, Share};
 use bihash_words::Shape;
-use packet_dealing::{DealtChunk, deal_packets};
+use packet_dealing::{DealtChunk, DealtRoom, deal_packets};
 use std::alloc::{AllocError, Global};
+use std::mem::replace;
 use std::sync::Wait;
 use std::thread::Threads;
 
@@ -24,8 +25,16 @@ fn note_workers(alloc: Global, dealt: &[DealtChunk<'_>]) -> Result<Vec<u8>, Allo
     Ok(judges)
 }
 
+// The lists of these chunks, for the next packets.
+fn keep_rooms(dealt: Vec<DealtChunk<'_>>, rooms: &mut Vec<DealtRoom>) -> Result<(), AllocError> {
+    for chunk in dealt {
+        rooms.push(chunk.room())?;
+    }
+    Ok(())
+}
+
 /// The shares of all workers after they judged the packets of a batch, each in a thread of its own, with the worker of each
-/// packet.
+/// packet. The lists in which packets are dealt are those of earlier batches, where there are any, and are kept for later ones.
 pub fn judge_in_threads<
     A: Shape + Send + Sync,
     B: Shape + Send + Sync,
@@ -35,6 +44,7 @@ pub fn judge_in_threads<
     alloc: Global,
     batch: Batch<'_, '_, '_, A, B, R, G>,
     shares: Vec<Share<A, B>>,
+    rooms: &mut Vec<DealtRoom>,
 ) -> Result<JudgedBatch<A, B>, AllocError>
 where
     A::Key: Send + Sync,
@@ -50,8 +60,10 @@ where
         setup.dealer(),
         batch.first,
         batch.packets,
+        replace(rooms, Vec::new(alloc)),
     )?;
     let judges = note_workers(alloc, dealt.as_slice())?;
     let shares = run_shares(alloc, batch.again(), Dealt { chunks: &dealt }, shares)?;
+    keep_rooms(dealt, rooms)?;
     Ok(JudgedBatch { shares, judges })
 }

@@ -67,7 +67,7 @@ pub fn judge<A: Shape, B: Shape, R: Wait>(
     let filter = filter.ready(packet.interface);
     let frame = view(packet.frame, packet.interface, filter.own);
     let flow = flow_of_frame(&frame);
-    let packet = ViewedPacket::new(packet, &frame, &flow);
+    let packet = ViewedPacket::new(packet.moment, &frame, &flow);
     let tries = UntilAnswered { rt };
     let Ok(verdict) = judge_as::<A, B, Brand, UntilAnswered<'_, R>>(
         &tries, &filter, tables, callers, &packet,
@@ -88,6 +88,6 @@ pub fn try_judge<A: Shape, B: Shape>(
     let filter = filter.ready(packet.interface);
     let frame = view(packet.frame, packet.interface, filter.own);
     let flow = flow_of_frame(&frame);
-    let packet = ViewedPacket::new(packet, &frame, &flow);
+    let packet = ViewedPacket::new(packet.moment, &frame, &flow);
     judge_as::<A, B, Brand, OneTry>(&OneTry, &filter, tables, callers, &packet)
 }

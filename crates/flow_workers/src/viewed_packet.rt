@@ -4,7 +4,7 @@ ghost use Rattle.std.specs.Option.{ForSome};
 ghost use Rattle.packet_view.specs.Frames.{frame_facts};
 ghost use Rattle.flow_dealing.specs.Dealings.{flow_of_frame};
 
-use packet_view::{Frame, Packet};
+use packet_view::Frame;
 use session_state::Flow;
 
 /// A packet whose frame was viewed. Its frame and flow stay where they were made.
@@ -20,24 +20,24 @@ pub struct ViewedPacket<'a> {
 }
 
 impl<'a> ViewedPacket<'a> {
-    ghost use Rattle.std.specs.Prelude.{Option};
-    ghost use Rattle.packet_view.specs.Captures.{packet_facts};
+    ghost use Rattle.std.specs.Prelude.{◌≡◌, Option};
+    ghost use Rattle.packet_view.specs.Captures.{PacketFacts};
     ghost use Rattle.packet_view.specs.Frames.{frame_facts};
     ghost use Rattle.packet_view.specs.declared.tuple.Mac.{Mac};
     ghost use Rattle.flow_filter.specs.Readings.{IsSeenAt};
     ghost use Rattle.flow_dealing.specs.Dealings.{flow_of_frame};
     ghost use Rattle.flow_workers.specs.inner.ViewedPackets.{IsViewed};
 
-    /// The packet, whose frame turned out to be this and shows this flow.
-    pub fn new(packet: &Packet<'_>, frame: &'a Frame, flow: &'a Option<Flow>) -> ViewedPacket<'a>
+    /// A packet of this second, whose frame turned out to be this and shows this flow.
+    pub fn new(moment: u32, frame: &'a Frame, flow: &'a Option<Flow>) -> ViewedPacket<'a>
         requires shown { flow.now ≡ flow_of_frame (frame_facts frame.now) }
         requires side { ForSome flow.now (λ f. f.side < 2) }
-        ensures seen { (own : Option Mac) → IsSeenAt own (packet_facts packet.now) (frame_facts frame.now)
-            → IsViewed own (packet_facts packet.now) result }
+        ensures seen { (own : Option Mac) (packet : PacketFacts) → packet.moment ≡ moment
+            → IsSeenAt own packet (frame_facts frame.now) → IsViewed own packet result }
         ensures frame { result.frame.now ≡ frame.now }
     {
         ViewedPacket {
-            moment: packet.moment,
+            moment,
             frame,
             flow,
         }

@@ -1,7 +1,7 @@
 //! One packet of a worker: what it is, and its verdict, which the worker says.
 ghost use Rattle.std.specs.Prelude.{◌+◌, IfOk};
 ghost use Rattle.packet_view.specs.Captures.{packet_facts};
-ghost use Rattle.flow_workers.specs.inner.Jobs.{HasWorkedOn, MayJudgePacket, MayJudgeViewed};
+ghost use Rattle.flow_workers.specs.inner.Jobs.{HasWorkedOn, MayJudgePacket, MayJudgeSighting, MayJudgeViewed};
 
 use crate::gate::Gate;
 use crate::packet_verdict::judge_as;
@@ -10,7 +10,7 @@ use crate::viewed_packet::ViewedPacket;
 use crate::worker_share::{Batch, Share};
 use bihash_words::Shape;
 use flow_filter::InterfaceFilter;
-use packet_dealing::flow_of_frame;
+use packet_dealing::{PlainSighting, flow_of_frame};
 use packet_view::{Packet, plain_frame, view};
 use std::alloc::AllocError;
 use std::marker::Brand;
@@ -47,10 +47,10 @@ fn record_verdict<A: Shape, B: Shape, R: Wait, G: Gate>(
     Ok(())
 }
 
-// Judges a packet of the worker by the view of its frame. Few frames aren't plain, and what is done with the others is
-// shorter without this.
+/// Judges a packet of the worker by the view of its frame. Few frames aren't plain, and what is done with the others is
+/// shorter without this.
 #[inline(never)]
-fn judge_slow_path<A: Shape, B: Shape, R: Wait, G: Gate>(
+pub fn judge_by_view<A: Shape, B: Shape, R: Wait, G: Gate>(
     batch: &Batch<'_, '_, '_, A, B, R, G>,
     worker: usize,
     at: usize,
@@ -63,12 +63,31 @@ fn judge_slow_path<A: Shape, B: Shape, R: Wait, G: Gate>(
     let filter = batch.setup.filter.at(packet.interface);
     let frame = view(packet.frame, packet.interface, filter.own);
     let flow = flow_of_frame(&frame);
-    let viewed = ViewedPacket::new(packet, &frame, &flow);
+    let viewed = ViewedPacket::new(packet.moment, &frame, &flow);
     record_verdict(batch, worker, at, filter, &viewed, share)
 }
 
-/// Judges a packet of the worker, which stands at this place among those of the batch, and says its verdict. All that it
-/// does with a plain frame is within the loops in which it is called: as a call it took a fifth more instructions.
+/// Judges a packet of the worker, which stands at this place among those of the batch, and whose plain frame was seen so. All
+/// that it does is within the loops in which it is called: as a call it took a fifth more instructions.
+#[inline(always)]
+pub fn judge_sighting<A: Shape, B: Shape, R: Wait, G: Gate>(
+    batch: &Batch<'_, '_, '_, A, B, R, G>,
+    worker: usize,
+    at: usize,
+    seen: &PlainSighting,
+    share: &mut Share<A, B>,
+) -> Result<(), AllocError>
+    requires { MayJudgeSighting ⟦<A as Shape>⟧ ⟦<B as Shape>⟧ batch.now worker at seen.now share.old }
+    ensures { IfOk result (λ _. HasWorkedOn ⟦<A as Shape>⟧ ⟦<B as Shape>⟧ batch.now worker at (at + 1) share.old share.new) }
+{
+    let filter = batch.setup.filter.at(seen.interface);
+    let frame = seen.frame.at(seen.interface, filter.own);
+    let flow = flow_of_frame(&frame);
+    let viewed = ViewedPacket::new(seen.moment, &frame, &flow);
+    record_verdict(batch, worker, at, filter, &viewed, share)
+}
+
+/// Judges a packet of the worker, which stands at this place among those of the batch, and says its verdict.
 #[inline(always)]
 pub fn judge_packet<A: Shape, B: Shape, R: Wait, G: Gate>(
     batch: &Batch<'_, '_, '_, A, B, R, G>,
@@ -82,9 +101,9 @@ pub fn judge_packet<A: Shape, B: Shape, R: Wait, G: Gate>(
 {
     let filter = batch.setup.filter.at(packet.interface);
     let Some(frame) = plain_frame(packet.frame, packet.interface, filter.own) else {
-        return judge_slow_path(batch, worker, at, packet, share);
+        return judge_by_view(batch, worker, at, packet, share);
     };
     let flow = flow_of_frame(&frame);
-    let viewed = ViewedPacket::new(packet, &frame, &flow);
+    let viewed = ViewedPacket::new(packet.moment, &frame, &flow);
     record_verdict(batch, worker, at, filter, &viewed, share)
 }

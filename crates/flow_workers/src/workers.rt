@@ -12,6 +12,7 @@ use crate::worker_setup::Setup;
 use crate::worker_share::{Batch, JudgedBatch, Share, WorkerResults};
 use bihash_words::Shape;
 use flow_filter::Verdict;
+use packet_dealing::DealtRoom;
 use packet_view::Packets;
 use std::alloc::Global;
 use std::sync::Wait;
@@ -28,6 +29,8 @@ pub struct Workers<'t, 'f, A: Shape, B: Shape, R: Wait, G: Gate> {
     pub verdicts: Vec<Verdict>,
     /// How many packets they judged.
     pub count: usize,
+    /// The lists in which packets were dealt, for the next ones.
+    pub rooms: Vec<DealtRoom>,
 }
 
 impl<'t, 'f, A: Shape, B: Shape, R: Wait, G: Gate> Workers<'t, 'f, A, B, R, G> {
@@ -50,6 +53,7 @@ impl<'t, 'f, A: Shape, B: Shape, R: Wait, G: Gate> Workers<'t, 'f, A, B, R, G> {
             shares,
             verdicts: Vec::new(alloc),
             count: 0,
+            rooms: Vec::new(alloc),
         })
     }
 
@@ -103,6 +107,7 @@ where
             shares,
             mut verdicts,
             count,
+            mut rooms,
         } = self;
         let next = count + packets.count();
         let batch = Batch {
@@ -113,7 +118,7 @@ where
         let judged = if setup.is_alone() || batch.packets.count() < setup.many {
             judge_together(alloc, batch, shares)
         } else {
-            judge_in_threads(alloc, batch, shares)
+            judge_in_threads(alloc, batch, shares, &mut rooms)
         };
         let JudgedBatch { mut shares, judges } = judged?;
         if !setup.is_alone() {
@@ -125,6 +130,7 @@ where
             shares,
             verdicts,
             count: next,
+            rooms,
         })
     }
 }

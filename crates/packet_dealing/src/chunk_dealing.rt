@@ -1,24 +1,51 @@
 //! One chunk of the packets, which a thread deals.
-ghost use Rattle.std.specs.Prelude.{◌≡◌, drop, IfOk};
+ghost use Rattle.std.specs.Prelude.{◌≡◌, drop, length, IfOk};
+ghost use Rattle.packet_view.specs.Captures.{packet_facts};
 ghost use Rattle.packet_view.specs.CheckedCaptures.{remaining};
-ghost use Rattle.packet_dealing.specs.inner.Chunks.{CanDeal, IsChunkOfJob};
+ghost use Rattle.packet_dealing.specs.inner.Chunks.{CanDeal, HasDealtNext, IsChunkOfJob, MayDeal};
 
 use crate::chunk::Job;
 use crate::dealt_chunk::DealtChunk;
-use crate::packet_worker::worker_of_packet;
+use crate::packet_worker::{Dealer, worker_by_sighting, worker_by_view};
+use crate::plain_sighting::sighting_of;
 use bihash_words::Shape;
-use packet_view::{PacketBursts, Packets};
+use packet_view::{Packet, PacketBursts, Packets};
 use std::alloc::AllocError;
 
-// The packets from the first of the dealt chunk on, where so many stand before it.
-fn skip_to_chunk<'a>(packets: Packets<'a>, count: usize) -> Packets<'a>
-    ensures { remaining result ≡ drop count (remaining packets.entry) }
+// The packets from the first of the dealt chunk on, where so many stand before it. In bursts they are passed faster than
+// one by one.
+fn skip_to_chunk<'a>(packets: Packets<'a>, count: usize) -> PacketBursts<'a>
+    ensures { result.left ≡ drop count (remaining packets.entry) }
 {
-    let mut rest = packets;
+    let mut rest = PacketBursts::new(packets);
     for _ in 0..count {
         rest.next();
     }
     rest
+}
+
+// Deals the next packet of a chunk, which has this number.
+#[inline(always)]
+fn deal_next<'a, A: Shape, B: Shape>(
+    dealer: &Dealer,
+    number: usize,
+    packet: Packet<'a>,
+    chunk: &mut DealtChunk<'a>,
+) -> Result<(), AllocError>
+    requires may { MayDeal ⟦<A as Shape>⟧ ⟦<B as Shape>⟧ dealer.now }
+    requires lists { length chunk.old.own.items ≡ dealer.now.workers }
+    ensures { IfOk result (λ _. HasDealtNext ⟦<A as Shape>⟧ ⟦<B as Shape>⟧ dealer.now number (packet_facts packet.entry) chunk.old chunk.new) }
+{
+    match sighting_of(&packet) {
+        Some(seen) => {
+            let worker = worker_by_sighting::<A, B>(dealer, number, &seen);
+            chunk.hand_plain(worker, seen)
+        }
+        None => {
+            let worker = worker_by_view::<A, B>(dealer, number, &packet);
+            chunk.hand_other(worker, packet)
+        }
+    }
 }
 
 /// Deals the packets of a chunk.
@@ -27,13 +54,12 @@ pub fn deal_chunk<'a, A: Shape, B: Shape>(job: Job<'a, A, B>) -> Result<DealtChu
     ensures { IfOk result (IsChunkOfJob ⟦<A as Shape>⟧ ⟦<B as Shape>⟧ job.entry) }
 {
     let mut chunk = job.chunk;
-    let mut packets = PacketBursts::new(skip_to_chunk(job.packets, job.first));
+    let mut packets = skip_to_chunk(job.packets, job.first);
     for at in job.first..job.next {
         let Some(packet) = packets.next() else {
             unreachable!()
         };
-        let worker = worker_of_packet::<A, B>(&job.dealer, job.number + at, &packet);
-        chunk.hand(worker, packet)?;
+        deal_next::<A, B>(&job.dealer, job.number + at, packet, &mut chunk)?;
     }
     Ok(chunk)
 }

@@ -4,7 +4,7 @@ ghost use Rattle.packet_view.specs.CheckedCaptures.{remaining};
 ghost use Rattle.packet_dealing.specs.Dealt.{AreDealt, AreShapes};
 
 use crate::chunk_jobs::{chunks_ahead, chunks_over};
-use crate::dealt_chunk::DealtChunk;
+use crate::dealt_chunk::{DealtChunk, DealtRoom};
 use crate::packet_worker::Dealer;
 use crate::tasks_in_threads::run_all;
 use bihash_words::Shape;
@@ -14,13 +14,14 @@ use std::thread::Threads;
 
 /// The packets, whose numbers begin with this one, with the workers that judge them, in their order, in chunks. Each is found
 /// by a thread of its own, or by this one where no thread can be made. There is one chunk less than workers, since another
-/// thread may read meanwhile, and at least one.
+/// thread may read meanwhile, and at least one. The lists are those that were kept of earlier packets, as far as there are any.
 pub fn deal_packets<'a, A: Shape + Send, B: Shape + Send, R: Threads + Sync>(
     rt: &R,
     alloc: Global,
     dealer: Dealer,
     number: usize,
     packets: Packets<'a>,
+    kept: Vec<DealtRoom>,
 ) -> Result<Vec<DealtChunk<'a>>, AllocError>
 where
     A::Key: Send,
@@ -32,7 +33,7 @@ where
     ensures { IfOk result (λ chunks. AreDealt ⟦<A as Shape>⟧ ⟦<B as Shape>⟧ dealer number chunks.items (remaining packets.entry)) }
 {
     let count = (dealer.workers - 1).max(1);
-    let ahead = chunks_ahead::<A, B>(alloc, dealer, number, packets, count)?;
+    let ahead = chunks_ahead::<A, B>(alloc, dealer, number, packets, count, kept)?;
     let over = run_all(rt, ahead)?;
     chunks_over(alloc, over)
 }

@@ -1,58 +1,163 @@
 //! Packets that follow each other, once it is known who judges each of them.
-ghost use Rattle.std.specs.Prelude.{◌<◌, ◌^◌, IfOk, length};
-ghost use Rattle.packet_dealing.specs.inner.OwnPackets.{HasHanded, IsEmptyChunk};
+ghost use Rattle.std.specs.Prelude.{◌≡◌, ◌<◌, ◌^◌, IfOk, length};
+ghost use Rattle.packet_view.specs.Captures.{packet_facts};
+ghost use Rattle.packet_dealing.specs.Dealt.{IsSightingOf};
+ghost use Rattle.packet_dealing.specs.inner.OwnPackets.{HasHanded, HasHandedFound, IsEmptyChunk, IsEmptyRoom};
 
+use crate::plain_sighting::PlainSighting;
 use packet_view::Packet;
 use std::alloc::{AllocError, Global};
 
-/// A packet, and its place in its chunk, from 0.
+/// What dealing found of a packet.
 #[derive(Clone, Copy)]
-pub struct DealtPacket<'a> {
-    pub at: usize,
-    pub packet: Packet<'a>,
+pub enum Found {
+    /// All that judging asks: nobody reads the packet's bytes again.
+    Plain(PlainSighting),
+    /// That its frame isn't plain: its place among those packets of its chunk, from 0.
+    Other(usize),
 }
 
-/// Packets that follow each other, and who judges them. It takes a byte for each packet, and the packet.
+/// A packet's place in its chunk, from 0, and what was found of the packet.
+#[derive(Clone, Copy)]
+pub struct DealtPacket {
+    pub at: usize,
+    pub found: Found,
+}
+
+/// Packets that follow each other, and who judges them.
 #[derive(Drop)]
 pub struct DealtChunk<'a> {
     /// The worker that judges each packet, in their order.
     pub workers: Vec<u8>,
     /// For each worker the packets that it judges, in their order.
-    pub own: Vec<Vec<DealtPacket<'a>>>,
+    pub own: Vec<Vec<DealtPacket>>,
+    /// The packets whose frames aren't plain, in their order.
+    pub others: Vec<Packet<'a>>,
 }
 
-/// No packet yet, and room for so many. A worker may get a quarter more than its share before its list grows.
+/// The lists of a chunk without their packets. Whoever deals again hands it on: memory that was given back costs a first touch
+/// again, which takes longer than to deal.
+#[derive(Drop)]
+pub struct DealtRoom {
+    pub workers: Vec<u8>,
+    pub own: Vec<Vec<DealtPacket>>,
+}
+
+impl DealtRoom {
+    // The lists of so many workers, which have room for so many packets. A worker may get a quarter more than its share
+    // before its list grows.
+    fn new(alloc: Global, workers: usize, packets: usize) -> Result<DealtRoom, AllocError>
+        requires { 0 < workers }
+        ensures { IfOk result (IsEmptyRoom workers) }
+    {
+        let share = packets / workers;
+        let room = share.saturating_add(share / 4);
+        let mut own = Vec::with_capacity(alloc, workers)?;
+        for _ in 0..workers {
+            own.push(Vec::with_capacity(alloc, room)?)?;
+        }
+        Ok(DealtRoom {
+            workers: Vec::with_capacity(alloc, packets)?,
+            own,
+        })
+    }
+
+    // The same lists, in which nothing stands.
+    fn cleared(self) -> DealtRoom
+        ensures { IsEmptyRoom (length self.own.items) result }
+    {
+        let DealtRoom {
+            mut workers,
+            mut own,
+        } = self;
+        workers.clear();
+        for worker in 0..own.len() {
+            own[worker].clear();
+        }
+        DealtRoom { workers, own }
+    }
+
+    // Lists of so many workers: these, where they are as many, else new ones with room for so many packets.
+    fn emptied(
+        kept: Option<DealtRoom>,
+        alloc: Global,
+        workers: usize,
+        packets: usize,
+    ) -> Result<DealtRoom, AllocError>
+        requires { 0 < workers }
+        ensures { IfOk result (IsEmptyRoom workers) }
+    {
+        if let Some(room) = kept {
+            if room.own.len() == workers {
+                return Ok(room.cleared());
+            }
+        }
+        DealtRoom::new(alloc, workers, packets)
+    }
+}
+
+/// No packet yet, and lists for so many workers: those that were kept, or new ones with room for so many packets.
 pub fn empty_chunk<'a>(
     alloc: Global,
+    kept: Option<DealtRoom>,
     workers: usize,
     packets: usize,
 ) -> Result<DealtChunk<'a>, AllocError>
     requires { 0 < workers }
     ensures { IfOk result (IsEmptyChunk workers) }
 {
-    let share = packets / workers;
-    let room = share.saturating_add(share / 4);
-    let mut own = Vec::with_capacity(alloc, workers)?;
-    for _ in 0..workers {
-        own.push(Vec::with_capacity(alloc, room)?)?;
-    }
+    let DealtRoom { workers, own } = DealtRoom::emptied(kept, alloc, workers, packets)?;
     Ok(DealtChunk {
-        workers: Vec::with_capacity(alloc, packets)?,
+        workers,
         own,
+        others: Vec::new(alloc),
     })
 }
 
 impl<'a> DealtChunk<'a> {
-    /// The next packet is this worker's.
+    /// The chunk's lists.
+    pub fn room(self) -> DealtRoom {
+        DealtRoom {
+            workers: self.workers,
+            own: self.own,
+        }
+    }
+
+    // The next packet, of which this was found, is this worker's.
     #[inline(always)]
-    pub(crate) fn hand(&mut self, worker: usize, packet: Packet<'a>) -> Result<(), AllocError>
+    fn hand(&mut self, worker: usize, found: Found) -> Result<(), AllocError>
         requires few { worker < 2 ^ 8 }
         requires one { worker < length self.old.own.items }
-        ensures { IfOk result (λ _. HasHanded self.old worker packet.entry self.new) }
+        ensures { IfOk result (λ _. HasHandedFound self.old worker found self.new) }
     {
         let at = self.workers.len();
         self.workers.push(worker as u8)?;
-        self.own[worker].push(DealtPacket { at, packet })?;
+        self.own[worker].push(DealtPacket { at, found })?;
         Ok(())
+    }
+
+    /// The next packet, whose plain frame was seen so, is this worker's.
+    #[inline(always)]
+    pub(crate) fn hand_plain(
+        &mut self,
+        worker: usize,
+        seen: PlainSighting,
+    ) -> Result<(), AllocError>
+        requires few { worker < 2 ^ 8 }
+        requires one { worker < length self.old.own.items }
+        ensures { IfOk result (λ _. (packet : _) → IsSightingOf packet seen → HasHanded self.old worker packet self.new) }
+    {
+        self.hand(worker, Found::Plain(seen))
+    }
+
+    /// The next packet, whose frame isn't plain, is this worker's.
+    pub(crate) fn hand_other(&mut self, worker: usize, packet: Packet<'a>) -> Result<(), AllocError>
+        requires few { worker < 2 ^ 8 }
+        requires one { worker < length self.old.own.items }
+        ensures { IfOk result (λ _. HasHanded self.old worker (packet_facts packet.entry) self.new) }
+    {
+        let place = self.others.len();
+        self.others.push(packet)?;
+        self.hand(worker, Found::Other(place))
     }
 }

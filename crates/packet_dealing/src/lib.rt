@@ -8,10 +8,12 @@ mod dealing_in_threads;
 mod dealt_chunk;
 mod frame_flow;
 mod packet_worker;
+mod plain_sighting;
 mod tasks_in_threads;
 
 pub use dealing_in_threads::deal_packets;
-pub use dealt_chunk::{DealtChunk, DealtPacket};
+pub use dealt_chunk::{DealtChunk, DealtPacket, DealtRoom, Found};
 pub use frame_flow::flow_of_frame;
 pub use packet_worker::{Dealer, worker_of_packet};
+pub use plain_sighting::PlainSighting;
 pub use tasks_in_threads::{Task, run_all};

@@ -4,7 +4,7 @@ ghost use Rattle.std.specs.Prelude.{◌≤◌, ◌<◌, ◌+◌, ◌^◌, length
 use super::filter_test_refused;
 use bihash_words::{ShapeV4, ShapeV6, flow_shapes_are_sound};
 use flow_dealing::Dealing;
-use packet_dealing::{Dealer, DealtChunk, DealtPacket, deal_packets, worker_of_packet};
+use packet_dealing::{Dealer, DealtChunk, DealtRoom, Found, deal_packets, worker_of_packet};
 use packet_view::{Packet, Packets};
 use std::alloc::{AllocError, Global};
 use std::process::Abort;
@@ -43,35 +43,75 @@ fn packet_to_deal<'a>(moment: u32, frame: &'a [u8]) -> Packet<'a> {
     }
 }
 
+// Packets, and the number of their first one.
+#[derive(Clone, Copy)]
+struct First<'a> {
+    number: usize,
+    packets: &'a [Packet<'a>],
+}
+
 // A test's packets, dealt to workers in chunks.
 fn deal<'a, R: Threads + Sync>(
     rt: &R,
     alloc: Global,
     dealing: Dealing,
     workers: usize,
-    number: usize,
-    packets: &'a [Packet<'a>],
+    first: First<'a>,
+    kept: Vec<DealtRoom>,
 ) -> Result<Vec<DealtChunk<'a>>, AllocError>
     requires some { 1 ≤ workers }
     requires few { workers ≤ 16 }
-    requires fits { number + length packets.now < 2 ^ 64 }
+    requires fits { first.number + length first.packets.now < 2 ^ 64 }
 {
     flow_shapes_are_sound();
     let dealer = Dealer { dealing, workers };
-    deal_packets::<ShapeV4, ShapeV6, R>(rt, alloc, dealer, number, Packets::Slice(packets))
+    let packets = Packets::Slice(first.packets);
+    deal_packets::<ShapeV4, ShapeV6, R>(rt, alloc, dealer, first.number, packets, kept)
+}
+
+// What was found of a packet is what its bytes say: addresses and ports at their places in a frame of 54 bytes, or, of
+// another frame, the packet itself.
+fn expect_found<R: Abort>(rt: &R, found: &Found, others: &[Packet<'_>], packet: &Packet<'_>) {
+    match found {
+        Found::Plain(seen) => {
+            let frame = packet.frame;
+            assert_eq!(rt; frame.len(), 54);
+            assert_eq!(rt; (seen.interface, seen.moment), (0, packet.moment));
+            assert_eq!(rt; seen.frame.sender, 0x020000000000 + u64::from(frame[11]));
+            let said = seen.frame.packet;
+            assert_eq!(rt;
+                (said.source, said.dest, said.proto),
+                (
+                    0x0a000000 + u32::from(frame[29]),
+                    0x0a000000 + u32::from(frame[33]),
+                    frame[23]
+                )
+            );
+            assert_eq!(rt;
+                (said.from.to_be_bytes(), said.to.to_be_bytes()),
+                ([frame[34], frame[35]], [frame[36], frame[37]])
+            );
+        }
+        Found::Other(place) => {
+            assert!(rt; *place < others.len());
+            let other = others[*place];
+            assert_eq!(rt; (other.moment, other.frame), (packet.moment, packet.frame));
+            assert!(rt; other.frame.len() != 54);
+        }
+    }
 }
 
 // A worker's share of a chunk is its packets, of those from this place on that have these workers, and no others.
 fn expect_own<'a, R: Abort>(
     rt: &R,
     worker: usize,
-    own: &[DealtPacket<'a>],
+    part: &DealtChunk<'a>,
     packets: &[Packet<'a>],
     first: usize,
-    workers: &[u8],
 ) {
-    let mut left = own.iter();
-    for (at, judge) in workers.iter().enumerate() {
+    assert!(rt; worker < part.own.len());
+    let mut left = part.own[worker].iter();
+    for (at, judge) in part.workers.as_slice().iter().enumerate() {
         if *judge as usize != worker {
             continue;
         }
@@ -79,45 +119,48 @@ fn expect_own<'a, R: Abort>(
         assert!(rt; first < 8 && at < 8);
         let place = first + at;
         assert!(rt; place < packets.len());
-        let packet = packets[place];
-        assert_eq!(rt;
-            (dealt.at, dealt.packet.moment, dealt.packet.frame),
-            (at, packet.moment, packet.frame)
-        );
+        assert_eq!(rt; dealt.at, at);
+        expect_found(rt, &dealt.found, part.others.as_slice(), &packets[place]);
     }
     assert!(rt; left.next().is_none());
 }
 
-// The dealt chunks have these packets, in their order, each with its worker, and in its worker's share alone.
+// The dealt chunks have these packets, in their order, each with its worker, and in its worker's share alone. Two of them
+// aren't plain.
 fn expect_packets<'a, R: Abort>(
     rt: &R,
-    parts: Vec<DealtChunk<'a>>,
+    parts: &[DealtChunk<'a>],
     packets: &'a [Packet<'a>],
     judges: [u8; 7],
 ) {
     let mut first = 0;
+    let mut others = 0;
     for part in parts {
         let count = part.workers.len();
         assert!(rt; first < 8 && count < 8);
         let next = first + count;
         assert!(rt; next < 8);
         assert_eq!(rt; part.workers.as_slice(), &judges[first..next]);
-        for (worker, own) in part.own.as_slice().iter().enumerate() {
-            expect_own(
-                rt,
-                worker,
-                own.as_slice(),
-                packets,
-                first,
-                part.workers.as_slice(),
-            );
+        for worker in 0..part.own.len() {
+            expect_own(rt, worker, part, packets, first);
         }
+        assert!(rt; others < 8 && part.others.len() < 8);
+        others += part.others.len();
         first = next;
     }
-    assert_eq!(rt; first, packets.len());
+    assert_eq!(rt; (first, others), (packets.len(), 2));
 }
 
-// Packets dealt to workers in chunks: the buckets are 2896, 1046 and 2793 of 4096 for the flows of IPv4, and 776 of
+// The lists of these chunks.
+fn rooms_of(alloc: Global, parts: Vec<DealtChunk<'_>>) -> Result<Vec<DealtRoom>, AllocError> {
+    let mut rooms = Vec::new(alloc);
+    for part in parts {
+        rooms.push(part.room())?;
+    }
+    Ok(rooms)
+}
+
+// Packets dealt to workers in chunks, and then again into the same lists: the buckets are 2896, 1046 and 2793 of 4096 for the flows of IPv4, and 776 of
 // 1024 for that of IPv6.
 #[test]
 fn deals_packets_of_several_flows(rt: HostRuntime) -> Result<(), Fail> {
@@ -137,16 +180,32 @@ fn deals_packets_of_several_flows(rt: HostRuntime) -> Result<(), Fail> {
         packet_to_deal(107, &frames[3]),
         packet_to_deal(120, &frames[4]),
     ];
-    let Ok(parts) = deal(&rt, rt.alloc(), Dealing::Bucket, 3, 0, &packets) else {
-        return filter_test_refused();
+    let alloc = rt.alloc();
+    let begun = First {
+        number: 0,
+        packets: &packets,
     };
-    assert_eq!(rt; parts.len(), 2);
-    expect_packets(&rt, parts, &packets, [1, 2, 1, 0, 2, 2, 0]);
-    let Ok(parts) = deal(&rt, rt.alloc(), Dealing::Round, 2, 5, &packets) else {
+    let mut kept = Vec::new(alloc);
+    for _ in 0..2 {
+        let Ok(parts) = deal(&rt, alloc, Dealing::Bucket, 3, begun, kept) else {
+            return filter_test_refused();
+        };
+        assert_eq!(rt; parts.len(), 2);
+        expect_packets(&rt, parts.as_slice(), &packets, [1, 2, 1, 0, 2, 2, 0]);
+        let Ok(rooms) = rooms_of(alloc, parts) else {
+            return filter_test_refused();
+        };
+        kept = rooms;
+    }
+    let later = First {
+        number: 5,
+        packets: &packets,
+    };
+    let Ok(parts) = deal(&rt, alloc, Dealing::Round, 2, later, kept) else {
         return filter_test_refused();
     };
     assert_eq!(rt; parts.len(), 1);
-    expect_packets(&rt, parts, &packets, [1, 0, 1, 0, 1, 0, 1]);
+    expect_packets(&rt, parts.as_slice(), &packets, [1, 0, 1, 0, 1, 0, 1]);
     Ok(())
 }
 

@@ -12,8 +12,10 @@ use Rattle.flow_filter.specs.declared.interface_filters.InterfaceFilter.{Interfa
 use Rattle.flow_filter.specs.declared.verdict.Verdict.{Verdict}
 use Rattle.flow_dealing.specs.Dealings.{flow_of_frame, worker_of}
 use Rattle.flow_dealing.specs.Views.{Views}
-use Rattle.packet_dealing.specs.Dealt.{AreDealt, IsDealtChunk, IsDealtTo, deal_of}
+use Rattle.packet_dealing.specs.Dealt.{AreDealt, IsDealtChunk, IsDealtTo, IsFoundOf, IsSightingOf, deal_of}
 use Rattle.packet_dealing.specs.declared.packet_worker.Dealer.{Dealer}
+use Rattle.packet_dealing.specs.declared.plain_sighting.PlainSighting.{PlainSighting}
+use Rattle.packet_dealing.specs.declared.dealt_chunk.Found.{Found}
 use Rattle.packet_dealing.specs.declared.dealt_chunk.DealtChunk.{DealtChunk}
 use Rattle.flow_workers.specs.declared.worker_setup.Setup.{Setup}
 use Rattle.flow_workers.specs.declared.worker_share.Job.{Job}
@@ -69,6 +71,20 @@ pub record MayJudgePacket {A B R G K L : Type 0} (ga : Ghosts A K) (gb : Ghosts 
   pub fits : batch.first + length (remaining batch.packets) < 2 ^ 64
   pub there : slice_get (remaining batch.packets) at ≡ Some packet
   pub mine : IsDealtTo ga gb (dealer_of batch.setup) (batch.first + at) packet worker
+
+-- it is one whose plain frame was seen so
+pub record MayJudgeSighting {A B R G K L : Type 0} (ga : Ghosts A K) (gb : Ghosts B L) (batch : Batch A B R G K L)
+    (worker at : ℕ) (seen : PlainSighting) (share : Share A B K L ga gb) : Type 0 where
+  pub packet : PacketFacts
+  pub is : IsSightingOf packet seen
+  pub may : MayJudgePacket ga gb batch worker at packet share
+
+-- it is one of which this was found when it was dealt, beside these others
+pub record MayJudgeFound {A B R G K L : Type 0} (ga : Ghosts A K) (gb : Ghosts B L) (batch : Batch A B R G K L)
+    (worker at : ℕ) (others : List PacketFacts) (found : Found) (share : Share A B K L ga gb) : Type 0 where
+  pub packet : PacketFacts
+  pub is : IsFoundOf others packet found
+  pub may : MayJudgePacket ga gb batch worker at packet share
 
 -- the packet at this place of the batch was viewed so, by the filter at its interface, and its frame is nothing else
 pub record IsViewedAt {A B R G K L : Type 0} (batch : Batch A B R G K L) (at : ℕ) (filter : InterfaceFilter)

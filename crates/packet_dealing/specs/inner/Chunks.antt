@@ -4,9 +4,9 @@ use Rattle.packet_view.specs.Captures.{PacketFacts}
 use Rattle.packet_view.specs.CheckedCaptures.{remaining}
 use Rattle.packet_view.specs.declared.packets.Packets.{Packets}
 use Rattle.bihash_words.specs.declared.shape.Shape.{Ghosts}
-use Rattle.packet_dealing.specs.Dealt.{AreShapes, IsDealtChunk}
+use Rattle.packet_dealing.specs.Dealt.{AreShapes, IsDealtChunk, IsDealtTo}
 use Rattle.packet_dealing.specs.declared.packet_worker.Dealer.{Dealer}
-use Rattle.packet_dealing.specs.inner.OwnPackets.{IsEmptyChunk}
+use Rattle.packet_dealing.specs.inner.OwnPackets.{HasHanded, IsEmptyChunk}
 use Rattle.packet_dealing.specs.declared.dealt_chunk.DealtChunk.{DealtChunk}
 use Rattle.packet_dealing.specs.declared.chunk.Job.{Job}
 use Rattle.packet_dealing.specs.declared.chunk.Chunk.{Chunk}
@@ -22,6 +22,14 @@ pub record MayDeal {A B K L : Type 0} (ga : Ghosts A K) (gb : Ghosts B L) (deale
   pub shapes : AreShapes ga gb
   pub some : 1 ≤ dealer.workers
   pub few : dealer.workers ≤ 16
+
+-- the next packet, which has this number, was handed to its worker
+pub record HasDealtNext {A B K L : Type 0} (ga : Ghosts A K) (gb : Ghosts B L) (dealer : Dealer) (number : ℕ)
+    (packet : PacketFacts) (old new : DealtChunk) : Type 0 where
+  pub worker : ℕ
+  pub one : worker < dealer.workers
+  pub dealt : IsDealtTo ga gb dealer number packet worker
+  pub handed : HasHanded old worker packet new
 
 pub record CanDeal {A B K L : Type 0} (ga : Ghosts A K) (gb : Ghosts B L) (job : Job A B) : Type 0 where
   pub may : MayDeal ga gb job.dealer

@@ -1,4 +1,4 @@
-use Rattle.std.proofs.Common.{[], ap, refl, true≢false, ◌==◌, ◌≡◌, ◌∙◌, arith, length, subst, sym}
+use Rattle.std.proofs.Common.{[], ◌≡◌, ◌∙◌, arith, length, subst, sym}
 use Rattle.std.proofs.lemmas.Bool.{eqb-true}
 use Rattle.packet_view.specs.Captures.{packet_facts}
 use Rattle.packet_view.specs.CheckedCaptures.{remaining}

@@ -17,7 +17,7 @@ judge_as-requires-clause-ruling g c =
 pub returns : goal.returns
 returns g c =
     let tells = c.in-Ok.ensures in
-    let seen = c.new-packet.ensures.seen _ c.view-frame.ensures.shown in
+    let seen = c.new-packet.ensures.seen _ (packet_facts c.args.packet.now) refl c.view-frame.ensures.shown in
     let packet = packet_facts c.args.packet.now in
     let old = c.args.callers.now in
     let new = c.judge_as.new.callers in

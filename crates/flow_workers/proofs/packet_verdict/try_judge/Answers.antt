@@ -1,5 +1,5 @@
 -- The packet is the one that was viewed, and the filter at hand is that of the call.
-use Rattle.std.proofs.Common.{◌∙◌, ap, subst, sym}
+use Rattle.std.proofs.Common.{◌∙◌, ap, refl, subst, sym}
 use Rattle.packet_view.specs.Captures.{packet_facts}
 use Rattle.packet_view.specs.Frames.{frame_facts}
 use Rattle.acl_policy.specs.Policies.{SectionFacts, policy_facts}
@@ -21,7 +21,7 @@ pub returns : goal.returns
 returns g c =
     let tells = c.judge_as.ensures in
     let new = c.judge_as.new.callers in
-    let seen = c.new-packet.ensures.seen _ c.view-frame.ensures.shown in
+    let seen = c.new-packet.ensures.seen _ (packet_facts c.args.packet.now) refl c.view-frame.ensures.shown in
     let packet = packet_facts c.args.packet.now in
     let old = c.args.callers.now in
     let policy = policy_facts c.args.filter.now.policy in

@@ -20,10 +20,13 @@ loop-at-init g c =
     let none = ap length c.requires.empty.none in
     record {
       count = omega arith;
-      left = ◌∙◌ {a = drop job.first (remaining job.packets)} (sym c.skip_to_chunk.ensures) (sym c.new-packets.ensures);
+      left = sym c.skip_to_chunk-packets.ensures;
       dealt = none_dealt g.A.Shape g.B.Shape job.dealer (job.number + job.first) (drop job.first (remaining job.packets))
           job.chunk c.requires.empty;
     }
+
+pub deal_next-requires-clause-lists : goal.deal_next-requires-clause-lists
+deal_next-requires-clause-lists g c = c.loop-at.invariant.dealt.own.lists
 
 pub loop-at-preserved : goal.loop-at-preserved
 loop-at-preserved g c =
@@ -32,16 +35,17 @@ loop-at-preserved g c =
     let chunk = c.loop-at.chunk in
     let taken = inv.left ∙ c.in-Some.ensures in
     let counted = inv.count in
+    let did = c.in_ok-deal_next.ensures in
     record {
-      count = let longer = ap length c.in_ok-hand.ensures.noted in
-          let one = length_push chunk.workers.items c.worker_of_packet-worker.result in omega arith;
+      count = let longer = ap length did.handed.noted in
+          let one = length_push chunk.workers.items did.worker in omega arith;
       left = left_behind _ _ c.loop-at.at _ taken;
       dealt = dealt_push g.A.Shape g.B.Shape job.dealer (job.number + job.first) (drop job.first (remaining job.packets)) chunk _
-          c.worker_of_packet-worker.result c.in-Some.packet c.worker_of_packet-worker.ensures.one inv.dealt
+          did.worker (packet_facts c.in-Some.packet) did.one inv.dealt
           (next_there (remaining job.packets) _ job.first (length chunk.workers.items) _
           (ap (λ n. drop n (remaining job.packets)) counted ∙ taken))
-          (subst (λ n. IsDealtTo g.A.Shape g.B.Shape job.dealer n (packet_facts c.in-Some.packet) c.worker_of_packet-worker.result)
+          (subst (λ n. IsDealtTo g.A.Shape g.B.Shape job.dealer n (packet_facts c.in-Some.packet) did.worker)
           (let e : job.number + c.loop-at.at ≡ job.number + job.first + length chunk.workers.items = omega arith in e)
-          c.worker_of_packet-worker.ensures.dealt)
-          c.in_ok-hand.ensures;
+          did.dealt)
+          did.handed;
     }

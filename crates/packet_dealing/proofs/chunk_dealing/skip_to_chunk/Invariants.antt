@@ -3,4 +3,4 @@ use Rattle.packet_view.specs.CheckedCaptures.{remaining}
 use Rattle.packet_dealing.proofs.chunk_dealing.skip_to_chunk.Given as goal
 
 abbrev pub invariant-loop : goal.invariant-loop
-invariant-loop l = remaining l.rest ≡ drop l.counter (remaining l.fn.packets)
+invariant-loop l = l.rest.left ≡ drop l.counter (remaining l.fn.packets)

@@ -1,17 +1,5 @@
-use Rattle.std.proofs.Common.{◌∙◌, Some, ap, sym}
-use Rattle.packet_view.specs.Frames.{Ip}
-use Rattle.packet_view.specs.Interfaces.{Interface}
-use Rattle.packet_view.proofs.FrameLemmas.{view_only}
-use Rattle.flow_dealing.specs.Dealings.{flow_of_frame, worker_of}
-use Rattle.packet_dealing.specs.Dealt.{deal_of}
+use Rattle.packet_view.specs.Captures.{packet_facts}
 use Rattle.packet_dealing.proofs.packet_worker.worker_of_packet.Goals as goal
 
 pub returns-in-Some-clause-dealt : goal.returns-in-Some-clause-dealt
-returns-in-Some-clause-dealt g c = λ own seen shown.
-    let packet = c.args.packet.now in
-    let at : Interface = record { number = packet.interface; own = own } in
-    let (way, tuple, is, of) = c.in-Some.ensures.plain at in
-    let by = worker_of (deal_of g.A.Shape g.B.Shape c.args.dealer.now) c.args.number in
-    ◌∙◌ {b = by (Some c.plain_flow.result)} c.worker_of.ensures.worker
-    (ap by (sym (c.plain_flow.ensures.value tuple is.4.0 of)
-    ∙ ap flow_of_frame (view_only packet.frame.now at (Ip way tuple) is ∙ sym (view_only packet.frame.now at seen shown))))
+returns-in-Some-clause-dealt g c = c.worker_by_sighting.ensures.dealt (packet_facts c.args.packet.now) c.in-Some.ensures

@@ -52,10 +52,10 @@ returns g c =
             w.as_slice-then-not-is_alone.ensures.value
             (subst (λ ws. AreMerged (said_in_shares w.as_slice-then-not-is_alone.result.now) ws c.args.self.verdicts
             w.in_ok-verdicts.verdicts.items) w.as_slice.ensures.value w.in_ok-verdicts.ensures))
-            w.let_go_merged.new.shares w.let_go_merged.ensures _ (let n = c.count.ensures in omega arith))
+            w.let_go_merged.new.shares w.let_go_merged.ensures _ _ (let n = c.count.ensures in omega arith))
         | else-not-is_alone w ↦
             rw (w.shares-is, w.verdicts-is) (rest_of_one g.A.Shape g.B.Shape c.args.self _ c.again.ensures refl
             judged.shares.items batch.worked packets rest (eqb-true _ 1 (sym w.if-not-is_alone.ensures))
-            judged.shares refl _ (let n = c.count.ensures in omega arith))
+            judged.shares refl _ _ (let n = c.count.ensures in omega arith))
       ];
     }

@@ -1,5 +1,5 @@
 use Rattle.std.proofs.Common.{◌≡◌, All, [], length}
-use Rattle.packet_dealing.proofs.dealt_chunk.empty_chunk.Given as goal
+use Rattle.packet_dealing.proofs.dealt_chunk.DealtRoom.new.Given as goal
 
 abbrev pub invariant-loop : goal.invariant-loop
 invariant-loop l = record {
