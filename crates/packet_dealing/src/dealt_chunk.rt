@@ -116,7 +116,10 @@ pub fn empty_chunk<'a>(
 
 impl<'a> DealtChunk<'a> {
     /// The chunk's lists.
-    pub fn room(self) -> DealtRoom {
+    pub fn room(self) -> DealtRoom
+        ensures workers { result.workers ≡ self.entry.workers }
+        ensures own { result.own ≡ self.entry.own }
+    {
         DealtRoom {
             workers: self.workers,
             own: self.own,
