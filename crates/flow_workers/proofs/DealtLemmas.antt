@@ -1,5 +1,5 @@
 -- A worker at packets that were dealt.
-use Rattle.std.proofs.Common.{◌≡◌, ◌≢◌, ◌∙◌, ◌+◌, ◌<◌, ◌≤◌, ℕ, zero, suc, List, [], ◌∷◌, ◌++◌, Some, Ok, ap, drop, drop-drop, length, get_or, slice_get, refl, subst, sym, arith}
+use Rattle.std.proofs.Common.{◌≡◌, ◌≢◌, ◌∙◌, ◌+◌, ◌<◌, ◌≤◌, ℕ, List, [], ◌∷◌, ◌++◌, Some, Ok, ap, drop, drop-drop, length, get_or, slice_get, refl, subst, sym, arith}
 use Rattle.std.specs.Prelude.{slice_index}
 use Rattle.std.specs.declared.convert.Infallible.{Infallible}
 use Rattle.std.proofs.lemmas.List.{drop_all, drop_more, length-drop}
@@ -17,7 +17,7 @@ use Rattle.flow_filter.specs.Readings.{IsSeenAt}
 use Rattle.flow_filter.specs.InterfaceFilters.{IsReadyAt}
 use Rattle.flow_filter.specs.declared.interface_filters.InterfaceFilter.{InterfaceFilter}
 use Rattle.flow_filter.specs.declared.verdict.Verdict.{Verdict}
-use Rattle.packet_dealing.proofs.DealtLists.{next_there, some_left, stands_at, there_behind}
+use Rattle.packet_dealing.proofs.DealtLists.{front_only, next_there, some_left, stands_at, there_behind}
 use Rattle.packet_dealing.specs.Dealt.{AreDealt, IsDealtTo}
 use Rattle.packet_dealing.specs.declared.dealt_chunk.DealtChunk.{DealtChunk}
 use Rattle.flow_workers.specs.declared.worker_share.Batch.{Batch}
@@ -29,11 +29,6 @@ use Rattle.flow_workers.specs.Verdicts.{HasVerdict}
 use Rattle.flow_workers.specs.inner.Jobs.{AreDealtFrom, HasWorkedOn, IsChunkAt, IsViewedAt, IsWorkerOf, MayJudgePacket, MayJudgeViewed, StandAmong, dealer_of, policy_of, run_facts}
 use Rattle.flow_workers.specs.inner.ViewedPackets.{IsViewed, TellsViewed}
 use Rattle.flow_workers.proofs.WorkSteps.{IsAt, one_more, work_passed}
-
-front_only : {X : Type 0} (xs ys : List X) (k : ℕ) → k < length xs → slice_get (xs ++ ys) k ≡ slice_get xs k
-front_only [] ys k inside = absurd (omega arith)
-front_only (x ∷ xs) ys zero inside = refl
-front_only (x ∷ xs) ys (suc k) inside = front_only xs ys k (omega arith)
 
 front_there : {X : Type 0} (xs ys : List X) (k : ℕ) (x : X) → slice_get xs k ≡ Some x → slice_get (xs ++ ys) k ≡ Some x
 front_there xs ys k x at = front_only xs ys k (slice_get_within xs k x at) ∙ at

@@ -1,9 +1,8 @@
 -- Chunks of the packets, ahead and over.
-use Rattle.std.proofs.Common.{◌≡◌, ◌∙◌, ◌+◌, ◌*◌, ◌/◌, ◌<◌, ℕ, suc, List, [], ◌∷◌, length, drop, drop-drop, map, get_or, Ok, Err, ap, eq-eqb, refl, sym, subst, arith}
-use Rattle.std.specs.Prelude.{if◌then◌else◌}
+use Rattle.std.proofs.Common.{◌≡◌, ◌∙◌, ◌+◌, ◌<◌, ℕ, suc, List, [], ◌∷◌, length, drop, drop-drop, map, get_or, Ok, Err, ap, eq-eqb, refl, sym, subst, arith}
+use Rattle.std.specs.Prelude.{◌==◌, ◌≢◌, if◌then◌else◌}
 use Rattle.std.proofs.lemmas.Bool.{ne_eqb}
 use Rattle.std.proofs.lemmas.List.{length-map}
-use Rattle.std.proofs.Math.Nat.{zero-mul}
 use Rattle.std.proofs.Math.Seq.{drop-length}
 use Rattle.packet_view.specs.CheckedCaptures.{remaining}
 use Rattle.packet_view.specs.declared.packets.Packets.{Packets}
@@ -14,18 +13,19 @@ use Rattle.packet_dealing.specs.declared.dealt_chunk.DealtChunk.{DealtChunk}
 use Rattle.packet_dealing.specs.declared.chunk.Job.{Job}
 use Rattle.packet_dealing.specs.declared.chunk.Chunk.{Chunk}
 use Rattle.packet_dealing.specs.declared.chunk.Chunk.TheVariants.{Ahead, Over}
-use Rattle.packet_dealing.specs.inner.Chunks.{AreBetween, BecomesDealt, IsAhead, IsJob, IsOver, IsChunkOfJob, IsChunkPast, begin_of}
+use Rattle.packet_dealing.specs.inner.Chunks.{AreBetween, BecomesDealt, IsAhead, IsJob, IsOver, IsChunkOfJob, IsChunkPast}
 
 -- ---- Where chunks begin
 
-pub begin_first : (packets workers : ℕ) → 0 < workers → begin_of packets workers 0 ≡ 0
-begin_first packets workers some_worker =
-    ap (λ t. if t then packets else 0 * (packets / workers)) (ne_eqb 0 workers (λ e. omega arith))
-    ∙ zero-mul (packets / workers)
+-- one place more is known
+abbrev pub begun_at : (ℕ → ℕ) → ℕ → ℕ → ℕ → ℕ
+begun_at begin at place i = if i == at then place else begin i
 
-pub begin_last : (packets workers : ℕ) → begin_of packets workers workers ≡ packets
-begin_last packets workers =
-    ap (λ t. if t then packets else workers * (packets / workers)) (eq-eqb workers workers refl)
+pub begun_here : (begin : ℕ → ℕ) (at place : ℕ) → begun_at begin at place at ≡ place
+begun_here begin at place = ap (λ t. if t then place else begin at) (eq-eqb at at refl)
+
+pub begun_else : (begin : ℕ → ℕ) (at place i : ℕ) → i ≢ at → begun_at begin at place i ≡ begin i
+begun_else begin at place i other = ap (λ t. if t then place else begin i) (ne_eqb i at other)
 
 -- ---- What becomes of chunks
 
@@ -80,24 +80,19 @@ module _ {A B K L : Type 0} (ga : Ghosts A K) (gb : Ghosts B L) (dealer : Dealer
           (let e : k + 0 ≡ k = omega arith in e) (each 0 (Over (Ok chunk)) (omega arith))
 
   -- so many chunks have all packets
-  pub all_chunks : (count : ℕ) (chunks : List DealtChunk) (others : List (Chunk A B)) → 0 < count
+  pub all_chunks : (begin : ℕ → ℕ) (count : ℕ) (chunks : List DealtChunk) (others : List (Chunk A B)) → begin 0 ≡ 0
+      → begin count ≡ length (remaining packets)
       → others ≡ map (λ chunk. Over (Ok chunk)) chunks → length others ≡ count
-      → ((i : ℕ) (d : Chunk A B) → i < count → IsOver ga gb dealer number packets
-      (begin_of (length (remaining packets)) count i)
-      (begin_of (length (remaining packets)) count (i + 1)) (get_or others i d))
+      → ((i : ℕ) (d : Chunk A B) → i < count → IsOver ga gb dealer number packets (begin i) (begin (i + 1)) (get_or others i d))
       → AreDealt ga gb dealer number chunks (remaining packets)
-  all_chunks count chunks others some are many each =
+  all_chunks begin count chunks others starts ends are many each =
       subst (λ n. AreDealt ga gb dealer n chunks (remaining packets)) (let e : number + 0 ≡ number = omega arith in e)
-      (subst (λ n. AreDealt ga gb dealer (number + n) chunks (drop n (remaining packets)))
-      (begin_first (length (remaining packets)) count some)
-      (all_dealt begin count (begin_last (length (remaining packets)) count) 0 chunks counted
+      (subst (λ n. AreDealt ga gb dealer (number + n) chunks (drop n (remaining packets))) starts
+      (all_dealt begin count ends 0 chunks counted
       (λ i d inside. subst (λ n. IsOver ga gb dealer number packets (begin n) (begin (n + 1))
       (get_or (map (λ chunk. Over (Ok chunk)) chunks) i d)) (let e : i ≡ 0 + i = omega arith in e)
       (subst (λ os. IsOver ga gb dealer number packets (begin i) (begin (i + 1)) (get_or os i d)) are
       (each i d (let c = counted in omega arith))))))
     where
-      begin : ℕ → ℕ
-      begin = begin_of (length (remaining packets)) count
-
       counted : 0 + length chunks ≡ count
       counted = let e = sym (length-map chunks (λ p. Over (Ok p))) ∙ (sym (ap length are) ∙ many) in omega arith

@@ -34,6 +34,12 @@ skipped packets before after at None is takes =
 skipped packets before after at (Some packet) is takes =
     sym (left_behind packets after at (packet_facts packet) (sym is ∙ takes))
 
+-- what stands in front stays where more is put behind
+pub front_only : {X : Type 0} (xs ys : List X) (i : ℕ) → i < length xs → slice_get (xs ++ ys) i ≡ slice_get xs i
+front_only [] ys i inside = absurd (omega arith)
+front_only (x ∷ xs) ys zero inside = refl
+front_only (x ∷ xs) ys (suc i) inside = front_only xs ys i (omega arith)
+
 -- where so many are left, one can be taken
 pub some_left : {X : Type 0} (xs : List X) (at : ℕ) → at < length xs → drop at xs ≡ [] → ⊥
 some_left [] at inside none = omega arith

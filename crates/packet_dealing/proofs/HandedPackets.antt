@@ -1,7 +1,7 @@
 -- Packets in the lists of their workers.
 use Rattle.std.specs.Global.{Vec}
 use Rattle.std.specs.List.{AllZip}
-use Rattle.std.proofs.Common.{◌≡◌, ◌≢◌, ◌∙◌, ◌+◌, ◌<◌, ℕ, zero, suc, List, [], ◌∷◌, ◌++◌, Some, All, ap, ap₂, arith, get_or, inl, inr, length, map, refl, slice_get, subst, sym, eq-eqb}
+use Rattle.std.proofs.Common.{◌≡◌, ◌≢◌, ◌∙◌, ◌+◌, ◌<◌, ℕ, suc, List, [], ◌∷◌, ◌++◌, Some, All, ap, ap₂, arith, get_or, inl, inr, length, map, refl, slice_get, subst, sym, eq-eqb}
 use Rattle.std.specs.Prelude.{◌==◌, if◌then◌else◌}
 use Rattle.std.proofs.lemmas.Bool.{ne_eqb}
 use Rattle.std.proofs.lemmas.Bool.Decides.{eqb_tells}
@@ -12,7 +12,7 @@ use Rattle.std.proofs.lemmas.Slice.Zip.{all_zipped_more}
 use Rattle.packet_view.specs.Captures.{PacketFacts, packet_facts}
 use Rattle.packet_view.specs.declared.packet.Packet.{Packet}
 use Rattle.bihash_words.specs.declared.shape.Shape.{Ghosts}
-use Rattle.packet_dealing.proofs.DealtLists.{workers_push}
+use Rattle.packet_dealing.proofs.DealtLists.{front_only, workers_push}
 use Rattle.packet_dealing.specs.Dealt.{AreWorkers, HaveOwn, IsDealtChunk, IsDealtPacket, IsDealtTo, IsFoundOf, IsSightingOf, picked}
 use Rattle.packet_dealing.specs.declared.plain_sighting.PlainSighting.{PlainSighting}
 use Rattle.packet_dealing.specs.declared.dealt_chunk.Found.{Found}
@@ -107,11 +107,6 @@ get_last : {X : Type 0} (xs : List X) (x : X) → slice_get (xs ++ x ∷ []) (le
 get_last [] x = refl
 get_last (y ∷ xs) x = get_last xs x
 
-get_append_left : {X : Type 0} (xs ys : List X) (i : ℕ) → i < length xs → slice_get (xs ++ ys) i ≡ slice_get xs i
-get_append_left [] ys i inside = absurd (omega arith)
-get_append_left (x ∷ xs) ys zero inside = refl
-get_append_left (x ∷ xs) ys (suc i) inside = get_append_left xs ys i (omega arith)
-
 -- each stays where it was, and one more stands behind them
 there_push : (olds news : List PacketFacts)
     → ((i : ℕ) (other : PacketFacts) → slice_get olds i ≡ Some other → slice_get news i ≡ Some other)
@@ -157,7 +152,7 @@ handed_other old mid new worker place packet last workers own more did = record 
       (ap (λ (list : Vec ℕ). length list.items) workers);
   apart = λ w d differ. did.apart w d differ ∙ ap (λ (lists : Vec (Vec DealtPacket)). get_or lists.items w d) own;
   others = λ i other there. ap (λ list. slice_get list i) listed
-      ∙ (get_append_left (map packet_facts old.others.items) (packet_facts packet ∷ []) i
+      ∙ (front_only (map packet_facts old.others.items) (packet_facts packet ∷ []) i
       (slice_get_within (map packet_facts old.others.items) i other there) ∙ there);
 }
   where

@@ -2,7 +2,7 @@
 ghost use Rattle.std.specs.Prelude.{◌≡◌, ◌≤◌, ◌<◌, ◌+◌, ◌^◌, All, IfOk, length, map, Ok};
 ghost use Rattle.packet_view.specs.CheckedCaptures.{remaining};
 ghost use Rattle.packet_dealing.specs.declared.chunk.Chunk.TheVariants.{Over};
-ghost use Rattle.packet_dealing.specs.inner.Chunks.{AreChunksAhead, IsAhead, IsChunkPast, MayDeal, begin_of};
+ghost use Rattle.packet_dealing.specs.inner.Chunks.{AreChunksAhead, IsAhead, IsChunkPast, MayDeal};
 ghost use Rattle.packet_dealing.specs.inner.OwnPackets.{IsEmptyChunk};
 
 use crate::chunk::{Chunk, Job};
@@ -13,38 +13,37 @@ use packet_view::Packets;
 use std::alloc::{AllocError, Global};
 use std::marker::PhantomData;
 
-// The place of the first packet of a chunk's job, of so many chunks. The packets end where one more began.
-fn begin(packets: usize, chunks: usize, chunk: usize) -> usize
-    requires some { 0 < chunks }
-    requires one { chunk ≤ chunks }
-    ensures is { result ≡ begin_of packets chunks chunk }
-    ensures inside { result ≤ packets }
+// How many of the packets that are left the next chunk gets, where so many chunks are left. Whoever deals a chunk passes the
+// packets before it first, which takes about a quarter of the time of dealing them: so each chunk has more than the next.
+fn share(left: usize, chunks: usize) -> usize
+    requires some { 1 ≤ chunks }
+    requires few { chunks ≤ 15 }
+    ensures inside { result ≤ left }
+    ensures last { chunks ≡ 1 → result ≡ left }
 {
-    if chunk == chunks {
-        packets
+    if chunks == 1 {
+        left
     } else {
-        chunk * (packets / chunks)
+        left / (2 * chunks + 1) * 3
     }
 }
 
-// The job of dealing this one of so many chunks of the packets, which is ahead, into an empty one.
+// The job of dealing the packets from one place on, up to another, into an empty chunk, which is ahead.
 fn chunk_ahead<'a, A: Shape, B: Shape>(
     dealer: Dealer,
     number: usize,
     packets: Packets<'a>,
-    chunks: usize,
-    chunk: usize,
+    first: usize,
+    next: usize,
     empty: DealtChunk<'a>,
 ) -> Chunk<'a, A, B>
     requires may { MayDeal ⟦<A as Shape>⟧ ⟦<B as Shape>⟧ dealer }
     requires fits { number + length (remaining packets) < 2 ^ 64 }
-    requires one { chunk < chunks }
+    requires forward { first ≤ next }
+    requires inside { next ≤ length (remaining packets) }
     requires empty { IsEmptyChunk dealer.workers empty }
-    ensures { IsAhead ⟦<A as Shape>⟧ ⟦<B as Shape>⟧ dealer number packets.entry (begin_of (length (remaining packets.entry)) chunks chunk) (begin_of (length (remaining packets.entry)) chunks (chunk + 1)) result }
+    ensures { IsAhead ⟦<A as Shape>⟧ ⟦<B as Shape>⟧ dealer number packets.entry first next result }
 {
-    let count = packets.count();
-    let first = begin(count, chunks, chunk);
-    let next = begin(count, chunks, chunk + 1);
     Chunk::Ahead(Job {
         dealer,
         packets,
@@ -68,14 +67,18 @@ pub fn chunks_ahead<'a, A: Shape, B: Shape>(
 ) -> Result<Vec<Chunk<'a, A, B>>, AllocError>
     requires may { MayDeal ⟦<A as Shape>⟧ ⟦<B as Shape>⟧ dealer }
     requires fits { number + length (remaining packets) < 2 ^ 64 }
+    requires some { 1 ≤ count }
+    requires few { count ≤ 15 }
     ensures { IfOk result (λ v. AreChunksAhead ⟦<A as Shape>⟧ ⟦<B as Shape>⟧ dealer number packets.entry count v.items) }
 {
     let mut kept = kept;
     let mut chunks = Vec::with_capacity(alloc, count)?;
+    let mut first = 0;
     for chunk in 0..count {
-        let share = packets.count() / count;
-        let empty = empty_chunk(alloc, kept.pop(), dealer.workers, share)?;
-        chunks.push(chunk_ahead(dealer, number, packets, count, chunk, empty))?;
+        let next = first + share(packets.count() - first, count - chunk);
+        let empty = empty_chunk(alloc, kept.pop(), dealer.workers, next - first)?;
+        chunks.push(chunk_ahead(dealer, number, packets, first, next, empty))?;
+        first = next;
     }
     Ok(chunks)
 }

@@ -160,8 +160,8 @@ fn rooms_of(alloc: Global, parts: Vec<DealtChunk<'_>>) -> Result<Vec<DealtRoom>,
     Ok(rooms)
 }
 
-// Packets dealt to workers in chunks, and then again into the same lists: the buckets are 2896, 1046 and 2793 of 4096 for the flows of IPv4, and 776 of
-// 1024 for that of IPv6.
+// Packets dealt to workers in chunks, and then again into the same lists: the buckets are 2896, 1046 and 2793 of 4096 for
+// the flows of IPv4, and 776 of 1024 for that of IPv6.
 #[test]
 fn deals_packets_of_several_flows(rt: HostRuntime) -> Result<(), Fail> {
     let frames = [

@@ -1,5 +1,5 @@
 -- Chunks of the packets, which threads deal.
-use Rattle.std.specs.Prelude.{◌≡◌, ◌≤◌, ◌<◌, ℕ, ◌+◌, ◌^◌, ◌*◌, ◌/◌, ◌==◌, if◌then◌else◌, List, length, drop, All, slice_index_or, IfOk}
+use Rattle.std.specs.Prelude.{◌≡◌, ◌≤◌, ◌<◌, ℕ, ◌+◌, ◌^◌, List, length, drop, All, slice_index_or, IfOk}
 use Rattle.packet_view.specs.Captures.{PacketFacts}
 use Rattle.packet_view.specs.CheckedCaptures.{remaining}
 use Rattle.packet_view.specs.declared.packets.Packets.{Packets}
@@ -11,11 +11,6 @@ use Rattle.packet_dealing.specs.declared.dealt_chunk.DealtChunk.{DealtChunk}
 use Rattle.packet_dealing.specs.declared.chunk.Job.{Job}
 use Rattle.packet_dealing.specs.declared.chunk.Chunk.{Chunk}
 use Rattle.packet_dealing.specs.declared.chunk.Chunk.TheVariants.{Ahead, Over}
-
--- The place of a chunk's first packet, of so many packets and chunks. All chunks are as long, but for the last one,
--- which goes on to the end.
-abbrev pub begin_of : ℕ → ℕ → ℕ → ℕ
-begin_of packets chunks chunk = if chunk == chunks then packets else chunk * (packets / chunks)
 
 -- what dealing rests on
 pub record MayDeal {A B K L : Type 0} (ga : Ghosts A K) (gb : Ghosts B L) (dealer : Dealer) : Type 0 where
@@ -72,14 +67,16 @@ abbrev pub IsAhead : {A B K L : Type 0} (ga : Ghosts A K) (gb : Ghosts B L) → 
 IsAhead ga gb dealer number packets first next (Ahead job) = IsJob ga gb dealer number packets first next job
 IsAhead ga gb dealer number packets first next (Over done) = ⊥
 
--- so many chunks of these packets
+-- so many chunks of these packets: each begins where the one before it ends, and together they have all
 pub record AreChunksAhead {A B K L : Type 0} (ga : Ghosts A K) (gb : Ghosts B L) (dealer : Dealer) (number : ℕ)
     (packets : Packets) (count : ℕ) (chunks : List (Chunk A B)) : Type 0 where
   pub ready : All (CanRunChunk ga gb) chunks
   pub many : length chunks ≡ count
+  pub begin : ℕ → ℕ
+  pub first : begin 0 ≡ 0
+  pub last : begin count ≡ length (remaining packets)
   pub each : (i : ℕ) (d : Chunk A B) → i < count
-      → IsAhead ga gb dealer number packets (begin_of (length (remaining packets)) count i)
-      (begin_of (length (remaining packets)) count (i + 1)) (slice_index_or chunks i d)
+      → IsAhead ga gb dealer number packets (begin i) (begin (i + 1)) (slice_index_or chunks i d)
 
 abbrev pub IsChunkPast : {A B : Type 0} → Chunk A B → Type 0
 IsChunkPast (Ahead job) = ⊥

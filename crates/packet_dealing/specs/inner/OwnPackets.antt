@@ -15,10 +15,8 @@ pub record IsEmptyRoom (workers : ℕ) (room : DealtRoom) : Type 0 where
   pub each : All (λ list. list.items ≡ []) room.own.items
 
 -- none of so many workers has a packet yet
-pub record IsEmptyChunk (workers : ℕ) (chunk : DealtChunk) : Type 0 where
-  pub none : chunk.workers.items ≡ []
-  pub count : length chunk.own.items ≡ workers
-  pub each : All (λ list. list.items ≡ []) chunk.own.items
+abbrev pub IsEmptyChunk : ℕ → DealtChunk → Type 0
+IsEmptyChunk workers chunk = IsEmptyRoom workers (record { workers = chunk.workers; own = chunk.own })
 
 -- the next packet was noted as this worker's, with what was found of it
 pub record HasHandedFound (old : DealtChunk) (worker : ℕ) (found : Found) (new : DealtChunk) : Type 0 where

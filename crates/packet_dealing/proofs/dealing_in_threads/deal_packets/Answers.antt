@@ -17,8 +17,8 @@ returns g c =
     let count = c.in_ok-ahead.ensures.many in
     let many = c.in_ok-over.ensures.count in
     IfOk-weaker c.chunks_over.result _ _
-    (λ chunks are. all_chunks g.A.Shape g.B.Shape c.args.dealer c.args.number c.args.packets _ chunks.items
-    c.in_ok-over.over.items (let some = c.max-count.ensures in omega arith) are (many ∙ count)
+    (λ chunks are. all_chunks g.A.Shape g.B.Shape c.args.dealer c.args.number c.args.packets c.in_ok-ahead.ensures.begin _
+    chunks.items c.in_ok-over.over.items c.in_ok-ahead.ensures.first c.in_ok-ahead.ensures.last are (many ∙ count)
     (λ i d inside. turned g.A.Shape g.B.Shape c.args.dealer c.args.number c.args.packets _ _ (get_or c.in_ok-ahead.ahead.items i d)
     (get_or c.in_ok-over.over.items i d)
     (c.in_ok-ahead.ensures.each i d (omega arith)) (c.in_ok-over.ensures.each i d d (omega arith))))
