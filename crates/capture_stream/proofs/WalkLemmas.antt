@@ -4,11 +4,11 @@ use Rattle.std.proofs.lemmas.List.{drop-append-le, drop-drop, length-append, len
 use Rattle.std.proofs.KnownBytes.{Consumes-nil, Consumes-trans}
 use Rattle.packet_view.specs.Captures.{AreRecords, IsEnd, IsTooLong, PacketFacts, RecordFacts, end_of, kept_length, kept_limit, packet_at, packets_at}
 use Rattle.packet_view.specs.Fronts.{Stops}
-use Rattle.packet_view.specs.CheckedCaptures.{records_of}
+use Rattle.packet_view.specs.CheckedCaptures.{packets_of}
 use Rattle.packet_view.specs.declared.capture.Order.{Order}
 use Rattle.packet_view.specs.declared.records_at_front.Stop.TheVariants.{TooLong}
 use Rattle.packet_view.specs.declared.packets.Packets.TheVariants as kind
-use Rattle.packet_view.specs.declared.packets_of_records.Records.{Records}
+use Rattle.packet_view.specs.declared.record_marks.MarkedRecords.{MarkedRecords}
 use Rattle.packet_view.proofs.FrontLemmas.{records_appended, records_joined}
 use Rattle.packet_view.proofs.RecordLemmas.{number_from-append}
 use Rattle.packet_view.proofs.RecordListLemmas.{packets_count, records_within}
@@ -66,14 +66,14 @@ front_few Became walk may =
     let bound = may.bound in
     omega arith
 
-pub front_follow : {J : Type 0} (Became : J → List PacketFacts → J → Type 0) (walk : Walk J) (records : Records) → MayAdvance Became walk
-    → records_of records ≡ records_ahead walk → CanFollow Became walk.judges (kind.Records records)
-front_follow Became walk records may same =
+pub front_follow : {J : Type 0} (Became : J → List PacketFacts → J → Type 0) (walk : Walk J) (marked : MarkedRecords) → MayAdvance Became walk
+    → packets_of marked.records ≡ packets_at walk.interface (records_ahead walk) → CanFollow Became walk.judges (kind.Marked marked)
+front_follow Became walk marked may same =
     let count = packets_count walk.order walk.found.count (ahead_of walk) in
     let size = ap length same in
     let within = records_within walk.order (ahead_of walk) (records_ahead walk) (rest_of walk) may.found.records in
     let room = may.room in
-    let later = length-map (records_of records) (packet_at records.interface) in
+    let later = length-map (records_ahead walk) (packet_at walk.interface) in
     record { begun = may.begun; packets = may.packets; stand = may.stand; fits = omega arith }
 
 pub front_long : {J : Type 0} (walk : Walk J) → HaveFound walk.order (ahead_of walk) walk.found → walk.found.stop ≡ TooLong

@@ -58,6 +58,7 @@ fn judge_window<J: Tellers + Drop>(
         count,
         behind,
         stop,
+        ..
     } = find_records(&window, order);
     spare.clear();
     spare.extend_from_slice(&window[window.len() - behind..])?;

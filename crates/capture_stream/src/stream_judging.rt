@@ -6,8 +6,10 @@ ghost use Rattle.capture_stream.specs.Streams.{HasStreamed, IsSize, IsStreamFaul
 ghost use Rattle.capture_stream.specs.inner.Walks.{HasAdvanced, HasEnded, IsLastFault, IsWindowFault, MayAdvance};
 
 use crate::packet_judges::Judges;
-use crate::windows_of_records::{Found, NextWindow, WindowSize, find_records, judge_and_read};
-use packet_view::{Order, Packets, Records, Stop};
+use crate::windows_of_records::{
+    Found, NextWindow, WindowSize, find_records, found_records, judge_and_read,
+};
+use packet_view::{Order, Packets, Stop};
 use racl_io::{Fault, MOST_BYTES, ReadBuffer, Source, drain};
 use std::alloc::Global;
 use std::thread::Threads;
@@ -87,6 +89,7 @@ fn next_window<J: Judges + Drop, T: Threads, R: Source + Send>(
         count,
         behind,
         stop,
+        ..
     } = found;
     if matches!(stop, Stop::TooLong) {
         match drain(reader, read) {
@@ -98,15 +101,10 @@ fn next_window<J: Judges + Drop, T: Threads, R: Source + Send>(
     let Ok(()) = spare.hold(&bytes[bytes.len() - behind..]) else {
         return Err(Fault::Memory);
     };
-    let records = Records {
-        bytes: &bytes[from..],
-        order,
-        interface,
-        count,
-    };
+    let marked = found_records(&bytes[from..], order, interface, &found);
     let more = size.beside(read, behind).min(MOST_BYTES + 1 - read);
     let least = behind + more;
-    let (judged, next) = judge_and_read(beside, judges, records, reader, &mut spare, least);
+    let (judged, next) = judge_and_read(beside, judges, marked, reader, &mut spare, least);
     let NextWindow { found, ended } = match next {
         Ok(next) => next,
         Err(fault) => return Err(fault),
@@ -152,13 +150,8 @@ fn last_window<J: Judges + Drop>(walk: Walk<J>) -> Result<Streamed<J>, Fault>
         Stop::Truncated => true,
         Stop::TooLong => return Err(Fault::LongRecord((packets + found.count) as u64 + 1)),
     };
-    let records = Records {
-        bytes: &window.bytes()[from..],
-        order,
-        interface,
-        count: found.count,
-    };
-    let judges = judges.judge(Packets::Records(records))?;
+    let marked = found_records(&window.bytes()[from..], order, interface, &found);
+    let judges = judges.judge(Packets::Marked(marked))?;
     Ok(Streamed {
         judges,
         packets: packets + found.count,

@@ -1,6 +1,8 @@
 //! One window of a capture, and the next one.
-ghost use Rattle.std.specs.Prelude.{◌≤◌, IfOk};
+ghost use Rattle.std.specs.Prelude.{◌≡◌, ◌≤◌, IfOk};
+ghost use Rattle.packet_view.specs.Captures.{packets_at};
 ghost use Rattle.packet_view.specs.CheckedCaptures.{packets_of};
+ghost use Rattle.packet_view.specs.RecordLists.{records_from};
 ghost use Rattle.packet_view.specs.declared.packets.Packets.TheVariants as kind;
 ghost use Rattle.racl_io.specs.Buffers.{held_by};
 ghost use Rattle.capture_stream.specs.Judging.{CanFollow, HaveFollowed};
@@ -8,7 +10,9 @@ ghost use Rattle.capture_stream.specs.inner.Found.{HaveFound};
 ghost use Rattle.capture_stream.specs.inner.Windows.{CanJudge, HasReadMore, HaveJudged, MayRead};
 
 use crate::packet_judges::Judges;
-use packet_view::{Front, Order, Packets, Records, Stop, front_records};
+use packet_view::{
+    Front, MARKS, Mark, MarkedRecords, Order, Packets, Records, Stop, front_records,
+};
 use racl_io::{Fault, ReadBuffer, Source};
 use std::alloc::AllocError;
 use std::mem;
@@ -23,14 +27,14 @@ enum WindowJudges<J> {
 }
 
 // Those who are ahead of a window's packets judge them.
-fn judge_window_records<J: Judges + Drop>(judging: &mut WindowJudges<J>, records: Records<'_>)
-    requires { CanJudge J.became judging.old (kind.Records records) }
-    ensures { HaveJudged J.became judging.old (packets_of records.entry) judging.new }
+fn judge_window_records<J: Judges + Drop>(judging: &mut WindowJudges<J>, marked: MarkedRecords<'_>)
+    requires { CanJudge J.became judging.old (kind.Marked marked) }
+    ensures { HaveJudged J.became judging.old (packets_of marked.entry.records) judging.new }
 {
     let WindowJudges::Ahead(judges) = mem::replace(judging, WindowJudges::Under) else {
         unreachable!()
     };
-    *judging = WindowJudges::Over(judges.judge(Packets::Records(records)));
+    *judging = WindowJudges::Over(judges.judge(Packets::Marked(marked)));
 }
 
 /// How many bytes a window has, at least and at most, while the input has more. One that begins with more than half as many
@@ -66,6 +70,8 @@ pub struct Found {
     pub behind: usize,
     /// Why they end there.
     pub stop: Stop,
+    /// Places where some of them begin.
+    pub marks: [Mark; MARKS],
 }
 
 /// A window whose bytes were read.
@@ -83,6 +89,7 @@ pub fn find_records(bytes: &[u8], order: Order) -> Found
 {
     let Front {
         records,
+        marks,
         rest,
         stop,
     } = front_records(bytes, order, 0);
@@ -90,6 +97,29 @@ pub fn find_records(bytes: &[u8], order: Order) -> Found
         count: records.count,
         behind: rest.len(),
         stop,
+        marks,
+    }
+}
+
+/// The records that were found at the front of these bytes, of a capture that was taken at the interface with this number.
+pub fn found_records<'a>(
+    bytes: &'a [u8],
+    order: Order,
+    interface: u8,
+    found: &'a Found,
+) -> MarkedRecords<'a>
+    requires { HaveFound order bytes.now found.now }
+    ensures order { result.records.order ≡ order }
+    ensures packets { packets_of result.records ≡ packets_at interface (records_from order found.now.count bytes.now) }
+{
+    MarkedRecords {
+        records: Records {
+            bytes,
+            order,
+            interface,
+            count: found.count,
+        },
+        marks: &found.marks,
     }
 }
 
@@ -116,19 +146,19 @@ fn read_and_find<R: Source>(
 pub fn judge_and_read<J: Judges + Drop, T: Threads, R: Source + Send>(
     beside: Option<&T>,
     judges: J,
-    records: Records<'_>,
+    marked: MarkedRecords<'_>,
     reader: &mut R,
     next: &mut ReadBuffer,
     least: usize,
 ) -> (Result<J, AllocError>, Result<NextWindow, Fault>)
-    requires can { CanFollow J.became judges (kind.Records records) }
+    requires can { CanFollow J.became judges (kind.Marked marked) }
     requires may { MayRead (R.failures reader.old) least }
-    ensures judged { IfOk result.0 (HaveFollowed J.became judges (packets_of records.entry)) }
-    ensures read { HasReadMore R.bytes R.failures reader.old reader.new (held_by next.old) (held_by next.new) least records.entry.order result.1 }
+    ensures judged { IfOk result.0 (HaveFollowed J.became judges (packets_of marked.entry.records)) }
+    ensures read { HasReadMore R.bytes R.failures reader.old reader.new (held_by next.old) (held_by next.new) least marked.entry.records.order result.1 }
 {
-    let order = records.order;
+    let order = marked.records.order;
     let Some(rt) = beside else {
-        let judged = judges.judge(Packets::Records(records));
+        let judged = judges.judge(Packets::Marked(marked));
         return (judged, read_and_find(reader, next, least, order));
     };
     let mut judging = WindowJudges::Ahead(judges);
@@ -139,10 +169,10 @@ pub fn judge_and_read<J: Judges + Drop, T: Threads, R: Source + Send>(
             ensures { HasReadMore R.bytes R.failures reader.entry.now reader.exit.now (held_by next.entry.now) (held_by next.exit.now) least order result }
         { read_and_find(reader, next, least, order) },
         &mut ||
-            requires { CanJudge J.became judging (kind.Records records) }
-            ensures { HaveJudged J.became judging.entry (packets_of records.entry) judging.exit }
+            requires { CanJudge J.became judging (kind.Marked marked) }
+            ensures { HaveJudged J.became judging.entry (packets_of marked.entry.records) judging.exit }
         {
-            judge_window_records(&mut judging, records);
+            judge_window_records(&mut judging, marked);
         },
     );
     match judging {

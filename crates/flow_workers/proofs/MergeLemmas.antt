@@ -12,9 +12,10 @@ use Rattle.packet_view.specs.Frames as frames
 use Rattle.packet_view.specs.Interfaces.{Interface}
 use Rattle.packet_view.specs.inner.FrameSteps.{view_of}
 use Rattle.packet_view.proofs.FrameLemmas.{view_only, view_shown}
+use Rattle.packet_view.proofs.BurstLemmas.{left_behind}
 use Rattle.bihash_words.specs.declared.shape.Shape.{Ghosts}
 use Rattle.bihash_steps.proofs.Lists.{at_after, there, within}
-use Rattle.packet_dealing.proofs.DealtLists.{left_behind, none_left, there_behind}
+use Rattle.packet_dealing.proofs.DealtLists.{none_left, there_behind}
 use Rattle.std.proofs.Math.Seq.{drop-append_seam}
 use Rattle.packet_dealing.specs.Dealt.{AreWorkers}
 use Rattle.packet_dealing.specs.declared.packet_worker.Dealer.{Dealer}

@@ -8,8 +8,9 @@ use Rattle.std.proofs.lemmas.Option.{slice_get_within}
 use Rattle.packet_view.specs.Captures.{PacketFacts, packet_facts}
 use Rattle.packet_view.specs.CheckedCaptures.{remaining}
 use Rattle.packet_view.specs.declared.packet.Packet.{Packet}
+use Rattle.packet_view.proofs.BurstLemmas.{left_behind}
 use Rattle.bihash_words.specs.declared.shape.Shape.{Ghosts}
-use Rattle.packet_dealing.proofs.DealtLists.{left_behind, none_left, stands_at}
+use Rattle.packet_dealing.proofs.DealtLists.{none_left, stands_at}
 use Rattle.packet_dealing.proofs.HandedPackets.{none_picked, none_there, picked_mine, picked_other}
 use Rattle.packet_dealing.specs.Dealt.{IsDealtPacket, IsDealtTo, IsFoundOf, picked}
 use Rattle.packet_dealing.specs.declared.dealt_chunk.DealtPacket.{DealtPacket}

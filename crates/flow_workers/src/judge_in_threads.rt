@@ -25,16 +25,9 @@ fn note_workers(alloc: Global, dealt: &[DealtChunk<'_>]) -> Result<Vec<u8>, Allo
     Ok(judges)
 }
 
-// The lists of these chunks, for the next packets. Those of the first chunk are the longest, and come last, where the next
-// first chunk takes its lists.
-fn keep_rooms(
-    mut dealt: Vec<DealtChunk<'_>>,
-    rooms: &mut Vec<DealtRoom>,
-) -> Result<(), AllocError> {
-    for _ in 0..dealt.len() {
-        let Some(chunk) = dealt.pop() else {
-            break;
-        };
+// The lists of these chunks, for the next packets.
+fn keep_rooms(dealt: Vec<DealtChunk<'_>>, rooms: &mut Vec<DealtRoom>) -> Result<(), AllocError> {
+    for chunk in dealt {
         rooms.push(chunk.room())?;
     }
     Ok(())

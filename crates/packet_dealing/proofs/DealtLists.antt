@@ -1,38 +1,14 @@
 -- Packets that are dealt one by one.
-use Rattle.std.proofs.Common.{◌≡◌, ◌∙◌, ◌+◌, ◌<◌, ◌≤◌, ℕ, zero, suc, List, [], ◌∷◌, ◌++◌, length, drop, Option, Some, None, ap, refl, sym, subst, inl, inr, arith, add-one, drop-drop, slice_get}
+use Rattle.std.proofs.Common.{◌≡◌, ◌∙◌, ◌+◌, ◌<◌, ◌≤◌, ℕ, zero, suc, List, [], ◌∷◌, ◌++◌, length, drop, Some, ap, refl, sym, subst, inl, inr, arith, drop-drop, slice_get}
 use Rattle.std.proofs.lemmas.Bool.Decides.{eqb_tells}
 use Rattle.std.proofs.lemmas.List.{get_or_append_left, get_or_push, length_push}
 use Rattle.std.proofs.lemmas.Option.{slice_get_past, slice_get_within}
-use Rattle.packet_view.specs.Captures.{PacketFacts, Takes, packet_facts}
-use Rattle.packet_view.specs.declared.packet.Packet.{Packet}
+use Rattle.packet_view.specs.Captures.{PacketFacts}
 use Rattle.bihash_words.specs.declared.shape.Shape.{Ghosts}
 use Rattle.packet_dealing.specs.Dealt.{AreWorkers, IsDealtTo}
 use Rattle.packet_dealing.specs.declared.packet_worker.Dealer.{Dealer}
 
--- ---- What is left behind packets that were taken
-
-left_behind_next : {X : Type 0} (xs ys : List X) (at : ℕ) (x : X) → drop at xs ≡ x ∷ ys → drop (suc at) xs ≡ ys
-left_behind_next [] ys zero x e = absurd (let f : ⊥ = cc in f)
-left_behind_next [] ys (suc at) x e = absurd (let f : ⊥ = cc in f)
-left_behind_next (y ∷ xs) ys zero x e = cc
-left_behind_next (y ∷ xs) ys (suc at) x e = left_behind_next xs ys at x e
-
-pub left_behind : {X : Type 0} (xs ys : List X) (at : ℕ) (x : X) → drop at xs ≡ x ∷ ys → drop (at + 1) xs ≡ ys
-left_behind xs ys at x e = ap (λ k. drop k xs) (add-one at) ∙ left_behind_next xs ys at x e
-
-nothing_left : {X : Type 0} (xs : List X) (at : ℕ) → drop at xs ≡ [] → drop (suc at) xs ≡ []
-nothing_left [] zero none = refl
-nothing_left [] (suc at) none = refl
-nothing_left (x ∷ xs) zero none = absurd (let f : ⊥ = cc in f)
-nothing_left (x ∷ xs) (suc at) none = nothing_left xs at none
-
--- one packet more is skipped, or none is left
-pub skipped : (packets before after : List PacketFacts) (at : ℕ) (taken : Option Packet) → before ≡ drop at packets
-    → Takes before taken after → after ≡ drop (at + 1) packets
-skipped packets before after at None is takes =
-    takes.1 ∙ sym (ap (λ k. drop k packets) (add-one at) ∙ nothing_left packets at (sym is ∙ takes.0))
-skipped packets before after at (Some packet) is takes =
-    sym (left_behind packets after at (packet_facts packet) (sym is ∙ takes))
+-- ---- Where a packet stands
 
 -- what stands in front stays where more is put behind
 pub front_only : {X : Type 0} (xs ys : List X) (i : ℕ) → i < length xs → slice_get (xs ++ ys) i ≡ slice_get xs i

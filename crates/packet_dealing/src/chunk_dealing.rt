@@ -1,7 +1,6 @@
 //! One chunk of the packets, which a thread deals.
-ghost use Rattle.std.specs.Prelude.{◌≡◌, drop, length, IfOk};
+ghost use Rattle.std.specs.Prelude.{◌≡◌, length, IfOk};
 ghost use Rattle.packet_view.specs.Captures.{packet_facts};
-ghost use Rattle.packet_view.specs.CheckedCaptures.{remaining};
 ghost use Rattle.packet_dealing.specs.inner.Chunks.{CanDeal, HasDealtNext, IsChunkOfJob, MayDeal};
 
 use crate::chunk::Job;
@@ -9,20 +8,8 @@ use crate::dealt_chunk::DealtChunk;
 use crate::packet_worker::{Dealer, worker_by_sighting, worker_by_view};
 use crate::plain_sighting::sighting_of;
 use bihash_words::Shape;
-use packet_view::{Packet, PacketBursts, Packets};
+use packet_view::{Packet, PacketBursts};
 use std::alloc::AllocError;
-
-// The packets from the first of the dealt chunk on, where so many stand before it. In bursts they are passed faster than
-// one by one.
-fn skip_to_chunk<'a>(packets: Packets<'a>, count: usize) -> PacketBursts<'a>
-    ensures { result.left ≡ drop count (remaining packets.entry) }
-{
-    let mut rest = PacketBursts::new(packets);
-    for _ in 0..count {
-        rest.next();
-    }
-    rest
-}
 
 // Deals the next packet of a chunk, which has this number.
 #[inline(always)]
@@ -54,7 +41,7 @@ pub fn deal_chunk<'a, A: Shape, B: Shape>(job: Job<'a, A, B>) -> Result<DealtChu
     ensures { IfOk result (IsChunkOfJob ⟦<A as Shape>⟧ ⟦<B as Shape>⟧ job.entry) }
 {
     let mut chunk = job.chunk;
-    let mut packets = skip_to_chunk(job.packets, job.first);
+    let mut packets = PacketBursts::new(job.packets.behind(job.first));
     for at in job.first..job.next {
         let Some(packet) = packets.next() else {
             unreachable!()

@@ -13,19 +13,13 @@ use packet_view::Packets;
 use std::alloc::{AllocError, Global};
 use std::marker::PhantomData;
 
-// How many of the packets that are left the next chunk gets, where so many chunks are left. Whoever deals a chunk passes the
-// packets before it first, which takes about a quarter of the time of dealing them: so each chunk has more than the next.
+// How many of the packets that are left the next chunk gets, where so many chunks are left.
 fn share(left: usize, chunks: usize) -> usize
-    requires some { 1 ≤ chunks }
-    requires few { chunks ≤ 15 }
+    requires { 1 ≤ chunks }
     ensures inside { result ≤ left }
     ensures last { chunks ≡ 1 → result ≡ left }
 {
-    if chunks == 1 {
-        left
-    } else {
-        left / (2 * chunks + 1) * 3
-    }
+    if chunks == 1 { left } else { left / chunks }
 }
 
 // The job of dealing the packets from one place on, up to another, into an empty chunk, which is ahead.
@@ -68,7 +62,6 @@ pub fn chunks_ahead<'a, A: Shape, B: Shape>(
     requires may { MayDeal ⟦<A as Shape>⟧ ⟦<B as Shape>⟧ dealer }
     requires fits { number + length (remaining packets) < 2 ^ 64 }
     requires some { 1 ≤ count }
-    requires few { count ≤ 15 }
     ensures { IfOk result (λ v. AreChunksAhead ⟦<A as Shape>⟧ ⟦<B as Shape>⟧ dealer number packets.entry count v.items) }
 {
     let mut kept = kept;

@@ -1,10 +1,37 @@
--- Packets that are put into places one after another, and taken from there.
-use Rattle.std.proofs.Common.{◌≡◌, ◌∙◌, ◌<◌, ◌≤◌, ◌+◌, ◌-◌, ◌++◌, ℕ, List, [], ◌∷◌, append_assoc, ap, ap₂, arith}
+-- Packets that are taken one after another, or put into places and taken from there.
+use Rattle.std.proofs.Common.{◌≡◌, ◌∙◌, ◌<◌, ◌≤◌, ◌+◌, ◌-◌, ◌++◌, ℕ, zero, suc, List, [], ◌∷◌, Option, Some, None, add-one, append_assoc, ap, ap₂, arith, refl}
 use Rattle.std.proofs.Common.{drop, length, map, slice_index_or, slice_set, sym, take}
 use Rattle.std.proofs.lemmas.List.{drop_more, get_or-take, length-take-le, map-append}
 use Rattle.std.proofs.lemmas.List.{take-append-drop, take_at, take_more_set, take_rest}
 use Rattle.packet_view.specs.declared.packet.Packet.{Packet}
-use Rattle.packet_view.specs.Captures.{PacketFacts, packet_facts}
+use Rattle.packet_view.specs.Captures.{PacketFacts, Takes, packet_facts}
+
+-- ---- What is left behind packets that were taken
+
+left_behind_next : {X : Type 0} (xs ys : List X) (at : ℕ) (x : X) → drop at xs ≡ x ∷ ys → drop (suc at) xs ≡ ys
+left_behind_next [] ys zero x e = absurd (let f : ⊥ = cc in f)
+left_behind_next [] ys (suc at) x e = absurd (let f : ⊥ = cc in f)
+left_behind_next (y ∷ xs) ys zero x e = cc
+left_behind_next (y ∷ xs) ys (suc at) x e = left_behind_next xs ys at x e
+
+pub left_behind : {X : Type 0} (xs ys : List X) (at : ℕ) (x : X) → drop at xs ≡ x ∷ ys → drop (at + 1) xs ≡ ys
+left_behind xs ys at x e = ap (λ k. drop k xs) (add-one at) ∙ left_behind_next xs ys at x e
+
+nothing_left : {X : Type 0} (xs : List X) (at : ℕ) → drop at xs ≡ [] → drop (suc at) xs ≡ []
+nothing_left [] zero none = refl
+nothing_left [] (suc at) none = refl
+nothing_left (x ∷ xs) zero none = absurd (let f : ⊥ = cc in f)
+nothing_left (x ∷ xs) (suc at) none = nothing_left xs at none
+
+-- one packet more is taken, or none is left
+pub one_less : (packets before after : List PacketFacts) (at : ℕ) (taken : Option Packet) → before ≡ drop at packets
+    → Takes before taken after → after ≡ drop (at + 1) packets
+one_less packets before after at None is takes =
+    takes.1 ∙ sym (ap (λ k. drop k packets) (add-one at) ∙ nothing_left packets at (sym is ∙ takes.0))
+one_less packets before after at (Some packet) is takes =
+    sym (left_behind packets after at (packet_facts packet) (sym is ∙ takes))
+
+-- ---- Places
 
 -- the packet at the front of those that are left is put behind those that were found
 pub found_more : (found : List Packet) (count : ℕ) (packet : Packet) (left others all : List PacketFacts)

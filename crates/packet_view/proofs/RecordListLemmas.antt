@@ -1,9 +1,9 @@
 -- Records that are known to be whole, one after the other.
-use Rattle.std.proofs.Common.{◌≡◌, ◌≢◌, ◌≤◌, ◌+◌, ◌++◌, ◌-◌, ◌∙◌, ℕ, zero, suc, List, [], ◌∷◌, drop, length}
+use Rattle.std.proofs.Common.{◌≡◌, ◌≢◌, ◌≤◌, ◌+◌, ◌++◌, ◌-◌, ◌∙◌, ℕ, zero, suc, List, [], ◌∷◌, drop, length, take}
 use Rattle.std.proofs.Common.{ap, ap₂, refl, subst, sym, arith}
-use Rattle.std.proofs.lemmas.List.{drop-drop, length-append, length-drop}
+use Rattle.std.proofs.lemmas.List.{drop-drop, drop-map, length-append, length-drop, take_all}
 use Rattle.packet_view.specs.declared.capture.Order.{Order}
-use Rattle.packet_view.specs.Captures.{AreRecords, IsPiece, RecordFacts, Record}
+use Rattle.packet_view.specs.Captures.{AreRecords, IsPiece, RecordFacts, Record, packet_at, packets_at}
 use Rattle.packet_view.specs.RecordLists.{bytes_of, front_record, records_from, record_length}
 use Rattle.packet_view.proofs.FrontLemmas.{records_joined}
 use Rattle.packet_view.proofs.RecordLemmas.{part_front}
@@ -100,3 +100,57 @@ before_listed order bytes rest count (packets, all, length-is) =
       size = listed.1;
       after = records_behind order bytes packets rest all;
     }
+
+-- so many records have as many bytes as stand before the rest
+pub before_mark : (order : Order) (bytes rest : List ℕ) (count : ℕ) → AreBefore order bytes rest count
+    → bytes_of order count bytes ≡ length bytes - length rest
+before_mark order bytes rest count before = let size = (before_listed order bytes rest count before).size in omega arith
+
+-- records behind others have the bytes behind theirs
+bytes_behind : (order : Order) (m n : ℕ) (bytes : List ℕ) → m ≤ n
+    → bytes_of order n bytes ≡ bytes_of order m bytes + bytes_of order (n - m) (drop (bytes_of order m bytes) bytes)
+bytes_behind order zero n bytes within = let e : n ≡ n - 0 = omega arith in let same = ap (λ k. bytes_of order k bytes) e in omega arith
+bytes_behind order (suc m) zero bytes within = absurd (omega arith)
+bytes_behind order (suc m) (suc n) bytes within =
+    let size : ℕ = record_length order bytes in
+    let e : n - m ≡ suc n - suc m = omega arith in
+    let more = bytes_behind order m n (drop size bytes) (omega arith) in
+    let same = ap₂ (bytes_of order) e (drop-drop (bytes_of order m (drop size bytes)) size bytes) in
+    omega arith
+
+-- and are those that are left of all
+records_left : (order : Order) (m n : ℕ) (bytes : List ℕ) → m ≤ n
+    → records_from order (n - m) (drop (bytes_of order m bytes) bytes) ≡ drop m (records_from order n bytes)
+records_left order zero n bytes within = let e : n - 0 ≡ n = omega arith in ap (λ k. records_from order k bytes) e
+records_left order (suc m) zero bytes within = absurd (omega arith)
+records_left order (suc m) (suc n) bytes within =
+    let size : ℕ = record_length order bytes in
+    let e : suc n - suc m ≡ n - m = omega arith in
+    ap₂ (records_from order) e (sym (drop-drop (bytes_of order m (drop size bytes)) size bytes))
+    ∙ records_left order m n (drop size bytes) (omega arith)
+
+-- whole records from a place on where one begins, as a part of the bytes, are whole, and are those that are left
+module _ (order : Order) (m n : ℕ) (bytes : List ℕ) (at : ℕ) (within : m ≤ n) (mark : bytes_of order m bytes ≡ at)
+    (whole : bytes_of order n bytes ≤ length bytes) where
+  abbrev part : List ℕ
+  part = take (length bytes - at) (drop at bytes)
+
+  part_is : part ≡ drop at bytes
+  part_is = let size = length-drop at bytes in take_all (length bytes - at) (drop at bytes) (omega arith)
+
+  pub mark_inside : at ≤ length bytes
+  mark_inside = let split = bytes_behind order m n bytes within in omega arith
+
+  pub left_whole : bytes_of order (n - m) part ≤ length part
+  left_whole =
+      let split = bytes_behind order m n bytes within in
+      let size = length-drop at bytes in
+      let same = ap (λ k. bytes_of order (n - m) (drop k bytes)) mark in
+      subst (λ b. bytes_of order (n - m) b ≤ length b) (sym part_is) (omega arith)
+
+  pub packets_left : (interface : ℕ) → packets_at interface (records_from order (n - m) part)
+      ≡ drop m (packets_at interface (records_from order n bytes))
+  packets_left interface =
+      ap (λ b. packets_at interface (records_from order (n - m) b)) (part_is ∙ ap (λ k. drop k bytes) (sym mark))
+      ∙ ap (packets_at interface) (records_left order m n bytes within)
+      ∙ sym (drop-map (packet_at interface) m (records_from order n bytes))

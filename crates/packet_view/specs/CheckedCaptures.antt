@@ -18,6 +18,7 @@ packets_of records = packets_at records.interface (records_of records)
 abbrev pub remaining : Packets → List PacketFacts
 remaining (kind.Slice packets) = map packet_facts packets.now
 remaining (kind.Records records) = packets_of records
+remaining (kind.Marked marked) = packets_of marked.records
 
 -- packets of which some may be found already: those that are left, and how many of them are found
 pub record BurstFacts : Type 0 where

@@ -9,6 +9,7 @@ pub mod Interfaces
 pub mod IpPackets
 pub mod Ipv4
 pub mod Ipv6
+pub mod Marks
 pub mod PlainFrames
 pub mod RecordLists
 pub mod Transport

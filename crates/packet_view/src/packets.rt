@@ -1,10 +1,11 @@
 //! Packets that are taken one by one.
-ghost use Rattle.std.specs.Prelude.{◌≡◌, ◌≤◌, ◌++◌, [], length, map, take};
+ghost use Rattle.std.specs.Prelude.{◌≡◌, ◌≤◌, ◌++◌, [], drop, length, map, take};
 ghost use Rattle.packet_view.specs.Captures.{Takes, packet_facts};
 ghost use Rattle.packet_view.specs.CheckedCaptures.{remaining};
 
 use crate::packet::Packet;
 use crate::packets_of_records::{BURST, Records};
+use crate::record_marks::MarkedRecords;
 
 /// Packets that are taken one by one, in their order. A copy has a front of its own.
 #[derive(Clone, Copy)]
@@ -13,6 +14,8 @@ pub enum Packets<'a> {
     Slice(&'a [Packet<'a>]),
     /// From a capture's records, where they stand.
     Records(Records<'a>),
+    /// From a capture's records, some of which are reached without the ones before them.
+    Marked(MarkedRecords<'a>),
 }
 
 impl<'a> Packets<'a> {
@@ -23,7 +26,25 @@ impl<'a> Packets<'a> {
         match self {
             Packets::Slice(packets) => packets.len(),
             Packets::Records(records) => records.count(),
+            Packets::Marked(marked) => marked.records.count(),
         }
+    }
+
+    /// The packets behind the first ones, of which there are so many.
+    pub fn behind(self, count: usize) -> Packets<'a>
+        ensures { remaining result ≡ drop count (remaining self.entry) }
+    {
+        let (mut rest, before) = match self {
+            Packets::Marked(marked) => {
+                let (records, before) = marked.from_last_before(count);
+                (Packets::Records(records), before)
+            }
+            Packets::Slice(_) | Packets::Records(_) => (self, 0),
+        };
+        for _at in before..count {
+            rest.next();
+        }
+        rest
     }
 
     /// Takes the first packet that is left.
@@ -39,7 +60,7 @@ impl<'a> Packets<'a> {
                 *self = Packets::Slice(&packets[1..]);
                 Some(packets[0])
             }
-            Packets::Records(mut records) => {
+            Packets::Records(mut records) | Packets::Marked(MarkedRecords { mut records, .. }) => {
                 let packet = records.next();
                 *self = Packets::Records(records);
                 packet
@@ -61,7 +82,7 @@ impl<'a> Packets<'a> {
                 *self = Packets::Slice(&packets[count..]);
                 count
             }
-            Packets::Records(mut records) => {
+            Packets::Records(mut records) | Packets::Marked(MarkedRecords { mut records, .. }) => {
                 let count = records.take_into(places);
                 *self = Packets::Records(records);
                 count

@@ -1,13 +1,15 @@
 //! The record at the front of some bytes, and the whole records there.
-ghost use Rattle.std.specs.Prelude.{◌≡◌, ◌≤◌, IfSome};
+ghost use Rattle.std.specs.Prelude.{◌≡◌, ◌≤◌, All, IfSome};
 ghost use Rattle.packet_view.specs.Captures.{AreRecords, IsPiece, PieceFacts, Record, piece_facts};
 ghost use Rattle.packet_view.specs.CheckedCaptures.{records_of};
 ghost use Rattle.packet_view.specs.Fronts.{IsSplit, Stops};
+ghost use Rattle.packet_view.specs.Marks.{IsMark};
 ghost use Rattle.packet_view.specs.RecordLists.{front_record};
 ghost use Rattle.packet_view.specs.inner.RecordSteps.{part_of};
 
 use crate::capture::{Order, u32_in};
 use crate::packets_of_records::Records;
+use crate::record_marks::{MARKS, Mark, MarkNotes};
 
 /// The most bytes that a record keeps of a frame.
 const KEPT_LIMIT: usize = 262_144;
@@ -78,6 +80,8 @@ pub enum Stop {
 #[derive(Clone, Copy)]
 pub struct Front<'a> {
     pub records: Records<'a>,
+    /// Places where some of them begin.
+    pub marks: [Mark; MARKS],
     /// The bytes behind them.
     pub rest: &'a [u8],
     pub stop: Stop,
@@ -105,13 +109,19 @@ pub fn front_records(bytes: &[u8], order: Order, interface: u8) -> Front<'_>
     ensures records { AreRecords order bytes.now (records_of result.records) result.rest.now }
     ensures stop { Stops order result.rest.now result.stop }
     ensures split { IsSplit order bytes.now result }
+    ensures marks { All (IsMark order bytes.now) result.marks }
     ensures at { result.records.interface ≡ interface }
 {
     let mut rest = bytes;
     let mut count = 0;
+    let mut notes = MarkNotes::new(bytes.len());
     // Most records keep as many bytes as the one before. Nothing but speed depends on this guess.
     let mut predicted_len = 0;
     'records: loop {
+        notes.note(Mark {
+            count,
+            at: bytes.len() - rest.len(),
+        });
         if let Some(behind) = rest_if_len(rest, order, predicted_len) {
             rest = behind;
             count += 1;
@@ -140,6 +150,7 @@ pub fn front_records(bytes: &[u8], order: Order, interface: u8) -> Front<'_>
         };
         return Front {
             records,
+            marks: notes.marks,
             rest,
             stop,
         };

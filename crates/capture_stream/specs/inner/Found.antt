@@ -1,7 +1,8 @@
 -- Whole records at the front of some bytes, as numbers.
-use Rattle.std.specs.Prelude.{◌≡◌, ◌+◌, ◌-◌, ℕ, List, drop, length}
+use Rattle.std.specs.Prelude.{◌≡◌, ◌+◌, ◌-◌, ℕ, All, List, drop, length}
 use Rattle.packet_view.specs.Captures.{AreRecords}
 use Rattle.packet_view.specs.Fronts.{Stops}
+use Rattle.packet_view.specs.Marks.{IsMark}
 use Rattle.packet_view.specs.RecordLists.{bytes_of, records_from}
 use Rattle.packet_view.specs.declared.capture.Order.{Order}
 use Rattle.capture_stream.specs.declared.windows_of_records.Found.{Found}
@@ -15,3 +16,4 @@ pub record HaveFound (order : Order) (bytes : List ℕ) (found : Found) : Type 0
   pub size : bytes_of order found.count bytes + found.behind ≡ length bytes
   pub records : AreRecords order bytes (records_from order found.count bytes) (behind_of bytes found)
   pub stop : Stops order (behind_of bytes found) found.stop
+  pub marks : All (IsMark order bytes) found.marks

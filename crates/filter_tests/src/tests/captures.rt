@@ -2,9 +2,10 @@
 use super::filter_test_refused;
 use super::frames::UDP;
 use packet_view::{
-    Order, Packet, PacketBursts, Packets, Piece, Stop, capture_header, check_capture,
-    front_records, next_record, read_capture,
+    MarkedRecords, Order, Packet, PacketBursts, Packets, Piece, Stop, capture_header,
+    check_capture, front_records, next_record, read_capture,
 };
+use std::alloc::AllocError;
 use std::test::Fail;
 
 /// A header and three records of 42 bytes, little-endian, with microseconds.
@@ -108,6 +109,18 @@ fn frame_length(number: u8) -> u8 {
     if number % 10 == 9 { 9 } else { 4 }
 }
 
+// Puts the records 0 to 149 of a test's capture behind these bytes.
+fn push_numbered(bytes: &mut Vec<u8>) -> Result<(), AllocError> {
+    for number in 0..150u8 {
+        let kept = frame_length(number);
+        bytes.extend_from_slice(&[number, 0, 0, 0, 0, 0, 0, 0, kept, 0, 0, 0, kept, 0, 0, 0])?;
+        for _ in 0..kept {
+            bytes.push(number)?;
+        }
+    }
+    Ok(())
+}
+
 // Whether these are the packets of a test's capture with the records 0 to 149, each at the second of its number, with
 // bytes of its number.
 fn are_numbered(mut packets: PacketBursts<'_>) -> bool {
@@ -136,13 +149,7 @@ fn are_listed_by_number<'a>(packets: &'a [Packet<'a>]) -> bool {
 fn takes_packets_that_are_found_ahead(rt: HostRuntime) -> Result<(), Fail> {
     let mut bytes = Vec::new(rt.alloc());
     bytes.extend_from_slice(&LITTLE[..24])?;
-    for number in 0..150u8 {
-        let kept = frame_length(number);
-        bytes.extend_from_slice(&[number, 0, 0, 0, 0, 0, 0, 0, kept, 0, 0, 0, kept, 0, 0, 0])?;
-        for _ in 0..kept {
-            bytes.push(number)?;
-        }
-    }
+    push_numbered(&mut bytes)?;
     let Ok(checked) = check_capture(&bytes, 0) else {
         return filter_test_refused();
     };
@@ -153,5 +160,27 @@ fn takes_packets_that_are_found_ahead(rt: HostRuntime) -> Result<(), Fail> {
         return filter_test_refused();
     };
     assert!(rt; are_listed_by_number(&capture.packets));
+    Ok(())
+}
+
+/// A capture of 150 records: the packets behind any number of them begin with the one of that number.
+#[test]
+fn takes_the_packets_behind_others(rt: HostRuntime) -> Result<(), Fail> {
+    let mut bytes = Vec::new(rt.alloc());
+    push_numbered(&mut bytes)?;
+    let front = front_records(&bytes, Order::Little, 0);
+    let packets = Packets::Marked(MarkedRecords {
+        records: front.records,
+        marks: &front.marks,
+    });
+    for number in 0..150u8 {
+        let mut behind = packets.behind(usize::from(number));
+        assert_eq!(rt; behind.count(), 150 - usize::from(number));
+        assert_eq!(rt;
+            behind.next().map(|packet| packet.moment),
+            Some(u32::from(number))
+        );
+    }
+    assert!(rt; packets.behind(150).next().is_none() && packets.behind(151).next().is_none());
     Ok(())
 }

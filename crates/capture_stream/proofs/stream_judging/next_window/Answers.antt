@@ -1,6 +1,7 @@
-use Rattle.std.proofs.Common.{Err, ◌≡◌, ◌≤◌, ◌+◌, ◌-◌, ◌∙◌, ap, arith, length, refl, rules, subst}
+use Rattle.std.proofs.Common.{Err, ◌≡◌, ◌≤◌, ◌+◌, ◌-◌, ◌∙◌, ap, arith, length, refl, rules, subst, sym}
 use Rattle.std.proofs.lemmas.List.{length-append}
 use Rattle.packet_view.specs.Captures.{packets_at}
+use Rattle.packet_view.specs.CheckedCaptures.{packets_of}
 use Rattle.packet_view.specs.RecordLists.{records_from}
 use Rattle.racl_io.specs.Buffers.{held_by}
 use Rattle.racl_io.specs.Inputs.{most_bytes}
@@ -20,11 +21,18 @@ overflow_add-result-in-Ok g c = let few = front_few _ c.args.walk c.requires.may
 pub returns-in-Ok-clause-walk : goal.returns-in-Ok-clause-walk
 returns-in-Ok-clause-walk g c = (front_long c.args.walk c.requires.may.found (search rules), c.in-Ok.ensures.read)
 
+pub found_records-marked-requires : goal.found_records-marked-requires
+found_records-marked-requires g c =
+    let walk = c.args.walk in
+    let ahead = part_from c.bytes-bytes.result.now (held_by walk.window) walk.from c.bytes-bytes.ensures in
+    subst (λ b. HaveFound walk.order b walk.found) (sym ahead) c.requires.may.found
+
 pub judge_and_read-judged-requires-clause-can : goal.judge_and_read-judged-requires-clause-can
 judge_and_read-judged-requires-clause-can g c κs within =
     let walk = c.args.walk in
     let ahead = part_from c.bytes-bytes.result.now (held_by walk.window) walk.from c.bytes-bytes.ensures in
-    front_follow _ walk _ c.requires.may (ap (records_from walk.order walk.found.count) ahead)
+    front_follow _ walk _ c.requires.may
+    (c.found_records-marked.ensures.packets ∙ ap (λ b. packets_at walk.interface (records_from walk.order walk.found.count b)) ahead)
 
 pub overflow_add-result-2 : goal.overflow_add-result-2
 overflow_add-result-2 g c = let few = front_few _ c.args.walk c.requires.may in omega arith
@@ -43,9 +51,12 @@ returns-clause-walk g c =
     let some = c.beside.ensures.some in
     let least = behind + c.min-more.result in
     let has_read : HasRead before after spare new least c.in-Ok-next.next.ended = search rules in
-    let found : HaveFound old.order new c.in-Ok-next.next.found = search rules in
+    let has_found : HaveFound c.found_records-marked.result.records.order new c.in-Ok-next.next.found = search rules in
+    let found = subst (λ o. HaveFound o new c.in-Ok-next.next.found) c.found_records-marked.ensures.order has_found in
     let ahead = part_from bytes (held_by old.window) old.from c.bytes-bytes.ensures in
-    let judged : HaveFollowed g.J.Judges.became old.judges (packets_at old.interface (records_from old.order old.found.count _)) c.in-Ok-judged.judges = search rules in
+    let followed : HaveFollowed g.J.Judges.became old.judges (packets_of c.found_records-marked.result.records) c.in-Ok-judged.judges = search rules in
+    let judged = subst (λ ps. HaveFollowed g.J.Judges.became old.judges ps c.in-Ok-judged.judges)
+    (c.found_records-marked.ensures.packets ∙ ap (λ b. packets_at old.interface (records_from old.order old.found.count b)) ahead) followed in
     let long = ap length c.bytes.ensures in
     let size : old.read + (length c.bytes.result.now - behind) ≡ old.read + (length new - behind) = omega arith in
     let bound : old.read + (length c.bytes.result.now - behind) ≤ most_bytes = omega arith in

@@ -2,7 +2,8 @@ use Rattle.std.proofs.Common.{[], ◌≡◌, ◌∙◌, arith, length, subst, sy
 use Rattle.std.proofs.lemmas.Bool.{eqb-true}
 use Rattle.packet_view.specs.Captures.{packet_facts}
 use Rattle.packet_view.specs.CheckedCaptures.{remaining}
-use Rattle.packet_dealing.proofs.DealtLists.{left_behind, none_left, stands_at}
+use Rattle.packet_view.proofs.BurstLemmas.{left_behind}
+use Rattle.packet_dealing.proofs.DealtLists.{none_left, stands_at}
 use Rattle.flow_workers.specs.inner.Jobs.{dealer_of}
 use Rattle.flow_workers.specs.inner.Together.{HaveNotedSome}
 use Rattle.flow_workers.proofs.TogetherLemmas.{all_worked_on, all_worked_to, idle_after, none_noted, none_worked, noted_push, only_worked}

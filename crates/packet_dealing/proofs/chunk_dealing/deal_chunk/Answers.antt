@@ -2,8 +2,9 @@ use Rattle.std.proofs.Common.{◌≡◌, ◌∙◌, ◌+◌, ap, subst, sym, ari
 use Rattle.std.proofs.lemmas.List.{length_push}
 use Rattle.packet_view.specs.Captures.{packet_facts}
 use Rattle.packet_view.specs.CheckedCaptures.{remaining}
+use Rattle.packet_view.proofs.BurstLemmas.{left_behind}
 use Rattle.packet_dealing.specs.Dealt.{IsDealtTo}
-use Rattle.packet_dealing.proofs.DealtLists.{left_behind, next_there, some_left}
+use Rattle.packet_dealing.proofs.DealtLists.{next_there, some_left}
 use Rattle.packet_dealing.proofs.HandedPackets.{dealt_push, none_dealt}
 use Rattle.packet_dealing.proofs.chunk_dealing.deal_chunk.Goals as goal
 
@@ -20,7 +21,7 @@ loop-at-init g c =
     let none = ap length c.requires.empty.none in
     record {
       count = omega arith;
-      left = sym c.skip_to_chunk-packets.ensures;
+      left = sym (c.new-packets.ensures ∙ c.behind.ensures);
       dealt = none_dealt g.A.Shape g.B.Shape job.dealer (job.number + job.first) (drop job.first (remaining job.packets))
           job.chunk c.requires.empty;
     }

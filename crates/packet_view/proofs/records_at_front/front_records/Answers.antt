@@ -3,12 +3,18 @@ use Rattle.packet_view.specs.Captures.{IsPiece, RecordFacts}
 use Rattle.packet_view.specs.Fronts.{Stops}
 use Rattle.packet_view.specs.RecordLists.{bytes_of, front_record}
 use Rattle.packet_view.proofs.RecordLemmas.{part_shown}
-use Rattle.packet_view.proofs.RecordListLemmas.{before_few, before_listed, before_more}
+use Rattle.packet_view.proofs.RecordListLemmas.{before_few, before_listed, before_mark, before_more}
 use Rattle.packet_view.proofs.records_at_front.front_records.Goals as goal
 use Rattle.packet_view.proofs.records_at_front.front_records.Goals.{in-End, in-TooLong, in-Truncated}
 
 pub records-init : goal.records-init
-records-init c = (([], refl, refl), lit≤ tt)
+records-init c = (([], refl, refl), lit≤ tt, c.new-notes.ensures c.args.order c.args.bytes.now)
+
+pub overflow_sub-bytes : goal.overflow_sub-bytes
+overflow_sub-bytes c =
+    let listed = before_listed c.args.order c.args.bytes.now c.records.rest.now c.records.count c.records.invariant.0 in
+    let size = listed.size in
+    omega arith
 
 pub overflow_add-count : goal.overflow_add-count
 overflow_add-count c =
@@ -22,6 +28,8 @@ records-preserved-in-Some c =
       before_more c.args.order (front_record c.args.order rest) c.in-Some.behind.now c.args.bytes.now rest
           c.records.count c.records.invariant.0 front,
       c.records.invariant.1,
+      c.note.ensures c.args.order c.args.bytes.now (before_mark c.args.order c.args.bytes.now c.records.rest.now c.records.count c.records.invariant.0)
+          c.records.invariant.2,
     )
 
 pub overflow_add-count-in-Whole : goal.overflow_add-count-in-Whole
@@ -35,6 +43,8 @@ records-preserved c =
       before_more c.args.order packet c.in-Whole.behind.now c.args.bytes.now c.records.rest.now c.records.count
           c.records.invariant.0 c.in-Whole.ensures.shown,
       c.in-Whole.ensures.shown.2.limit,
+      c.note.ensures c.args.order c.args.bytes.now (before_mark c.args.order c.args.bytes.now c.records.rest.now c.records.count c.records.invariant.0)
+          c.records.invariant.2,
     )
 
 pub invariant_of-records : goal.invariant_of-records
@@ -66,3 +76,8 @@ returns-in-records-clause-split c =
       after = listed.after;
       behind = listed.after ∙ ap (λ n. drop n c.args.bytes.now) size;
     }
+
+pub returns-in-records-clause-marks : goal.returns-in-records-clause-marks
+returns-in-records-clause-marks c =
+    c.note.ensures c.args.order c.args.bytes.now (before_mark c.args.order c.args.bytes.now c.records.rest.now c.records.count c.records.invariant.0)
+    c.records.invariant.2
