@@ -13,8 +13,9 @@ use std::alloc::{AllocError, Global};
 use std::thread::Threads;
 
 /// The packets, whose numbers begin with this one, with the workers that judge them, in their order, in chunks. Each is found
-/// by a thread of its own, or by this one where no thread can be made. There is one chunk less than workers, since another
-/// thread may read meanwhile, and at least one. The lists are those that were kept of earlier packets, as far as there are any.
+/// by a thread of its own, or by this one where no thread can be made. There are as many chunks as workers, but of more than
+/// three one less, since another thread may read meanwhile. The lists are those that were kept of earlier packets, as far as
+/// there are any.
 pub fn deal_packets<'a, A: Shape + Send, B: Shape + Send, R: Threads + Sync>(
     rt: &R,
     alloc: Global,
@@ -32,7 +33,7 @@ where
     requires fits { number + length (remaining packets) < 2 ^ 64 }
     ensures { IfOk result (λ chunks. AreDealt ⟦<A as Shape>⟧ ⟦<B as Shape>⟧ dealer number chunks.items (remaining packets.entry)) }
 {
-    let count = (dealer.workers - 1).max(1);
+    let count = dealer.workers.min(3).max(dealer.workers - 1);
     let ahead = chunks_ahead::<A, B>(alloc, dealer, number, packets, count, kept)?;
     let over = run_all(rt, ahead)?;
     chunks_over(alloc, over)
