@@ -16,13 +16,14 @@ pub struct Mark {
     pub at: usize,
 }
 
-/// The places that are noted while records are found, the next one from this place on.
+/// The places that are noted while records are found.
 #[derive(Drop)]
 pub(crate) struct MarkNotes {
     pub(crate) marks: [Mark; MARKS],
     noted: usize,
     apart: usize,
-    due: usize,
+    /// Where fewer bytes are left, the next place is due.
+    pub(crate) enough: usize,
     ghost many: { length marks ≡ 64 },
 }
 
@@ -40,19 +41,18 @@ impl MarkNotes {
             marks: [Mark { count: 0, at: 0 }; MARKS],
             noted: 0,
             apart,
-            due: apart,
+            enough: bytes.saturating_sub(apart),
         }
     }
 
-    /// Notes this place where one is due.
-    #[inline(always)]
-    pub(crate) fn note(&mut self, mark: Mark)
+    /// Notes this place, with so many bytes from there on, where one is due.
+    pub(crate) fn note(&mut self, mark: Mark, left: usize)
         ensures { (order : Order) (bytes : List ℕ) → IsMark order bytes mark → All (IsMark order bytes) self.old.marks → All (IsMark order bytes) self.new.marks }
     {
-        if self.due <= mark.at && self.noted < MARKS {
+        if left < self.enough && self.noted < MARKS {
             self.marks[self.noted] = mark;
             self.noted += 1;
-            self.due = mark.at.saturating_add(self.apart);
+            self.enough = left.saturating_sub(self.apart);
         }
     }
 }

@@ -1,5 +1,5 @@
 //! The record at the front of some bytes, and the whole records there.
-ghost use Rattle.std.specs.Prelude.{◌≡◌, ◌≤◌, All, IfSome};
+ghost use Rattle.std.specs.Prelude.{◌≡◌, ◌≤◌, ◌+◌, All, IfSome, length};
 ghost use Rattle.packet_view.specs.Captures.{AreRecords, IsPiece, PieceFacts, Record, piece_facts};
 ghost use Rattle.packet_view.specs.CheckedCaptures.{records_of};
 ghost use Rattle.packet_view.specs.Fronts.{IsSplit, Stops};
@@ -87,16 +87,14 @@ pub struct Front<'a> {
     pub stop: Stop,
 }
 
-// Where the record at the front is whole and keeps so many bytes, the bytes after it. They are found from that
-// number and not from the one that was read: so the walk goes on before the read is done.
+// Where the record at the front keeps so many bytes, the bytes after it. They are found from that number and not from the
+// one that was read: so the walk goes on before the read is done.
 #[inline(always)]
 fn rest_if_len(rest: &[u8], order: Order, predicted_len: usize) -> Option<&[u8]>
-    requires { predicted_len ≤ 262144 }
+    requires few { predicted_len ≤ 262144 }
+    requires long { 16 + predicted_len ≤ length rest.now }
     ensures { IfSome result (λ behind. part_of order rest.now ≡ Record (front_record order rest.now) behind.now) }
 {
-    if rest.len() < 16 + predicted_len {
-        return None;
-    }
     if u32_in(order, &rest[8..]) as usize != predicted_len {
         return None;
     }
@@ -117,16 +115,18 @@ pub fn front_records(bytes: &[u8], order: Order, interface: u8) -> Front<'_>
     let mut notes = MarkNotes::new(bytes.len());
     // Most records keep as many bytes as the one before. Nothing but speed depends on this guess.
     let mut predicted_len = 0;
+    // Where fewer bytes are left, such a record isn't whole, or a place is to be noted.
+    let mut enough = 16;
     'records: loop {
-        notes.note(Mark {
-            count,
-            at: bytes.len() - rest.len(),
-        });
-        if let Some(behind) = rest_if_len(rest, order, predicted_len) {
-            rest = behind;
-            count += 1;
-            continue;
+        if enough <= rest.len() {
+            if let Some(behind) = rest_if_len(rest, order, predicted_len) {
+                rest = behind;
+                count += 1;
+                continue;
+            }
         }
+        let at = bytes.len() - rest.len();
+        notes.note(Mark { count, at }, rest.len());
         let stop = match next_record(rest, order) {
             Piece::Whole {
                 frame,
@@ -134,6 +134,7 @@ pub fn front_records(bytes: &[u8], order: Order, interface: u8) -> Front<'_>
                 ..
             } => {
                 predicted_len = frame.len();
+                enough = (16 + predicted_len).max(notes.enough);
                 rest = behind;
                 count += 1;
                 continue;
