@@ -1,7 +1,7 @@
 -- Packets that are taken one after another, or put into places and taken from there.
 use Rattle.std.proofs.Common.{◌≡◌, ◌∙◌, ◌<◌, ◌≤◌, ◌+◌, ◌-◌, ◌++◌, ℕ, zero, suc, List, [], ◌∷◌, Option, Some, None, add-one, append_assoc, ap, ap₂, arith, refl}
 use Rattle.std.proofs.Common.{drop, length, map, slice_index_or, slice_set, sym, take}
-use Rattle.std.proofs.lemmas.List.{drop_more, get_or-take, length-take-le, map-append}
+use Rattle.std.proofs.lemmas.List.{drop_all, drop_more, get_or-take, length-drop, length-take-le, map-append}
 use Rattle.std.proofs.lemmas.List.{take-append-drop, take_at, take_more_set, take_rest}
 use Rattle.packet_view.specs.declared.packet.Packet.{Packet}
 use Rattle.packet_view.specs.Captures.{PacketFacts, Takes, packet_facts}
@@ -30,6 +30,13 @@ one_less packets before after at None is takes =
     takes.1 ∙ sym (ap (λ k. drop k packets) (add-one at) ∙ nothing_left packets at (sym is ∙ takes.0))
 one_less packets before after at (Some packet) is takes =
     sym (left_behind packets after at (packet_facts packet) (sym is ∙ takes))
+
+-- where none is left behind some, none is left behind more
+pub none_behind : {X : Type 0} (xs : List X) (at count : ℕ) → drop at xs ≡ [] → at ≤ count → drop count xs ≡ []
+none_behind xs at count none past =
+    let size = length-drop at xs in
+    let empty = ap length none in
+    drop_all count xs (omega arith)
 
 -- ---- Places
 

@@ -42,7 +42,9 @@ impl<'a> Packets<'a> {
             Packets::Slice(_) | Packets::Records(_) => (self, 0),
         };
         for _at in before..count {
-            rest.next();
+            let Some(_) = rest.next() else {
+                break;
+            };
         }
         rest
     }

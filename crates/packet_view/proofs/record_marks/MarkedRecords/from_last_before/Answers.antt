@@ -9,11 +9,7 @@ slice_bounds-rest-count c =
     mark_inside records.order last.count records.count records.bytes.now last.at within mark records.whole
 
 pub slice_bounds-rest-start : goal.slice_bounds-rest-start
-slice_bounds-rest-start c =
-    let records = c.args.self.now.records in
-    let last = c.loop-mark.last in
-    let (mark, before, within) = c.loop-mark.invariant in
-    mark_inside records.order last.count records.count records.bytes.now last.at within mark records.whole
+slice_bounds-rest-start c = slice_bounds-rest-count c
 
 pub invariant_of-rest : goal.invariant_of-rest
 invariant_of-rest c =
