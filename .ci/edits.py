@@ -333,8 +333,7 @@ class Trial:
         with tempfile.TemporaryDirectory() as room:
             begun, kept = f"{self.crate.folder}/out/incremental", f"{room}/kept"
             if os.path.isdir(begun):
-                # by links where these can be made: a check replaces what it kept, and changes none of it
-                self.rt.linked(begun, kept)
+                shutil.copytree(begun, kept)
             else:
                 os.mkdir(kept)
             for together in self.rounds():
