@@ -17,77 +17,65 @@ const fn bucket_word_block(log2: u64, linear: bool) -> BlockSize
 #[test]
 fn bucket_words(rt: HostRuntime) {
     let word = BucketWord::pack(5, bucket_word_block(1, true), false, 6);
-    assert_eq!(rt; word.to_word(), 0x3_2100_0005);
-    assert_eq!(rt; word.with_lock().to_word(), 0x3_6100_0005);
-    assert_eq!(rt; word.with_lock().with_lock().to_word(), 0x3_6100_0005);
-    assert_eq!(rt; BucketWord::of(0x3_2100_0005), word);
-    assert_eq!(rt; word.page(), 5);
-    assert_eq!(rt; word.log2(), 1);
+    assert!(rt; word.to_word() == 0x3_2100_0005);
+    assert!(rt; word.with_lock().to_word() == 0x3_6100_0005);
+    assert!(rt; word.with_lock().with_lock().to_word() == 0x3_6100_0005);
+    assert!(rt; BucketWord::of(0x3_2100_0005) == word);
+    assert!(rt; word.page() == 5);
+    assert!(rt; word.log2() == 1);
     assert!(rt; word.linear());
-    assert_eq!(rt; word.block_size(), bucket_word_block(1, true));
+    assert!(rt; word.block_size() == bucket_word_block(1, true));
     assert!(rt; !word.locked());
     assert!(rt; word.with_lock().locked());
-    assert_eq!(rt; word.version(), 6);
+    assert!(rt; word.version() == 6);
     let greatest = BucketWord::of(0xffff_ffff_9fff_ffff);
-    assert_eq!(rt; greatest.page(), 0xff_ffff);
-    assert_eq!(rt; greatest.log2(), 31);
+    assert!(rt; greatest.page() == 0xff_ffff);
+    assert!(rt; greatest.log2() == 31);
     assert!(rt; !greatest.linear());
-    assert_eq!(rt; greatest.version(), 8_589_934_591);
+    assert!(rt; greatest.version() == 8_589_934_591);
 }
 
 // Words of `bihash_words`: that of a bucket after one more change.
 #[test]
 fn next_bucket_word(rt: HostRuntime) {
     let word = BucketWord::pack(5, bucket_word_block(1, true), false, 6);
-    assert_eq!(rt;
-        word.next(5, bucket_word_block(1, true)).to_word(),
-        0x3_a100_0005
-    );
+    assert!(rt; word.next(5, bucket_word_block(1, true)).to_word() == 0x3_a100_0005);
     let locked = BucketWord::pack(5, bucket_word_block(1, true), true, 6);
-    assert_eq!(rt;
-        locked.next(0, bucket_word_block(0, false)).to_word(),
-        0x3_8000_0000
-    );
+    assert!(rt; locked.next(0, bucket_word_block(0, false)).to_word() == 0x3_8000_0000);
 }
 
 // Words of `bihash_words`: published values of the mixing step, and the hash of a key in each shape.
 #[test]
 fn hashes(rt: HostRuntime) {
-    assert_eq!(rt; mix(0), 0);
-    assert_eq!(rt; mix(0x9e37_79b9_7f4a_7c15), 0xe220_a839_7b1d_cdaf);
-    assert_eq!(rt; mix(0x3c6e_f372_fe94_f82a), 0x6e78_9e6a_a1b9_65f4);
+    assert!(rt; mix(0) == 0);
+    assert!(rt; mix(0x9e37_79b9_7f4a_7c15) == 0xe220_a839_7b1d_cdaf);
+    assert!(rt; mix(0x3c6e_f372_fe94_f82a) == 0x6e78_9e6a_a1b9_65f4);
     let hash = ShapeV4::hash(&[0, 0x9e37_79b9_7f4a_7c15]);
-    assert_eq!(rt; hash, 0xe220_a839_7b1d_cdaf);
-    assert_eq!(rt; ShapeV4::hash(&[0, 0]), 0);
-    assert_eq!(rt;
-        ShapeV6::hash(&[0, 0, 0, 0, 0x3c6e_f372_fe94_f82a]),
-        0x6e78_9e6a_a1b9_65f4
-    );
-    assert_eq!(rt; Tiny::<8, 1000>::hash(&[12, 0]), 12);
+    assert!(rt; hash == 0xe220_a839_7b1d_cdaf);
+    assert!(rt; ShapeV4::hash(&[0, 0]) == 0);
+    assert!(rt; ShapeV6::hash(&[0, 0, 0, 0, 0x3c6e_f372_fe94_f82a]) == 0x6e78_9e6a_a1b9_65f4);
+    assert!(rt; Tiny::<8, 1000>::hash(&[12, 0]) == 12);
 }
 
 // Words of `bihash_words`: the bucket of a key in each shape.
 #[test]
 fn buckets(rt: HostRuntime) {
-    assert_eq!(rt; bucket_of::<ShapeV4>(&[0, 0x9e37_79b9_7f4a_7c15]), 3503);
+    assert!(rt; bucket_of::<ShapeV4>(&[0, 0x9e37_79b9_7f4a_7c15]) == 3503);
     // The lowest ten bits of 0x6e78_9e6a_a1b9_65f4.
-    assert_eq!(rt;
-        bucket_of::<ShapeV6>(&[0, 0, 0, 0, 0x3c6e_f372_fe94_f82a]),
-        0x1f4
-    );
-    assert_eq!(rt; bucket_of::<Tiny<8, 1000>>(&[12, 0]), 0);
-    assert_eq!(rt; bucket_of::<Tiny<8, 1000>>(&[7, 0]), 1);
+    assert!(rt; bucket_of::<ShapeV6>(&[0, 0, 0, 0, 0x3c6e_f372_fe94_f82a]) == 0x1f4);
+    assert!(rt; bucket_of::<Tiny<8, 1000>>(&[12, 0]) == 0);
+    assert!(rt; bucket_of::<Tiny<8, 1000>>(&[7, 0]) == 1);
 }
 
 // Words of `bihash_words`: those that a key of each shape is made of, and whether two keys are the same.
 #[test]
 fn keys(rt: HostRuntime) {
-    assert_eq!(rt; ShapeV4::key(&[7, 8]), [7, 8]);
-    assert_eq!(rt; ShapeV4::word(&[7, 8], 1), 8);
-    assert_eq!(rt; ShapeV6::key(&[1, 2, 3, 4, 5]), [1, 2, 3, 4, 5]);
-    assert_eq!(rt; ShapeV6::word(&[1, 2, 3, 4, 5], 4), 5);
-    assert_eq!(rt; Tiny::<8, 1000>::key(&[7, 8]), [7, 8]);
-    assert_eq!(rt; Tiny::<8, 1000>::word(&[7, 8], 0), 7);
+    assert!(rt; ShapeV4::key(&[7, 8]) == [7, 8]);
+    assert!(rt; ShapeV4::word(&[7, 8], 1) == 8);
+    assert!(rt; ShapeV6::key(&[1, 2, 3, 4, 5]) == [1, 2, 3, 4, 5]);
+    assert!(rt; ShapeV6::word(&[1, 2, 3, 4, 5], 4) == 5);
+    assert!(rt; Tiny::<8, 1000>::key(&[7, 8]) == [7, 8]);
+    assert!(rt; Tiny::<8, 1000>::word(&[7, 8], 0) == 7);
     assert!(rt; is_same::<ShapeV4>(&[7, 8], &[7, 8]));
     assert!(rt; !is_same::<ShapeV4>(&[7, 8], &[7, 9]));
     assert!(rt; !is_same::<ShapeV6>(&[1, 2, 3, 4, 5], &[1, 2, 3, 4, 6]));
@@ -97,14 +85,14 @@ fn keys(rt: HostRuntime) {
 #[test]
 fn fixed_patches(rt: HostRuntime) {
     let add = Add { value: 7 };
-    assert_eq!(rt; add.decide(None), Change::Set(7));
-    assert_eq!(rt; add.decide(Some(5)), Change::Set(7));
+    assert!(rt; add.decide(None) == Change::Set(7));
+    assert!(rt; add.decide(Some(5)) == Change::Set(7));
     let add_if_absent = AddIfAbsent { value: 7 };
-    assert_eq!(rt; add_if_absent.decide(None), Change::Set(7));
-    assert_eq!(rt; add_if_absent.decide(Some(5)), Change::Keep);
-    assert_eq!(rt; Delete.decide(None), Change::Remove);
-    assert_eq!(rt; Delete.decide(Some(5)), Change::Remove);
+    assert!(rt; add_if_absent.decide(None) == Change::Set(7));
+    assert!(rt; add_if_absent.decide(Some(5)) == Change::Keep);
+    assert!(rt; Delete.decide(None) == Change::Remove);
+    assert!(rt; Delete.decide(Some(5)) == Change::Remove);
     let touch = Touch { value: 7 };
-    assert_eq!(rt; touch.decide(None), Change::Keep);
-    assert_eq!(rt; touch.decide(Some(5)), Change::Set(7));
+    assert!(rt; touch.decide(None) == Change::Keep);
+    assert!(rt; touch.decide(Some(5)) == Change::Set(7));
 }

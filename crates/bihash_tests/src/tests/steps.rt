@@ -37,11 +37,11 @@ fn rows_of_both_flow_shapes_open(rt: HostRuntime) -> Result<(), Fail> {
     let Ok((four, mut first)) = open_row::<ShapeV4>(rt.alloc()) else {
         return steps_refused();
     };
-    assert_eq!(rt; four.load_count(&mut first.seat), 1);
+    assert!(rt; four.load_count(&mut first.seat) == 1);
     let Ok((six, mut first)) = open_row::<ShapeV6>(rt.alloc()) else {
         return steps_refused();
     };
-    assert_eq!(rt; six.load_count(&mut first.seat), 1);
+    assert!(rt; six.load_count(&mut first.seat) == 1);
     Ok(())
 }
 
@@ -60,12 +60,12 @@ fn split_steps_make_a_caller(rt: HostRuntime) -> Result<(), Fail> {
     let Ok((row, mut first)) = open_row::<Small>(rt.alloc()) else {
         return steps_refused();
     };
-    assert_eq!(rt; counts(&row, &mut first), (1, 1));
+    assert!(rt; counts(&row, &mut first) == (1, 1));
     let Some((mut first, mut second)) = split(rt.alloc(), &row, first) else {
         return steps_refused();
     };
-    assert_eq!(rt; counts(&row, &mut second), (2, 1));
-    assert_eq!(rt; counts(&row, &mut first), (2, 1));
+    assert!(rt; counts(&row, &mut second) == (2, 1));
+    assert!(rt; counts(&row, &mut first) == (2, 1));
     Ok(())
 }
 
@@ -79,8 +79,8 @@ fn meet_steps_keep_numbers(rt: HostRuntime) -> Result<(), Fail> {
         return steps_refused();
     };
     let (first, second) = row.meet(first, second);
-    assert_eq!(rt; (first.seat.numbers(), second.seat.numbers()), (1, 1));
-    assert_eq!(rt; (first.seat.stamp(), second.seat.stamp()), (None, None));
+    assert!(rt; (first.seat.numbers(), second.seat.numbers()) == (1, 1));
+    assert!(rt; (first.seat.stamp(), second.seat.stamp()) == (None, None));
     Ok(())
 }
 
@@ -99,10 +99,10 @@ fn join_steps_add_numbers(rt: HostRuntime) -> Result<(), Fail> {
         return steps_refused();
     };
     let (mut both, mut third) = row.meet(both, third);
-    assert_eq!(rt; counts(&row, &mut both), (3, 2));
-    assert_eq!(rt; counts(&row, &mut third), (3, 1));
+    assert!(rt; counts(&row, &mut both) == (3, 2));
+    assert!(rt; counts(&row, &mut third) == (3, 1));
     let mut all = row.join(both, third);
-    assert_eq!(rt; counts(&row, &mut all), (3, 3));
+    assert!(rt; counts(&row, &mut all) == (3, 3));
     Ok(())
 }
 
@@ -114,16 +114,16 @@ fn lone_caller_takes_both_locks_and_opens_them(rt: HostRuntime) -> Result<(), Fa
     };
     let seat = &mut first.seat;
     let word = row.load_bucket(seat, 1);
-    assert_eq!(rt; word.to_word(), 0);
+    assert!(rt; word.to_word() == 0);
     assert!(rt; row.lock_from(seat, 1, word));
     assert!(rt; row.pool_lock(seat));
-    assert_eq!(rt; row.pool_load(seat, PoolWord::Used), 0);
-    assert_eq!(rt; row.pool_load(seat, PoolWord::Count(2)), 0);
+    assert!(rt; row.pool_load(seat, PoolWord::Used) == 0);
+    assert!(rt; row.pool_load(seat, PoolWord::Count(2)) == 0);
     row.pool_unlock(seat);
     row.release(seat, 1, word);
-    assert_eq!(rt; row.load_bucket(seat, 1).to_word(), 0);
-    assert_eq!(rt; seat.stamp(), None);
-    assert_eq!(rt; seat.numbers(), 1);
+    assert!(rt; row.load_bucket(seat, 1).to_word() == 0);
+    assert!(rt; seat.stamp() == None);
+    assert!(rt; seat.numbers() == 1);
     Ok(())
 }
 
@@ -137,13 +137,13 @@ fn split_steps_end_at_64_callers(rt: HostRuntime) -> Result<(), Fail> {
         let Some((old, mut new)) = split(rt.alloc(), &row, caller) else {
             return steps_refused();
         };
-        assert_eq!(rt; row.load_count(&mut new.seat), made);
+        assert!(rt; row.load_count(&mut new.seat) == made);
         caller = old;
     }
     let Err((fault, mut caller)) = row.split(rt.alloc(), caller) else {
         return Err("a sixty-fifth caller was made")?;
     };
-    assert_eq!(rt; fault, SplitFault::Numbers);
-    assert_eq!(rt; row.load_count(&mut caller.seat), 64);
+    assert!(rt; fault == SplitFault::Numbers);
+    assert!(rt; row.load_count(&mut caller.seat) == 64);
     Ok(())
 }

@@ -24,22 +24,19 @@ fn flow(key: FlowKey) -> Option<Flow> {
 /// Dealing in turn goes by a packet's number, whatever its flow.
 #[test]
 fn dealing_in_turn(rt: HostRuntime) {
-    assert_eq!(rt; worker_in(Dealing::Round, None), 4);
-    assert_eq!(rt;
-        worker_in(Dealing::Round, flow(FlowKey::Four([0, STEP]))),
-        4
-    );
+    assert!(rt; worker_in(Dealing::Round, None) == 4);
+    assert!(rt; worker_in(Dealing::Round, flow(FlowKey::Four([0, STEP]))) == 4);
 }
 
 /// Dealing by bucket: worker 0 without a flow, and else the worker of the bucket of the flow's key.
 #[test]
 fn dealing_by_bucket(rt: HostRuntime) {
-    assert_eq!(rt; worker_in(Dealing::Bucket, None), 0);
+    assert!(rt; worker_in(Dealing::Bucket, None) == 0);
     for (key, bucket) in [
         (FlowKey::Four([0, 0]), 0),
         (FlowKey::Four([0, STEP]), 3503),
         (FlowKey::Six([0, 0, 0, 0, STEP]), 431),
     ] {
-        assert_eq!(rt; worker_in(Dealing::Bucket, flow(key)), bucket % 5);
+        assert!(rt; worker_in(Dealing::Bucket, flow(key)) == bucket % 5);
     }
 }

@@ -75,27 +75,27 @@ fn expect_found<R: Abort>(rt: &R, found: &Found, others: &[Packet<'_>], packet: 
     match found {
         Found::Plain(seen) => {
             let frame = packet.frame;
-            assert_eq!(rt; frame.len(), 54);
-            assert_eq!(rt; (seen.interface, seen.moment), (0, packet.moment));
-            assert_eq!(rt; seen.frame.sender, 0x020000000000 + u64::from(frame[11]));
+            assert!(rt; frame.len() == 54);
+            assert!(rt; (seen.interface, seen.moment) == (0, packet.moment));
+            assert!(rt; seen.frame.sender == 0x020000000000 + u64::from(frame[11]));
             let said = seen.frame.packet;
-            assert_eq!(rt;
-                (said.source, said.dest, said.proto),
-                (
-                    0x0a000000 + u32::from(frame[29]),
-                    0x0a000000 + u32::from(frame[33]),
-                    frame[23]
-                )
+            assert!(rt;
+                (said.source, said.dest, said.proto)
+                    == (
+                        0x0a000000 + u32::from(frame[29]),
+                        0x0a000000 + u32::from(frame[33]),
+                        frame[23]
+                    )
             );
-            assert_eq!(rt;
-                (said.from.to_be_bytes(), said.to.to_be_bytes()),
-                ([frame[34], frame[35]], [frame[36], frame[37]])
+            assert!(rt;
+                (said.from.to_be_bytes(), said.to.to_be_bytes())
+                    == ([frame[34], frame[35]], [frame[36], frame[37]])
             );
         }
         Found::Other(place) => {
             assert!(rt; *place < others.len());
             let other = others[*place];
-            assert_eq!(rt; (other.moment, other.frame), (packet.moment, packet.frame));
+            assert!(rt; (other.moment, other.frame) == (packet.moment, packet.frame));
             assert!(rt; other.frame.len() != 54);
         }
     }
@@ -119,7 +119,7 @@ fn expect_own<'a, R: Abort>(
         assert!(rt; first < 8 && at < 8);
         let place = first + at;
         assert!(rt; place < packets.len());
-        assert_eq!(rt; dealt.at, at);
+        assert!(rt; dealt.at == at);
         expect_found(rt, &dealt.found, part.others.as_slice(), &packets[place]);
     }
     assert!(rt; left.next().is_none());
@@ -140,7 +140,7 @@ fn expect_packets<'a, R: Abort>(
         assert!(rt; first < 8 && count < 8);
         let next = first + count;
         assert!(rt; next < 8);
-        assert_eq!(rt; part.workers.as_slice(), &judges[first..next]);
+        assert!(rt; part.workers.as_slice() == &judges[first..next]);
         for worker in 0..part.own.len() {
             expect_own(rt, worker, part, packets, first);
         }
@@ -148,7 +148,7 @@ fn expect_packets<'a, R: Abort>(
         others += part.others.len();
         first = next;
     }
-    assert_eq!(rt; (first, others), (packets.len(), 2));
+    assert!(rt; (first, others) == (packets.len(), 2));
 }
 
 // The lists of these chunks.
@@ -190,7 +190,7 @@ fn deals_packets_of_several_flows(rt: HostRuntime) -> Result<(), Fail> {
         let Ok(parts) = deal(&rt, alloc, Dealing::Bucket, 3, begun, kept) else {
             return filter_test_refused();
         };
-        assert_eq!(rt; parts.len(), 3);
+        assert!(rt; parts.len() == 3);
         expect_packets(&rt, parts.as_slice(), &packets, [1, 2, 1, 0, 2, 2, 0]);
         let Ok(rooms) = rooms_of(alloc, parts) else {
             return filter_test_refused();
@@ -204,7 +204,7 @@ fn deals_packets_of_several_flows(rt: HostRuntime) -> Result<(), Fail> {
     let Ok(parts) = deal(&rt, alloc, Dealing::Round, 2, later, kept) else {
         return filter_test_refused();
     };
-    assert_eq!(rt; parts.len(), 2);
+    assert!(rt; parts.len() == 2);
     expect_packets(&rt, parts.as_slice(), &packets, [1, 0, 1, 0, 1, 0, 1]);
     Ok(())
 }
@@ -223,10 +223,7 @@ fn one_packet_has_its_worker(rt: HostRuntime) {
         packet_to_deal(100, &ARP),
         packet_to_deal(100, &SIX),
     );
-    assert_eq!(rt; worker_of_packet::<ShapeV4, ShapeV6>(&dealer, 9, &first), 1);
-    assert_eq!(rt;
-        worker_of_packet::<ShapeV4, ShapeV6>(&dealer, 9, &second),
-        0
-    );
-    assert_eq!(rt; worker_of_packet::<ShapeV4, ShapeV6>(&dealer, 9, &third), 2);
+    assert!(rt; worker_of_packet::<ShapeV4, ShapeV6>(&dealer, 9, &first) == 1);
+    assert!(rt; worker_of_packet::<ShapeV4, ShapeV6>(&dealer, 9, &second) == 0);
+    assert!(rt; worker_of_packet::<ShapeV4, ShapeV6>(&dealer, 9, &third) == 2);
 }

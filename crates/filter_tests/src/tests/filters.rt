@@ -42,8 +42,8 @@ fn a_filter_is_ready(rt: HostRuntime) -> Result<(), Fail> {
         return filter_test_refused();
     };
     let ready = filter.ready(0);
-    assert_eq!(rt; ready.own, Some(Mac([2, 0, 0, 10, 11, 255])));
-    assert_eq!(rt; ready.times.transient, 120);
+    assert!(rt; ready.own == Some(Mac([2, 0, 0, 10, 11, 255])));
+    assert!(rt; ready.times.transient == 120);
     Ok(())
 }
 
@@ -79,7 +79,7 @@ fn prepared_rules_decide_as_the_listed_ones(rt: HostRuntime) -> Result<(), Fail>
     let udp = filtered_tuple(17, Fields::Ports { from: 80, to: 1000 });
     for ready in [filter.ready(0), *all.at(0)] {
         let inbound = ready.rules_of(Direction::Inbound);
-        assert_eq!(rt; inbound.first_match(&udp), Some((70, Action::Permit)));
+        assert!(rt; inbound.first_match(&udp) == Some((70, Action::Permit)));
     }
     Ok(())
 }
@@ -105,9 +105,9 @@ fn filter_of_two_interfaces(rt: HostRuntime) -> Result<(), Fail> {
         (2, Some(2), Some((0, Action::Permit))),
     ] {
         let own = own.map(|last| Mac([2, 0, 0, 0, 0, last]));
-        assert_eq!(rt; all.at(number).own, own);
+        assert!(rt; all.at(number).own == own);
         let inbound = filter.ready(number).rules_of(Direction::Inbound);
-        assert_eq!(rt; inbound.first_match(&udp), rule);
+        assert!(rt; inbound.first_match(&udp) == rule);
     }
     Ok(())
 }
@@ -115,13 +115,13 @@ fn filter_of_two_interfaces(rt: HostRuntime) -> Result<(), Fail> {
 /// The verdicts that a filter's rules alone give, by the place of the rule that decides.
 #[test]
 fn filter_rules_begin_at_1(rt: HostRuntime) {
-    assert_eq!(rt; verdict_of_rules(None), Verdict::ByDefault);
+    assert!(rt; verdict_of_rules(None) == Verdict::ByDefault);
     for (number, action, verdict) in [
         (0, Action::Deny, Verdict::Deny(1)),
         (4, Action::Permit, Verdict::Permit(5)),
         (9, Action::Reflect, Verdict::Permit(10)),
     ] {
-        assert_eq!(rt; verdict_of_rules(Some((number, action))), verdict);
+        assert!(rt; verdict_of_rules(Some((number, action))) == verdict);
     }
 }
 

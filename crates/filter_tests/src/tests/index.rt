@@ -16,7 +16,7 @@ fn no_rules(rt: HostRuntime) -> Result<(), Fail> {
     let Ok(none) = RuleIndex::new(rt.alloc(), &[]) else {
         return filter_test_refused();
     };
-    assert_eq!(rt; shared_index(&none).first_match(&later_fragment(6)), None);
+    assert!(rt; shared_index(&none).first_match(&later_fragment(6)) == None);
     Ok(())
 }
 
@@ -41,7 +41,7 @@ fn first_of_equal_rules(rt: HostRuntime) -> Result<(), Fail> {
         (17, Some((70, Action::Permit))),
         (1, None),
     ] {
-        assert_eq!(rt; index.first_match(&later_fragment(proto)), first);
+        assert!(rt; index.first_match(&later_fragment(proto)) == first);
     }
     Ok(())
 }

@@ -69,7 +69,7 @@ pub fn later_fragment(proto: u8) -> Tuple {
 fn every_protocol(rt: HostRuntime) {
     let all = [rule(Action::Permit, 0, (7, 7), (7, 7), (1, 1))];
     for tuple in [udp(1, 2), tcp(0), later_fragment(47)] {
-        assert_eq!(rt; first_match(&all, &tuple), Some((0, Action::Permit)));
+        assert!(rt; first_match(&all, &tuple) == Some((0, Action::Permit)));
     }
 }
 
@@ -82,6 +82,6 @@ fn first_of_several(rt: HostRuntime) {
         rule(Action::Permit, 17, EVERY, EVERY, (0, 0)),
     ];
     let request = udp(1000, 53);
-    assert_eq!(rt; first_match(&rules, &request), Some((1, Action::Reflect)));
-    assert_eq!(rt; first_match(&[], &request), None);
+    assert!(rt; first_match(&rules, &request) == Some((1, Action::Reflect)));
+    assert!(rt; first_match(&[], &request) == None);
 }

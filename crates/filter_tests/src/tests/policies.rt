@@ -18,8 +18,8 @@ fn whole_policy(rt: HostRuntime) -> Result<(), Fail> {
     let Some(policy) = read.section(0) else {
         return filter_test_refused();
     };
-    assert_eq!(rt; policy.own, Some(Mac([2, 0, 0, 10, 11, 255])));
-    assert_eq!(rt; policy.inbound.len(), 2);
+    assert!(rt; policy.own == Some(Mac([2, 0, 0, 10, 11, 255])));
+    assert!(rt; policy.inbound.len() == 2);
     let names = Rule {
         action: Action::Reflect,
         family: Family::V4,
@@ -31,7 +31,7 @@ fn whole_policy(rt: HostRuntime) -> Result<(), Fail> {
         value: 0,
         mask: 0,
     };
-    assert_eq!(rt; policy.outbound.as_slice(), [names].as_slice());
+    assert!(rt; policy.outbound.as_slice() == [names].as_slice());
     Ok(())
 }
 
@@ -47,13 +47,13 @@ fn sections_of_two_interfaces(rt: HostRuntime) -> Result<(), Fail> {
     let Ok(policy) = read_policy(rt.alloc(), text) else {
         return filter_test_refused();
     };
-    assert_eq!(rt; policy.sections.len(), 2);
+    assert!(rt; policy.sections.len() == 2);
     for (number, own, rules) in [(0, 1, 1), (2, 2, 2)] {
         let Some(section) = policy.section(number) else {
             return filter_test_refused();
         };
-        assert_eq!(rt; section.own, Some(Mac([2, 0, 0, 0, 0, own])));
-        assert_eq!(rt; section.outbound.len(), rules);
+        assert!(rt; section.own == Some(Mac([2, 0, 0, 0, 0, own])));
+        assert!(rt; section.outbound.len() == rules);
     }
     assert!(rt; policy.section(1).is_none());
     Ok(())
@@ -63,7 +63,7 @@ fn sections_of_two_interfaces(rt: HostRuntime) -> Result<(), Fail> {
 #[test]
 fn carriage_return_at_the_end(rt: HostRuntime) {
     let policy = read_policy(rt.alloc(), b"in deny ipv4 any any\r");
-    assert_eq!(rt; policy.err(), Some(PolicyFault::BadLine(1)));
+    assert!(rt; policy.err() == Some(PolicyFault::BadLine(1)));
 }
 
 /// Prefixes in a policy's text whose addresses have bits beyond their lengths, which no packet shows.
@@ -78,7 +78,7 @@ fn bits_beyond_a_length(rt: HostRuntime) -> Result<(), Fail> {
     let Some(policy) = read.section(0) else {
         return filter_test_refused();
     };
-    assert_eq!(rt; policy.inbound.len(), 3);
+    assert!(rt; policy.inbound.len() == 3);
     let groups = 0x0001_0002_0000_0000_0000_0000_0007_0000;
     for (number, rule) in policy.inbound.iter().enumerate() {
         let source = match number {
@@ -86,7 +86,7 @@ fn bits_beyond_a_length(rt: HostRuntime) -> Result<(), Fail> {
             1 => (0x0a000001, 8),
             _ => (groups, 64),
         };
-        assert_eq!(rt; rule.source, source);
+        assert!(rt; rule.source == source);
     }
     Ok(())
 }
@@ -97,10 +97,10 @@ fn a_line_at_fault_leaves_the_policy(rt: HostRuntime) -> Result<(), Fail> {
     let mut draft = empty_draft(rt.alloc());
     read_policy_line(rt.alloc(), &mut draft, b"mac 02:00:00:00:00:01", 1)?;
     let second = read_policy_line(rt.alloc(), &mut draft, b"mac 02:00:00:00:00:02", 2);
-    assert_eq!(rt; second, Err(PolicyFault::BadLine(2)));
+    assert!(rt; second == Err(PolicyFault::BadLine(2)));
     read_policy_line(rt.alloc(), &mut draft, b"in deny ipv4 any any", 3)?;
-    assert_eq!(rt; draft.current.own, Some(Mac([2, 0, 0, 0, 0, 1])));
-    assert_eq!(rt; draft.current.inbound.len(), 1);
+    assert!(rt; draft.current.own == Some(Mac([2, 0, 0, 0, 0, 1])));
+    assert!(rt; draft.current.inbound.len() == 1);
     Ok(())
 }
 
@@ -109,9 +109,9 @@ fn a_line_at_fault_leaves_the_policy(rt: HostRuntime) -> Result<(), Fail> {
 fn policy_fault_texts(rt: HostRuntime) -> Result<(), Fail> {
     let (memory, text) = (PolicyFault::Memory, PolicyFault::NotUtf8);
     let (line, rule) = (PolicyFault::BadLine(3), PolicyFault::TooMany(4097));
-    assert_eq!(rt;
-        format!(in rt.alloc(); "{memory}; {text}; {line}; {rule}")?.as_str(),
-        "no memory; policy is not UTF-8; policy line 3 is wrong; policy line 4097 is one rule too many"
+    assert!(rt;
+        format!(in rt.alloc(); "{memory}; {text}; {line}; {rule}")?.as_str()
+            == "no memory; policy is not UTF-8; policy line 3 is wrong; policy line 4097 is one rule too many"
     );
     Ok(())
 }

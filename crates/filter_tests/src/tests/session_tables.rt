@@ -149,7 +149,7 @@ const WORN: [Row; 8] = [
 #[test]
 fn worn_bucket_under_the_filter(rt: HostRuntime) {
     let wrong = first_wrong_of_new::<Tiny<8, 3>>(rt.alloc(), &WORN);
-    assert_eq!(rt; wrong, Some(None));
+    assert!(rt; wrong == Some(None));
 }
 
 // A filter's session table is opened again, and its worn bucket takes writes.
@@ -157,7 +157,7 @@ fn worn_bucket_under_the_filter(rt: HostRuntime) {
 fn renewed_under_the_filter(rt: HostRuntime) {
     let rows = [(704, 2, false, Verdict::Reflect(1))];
     let wrong = first_wrong_of_renewed::<Tiny<8, 3>>(rt.alloc(), &WORN, &rows);
-    assert_eq!(rt; wrong, Some(None));
+    assert!(rt; wrong == Some(None));
 }
 
 // A request judged over new session tables, by as many tries as it takes.
@@ -168,7 +168,7 @@ fn judges_over_session_tables(rt: HostRuntime) {
         rt.alloc(),
         &request_for_tables(2),
     );
-    assert_eq!(rt; verdict, Some(Verdict::Reflect(1)));
+    assert!(rt; verdict == Some(Verdict::Reflect(1)));
 }
 
 // The requests of 16 sessions fill a bucket of a filter's session table. Once they have ended, the one with the least
@@ -184,7 +184,7 @@ fn recycled_session(rt: HostRuntime) {
     rows[19] = (200, 8, true, Verdict::ByDefault);
     rows[20] = (200, 16, true, Verdict::Session);
     let wrong = first_wrong_of_new::<Tiny<8, 1000>>(rt.alloc(), &rows);
-    assert_eq!(rt; wrong, Some(None));
+    assert!(rt; wrong == Some(None));
 }
 
 // Packets judged over a session table of two pages.
@@ -198,7 +198,7 @@ fn no_pages_under_the_filter(rt: HostRuntime) {
         (100, 10, false, Verdict::NoPages),
     ];
     let wrong = first_wrong_of_new::<Tiny<2, 1000>>(rt.alloc(), &rows);
-    assert_eq!(rt; wrong, Some(None));
+    assert!(rt; wrong == Some(None));
 }
 
 // The only page of a filter's session table comes back with the session that an answer after its end removes.
@@ -211,5 +211,5 @@ fn pages_used_up_under_the_filter(rt: HostRuntime) {
         (702, 3, false, Verdict::Reflect(1)),
     ];
     let wrong = first_wrong_of_new::<Tiny<1, 5>>(rt.alloc(), &rows);
-    assert_eq!(rt; wrong, Some(None));
+    assert!(rt; wrong == Some(None));
 }

@@ -219,7 +219,7 @@ fn workers(rt: HostRuntime) -> Result<(), Fail> {
     };
     assert!(rt; !gate.gave_up.load(Ordering::SeqCst));
     let wanted = [Verdict::Reflect(1), Verdict::ByDefault, Verdict::ByDefault];
-    assert_eq!(rt; found.as_slice(), wanted.as_slice());
+    assert!(rt; found.as_slice() == wanted.as_slice());
     Ok(())
 }
 
@@ -253,7 +253,7 @@ fn two_workers_at_once(rt: HostRuntime) -> Result<(), Fail> {
             return filter_test_refused();
         };
         assert!(rt; !gate.gave_up.load(Ordering::SeqCst));
-        assert_eq!(rt; found.as_slice(), wanted.as_slice());
+        assert!(rt; found.as_slice() == wanted.as_slice());
     }
     Ok(())
 }
@@ -310,14 +310,14 @@ fn workers_judge_two_parts(rt: HostRuntime) -> Result<(), Fail> {
         Verdict::Session,
         Verdict::Reflect(1),
     ];
-    assert_eq!(rt; found.as_slice(), wanted.as_slice());
+    assert!(rt; found.as_slice() == wanted.as_slice());
     let sessions = [
         ([0x0a00_0001_0a00_0002, 0x03e8_0035_1100_0000], 101),
         ([0x0a00_0001_0a00_0003, 0x03e8_0035_1100_0000], 101),
     ];
-    assert_eq!(rt; four.as_slice(), sessions.as_slice());
-    assert_eq!(rt; others, 0);
-    assert_eq!(rt; gate.before.load(Ordering::SeqCst), 0x0101_0101);
-    assert_eq!(rt; gate.after.load(Ordering::SeqCst), 0x0101_0101);
+    assert!(rt; four.as_slice() == sessions.as_slice());
+    assert!(rt; others == 0);
+    assert!(rt; gate.before.load(Ordering::SeqCst) == 0x0101_0101);
+    assert!(rt; gate.after.load(Ordering::SeqCst) == 0x0101_0101);
     Ok(())
 }

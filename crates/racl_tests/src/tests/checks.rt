@@ -28,11 +28,11 @@ fn wrong_lines_among_right_ones(rt: HostRuntime) -> Result<(), Fail> {
     ];
     let checked = check_policy(rt.alloc(), wrong_policy())?;
     let complaints = checked.complaints.as_slice();
-    assert_eq!(rt; complaints.len(), WANTED.len());
+    assert!(rt; complaints.len() == WANTED.len());
     for (found, wanted) in complaints.iter().zip(WANTED) {
-        assert_eq!(rt; parts_of(found), wanted);
+        assert!(rt; parts_of(found) == wanted);
     }
-    assert_eq!(rt; checked.policy.sections.len(), 1);
+    assert!(rt; checked.policy.sections.len() == 1);
     Ok(())
 }
 
@@ -46,7 +46,7 @@ fn rule_behind_one_that_takes_its_packets(rt: HostRuntime) -> Result<(), Fail> {
         Remark::NoMac(9),
         Remark::Shadowed(9, Direction::Outbound, 2, 1),
     ];
-    assert_eq!(rt; remarks.as_slice(), wanted.as_slice());
+    assert!(rt; remarks.as_slice() == wanted.as_slice());
     Ok(())
 }
 
@@ -54,19 +54,12 @@ fn rule_behind_one_that_takes_its_packets(rt: HostRuntime) -> Result<(), Fail> {
 fn what_a_check_of_a_source_tells(rt: HostRuntime) -> Result<(), Fail> {
     let told = tell(rt.alloc(), b"in deny ipv6 any any tcp")?;
     assert!(rt; told.is_policy);
-    assert_eq!(rt;
-        told.text.as_slice(),
-        b"policy: rules 1 sections 1\n".as_slice()
-    );
+    assert!(rt; told.text.as_slice() == b"policy: rules 1 sections 1\n".as_slice());
     let mut reader = Device::new(b"interface".as_slice());
     let mut writer = Device::new(Vec::new(rt.alloc()));
-    assert_eq!(rt;
-        check_source(rt.alloc(), &mut reader, &mut writer),
-        Ok(false)
-    );
-    assert_eq!(rt;
-        writer.inner.as_slice(),
-        b"line 1 ends too early\nno policy: wrong lines 1\n".as_slice()
+    assert!(rt; check_source(rt.alloc(), &mut reader, &mut writer) == Ok(false));
+    assert!(rt;
+        writer.inner.as_slice() == b"line 1 ends too early\nno policy: wrong lines 1\n".as_slice()
     );
     Ok(())
 }

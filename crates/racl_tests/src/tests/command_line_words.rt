@@ -54,7 +54,7 @@ fn words_name_files(rt: HostRuntime) {
         (&["racl", "-", "-"], None),
     ];
     for (words, named) in CASES {
-        assert_eq!(rt; files_of(rt.alloc(), words), named);
+        assert!(rt; files_of(rt.alloc(), words) == named);
     }
     let standard = origin_of(rt.alloc(), &["racl"]);
     assert!(rt; matches!(standard, Some(Origin::Standard)));
@@ -77,11 +77,8 @@ fn words_name_captures_of_interfaces(rt: HostRuntime) {
         },
     ];
     let named = interfaces_of(alloc, &words);
-    assert_eq!(rt; named.as_ref().map(|it| it.policy), Some("p"));
-    assert_eq!(rt;
-        named.as_ref().map(|it| it.captures.as_slice()),
-        Some(captures.as_slice())
-    );
+    assert!(rt; named.as_ref().map(|it| it.policy) == Some("p"));
+    assert!(rt; named.as_ref().map(|it| it.captures.as_slice()) == Some(captures.as_slice()));
 }
 
 /// Checks: which words of the command line ask for one, and of which policy.
@@ -95,7 +92,7 @@ fn words_name_a_policy_to_check(rt: HostRuntime) {
         (&["racl", "check", "p", "q"], None),
     ];
     for (words, named) in CASES {
-        assert_eq!(rt; check_name(rt.alloc(), words).ok(), named);
+        assert!(rt; check_name(rt.alloc(), words).ok() == named);
     }
 }
 
@@ -133,7 +130,7 @@ fn words_set_the_options(rt: HostRuntime) {
         (&["racl", "--tables=large", "--workers", "16"], MOST),
     ];
     for (words, wanted) in CASES {
-        assert_eq!(rt; set_after(rt.alloc(), words), Some(wanted));
+        assert!(rt; set_after(rt.alloc(), words) == Some(wanted));
     }
 }
 
@@ -152,7 +149,7 @@ fn words_select_packets(rt: HostRuntime) {
         (&["racl", "--only", "deny"], None),
     ];
     for (words, shown) in CASES {
-        assert_eq!(rt; shown_after(rt.alloc(), words), shown);
+        assert!(rt; shown_after(rt.alloc(), words) == shown);
     }
 }
 
@@ -175,7 +172,7 @@ fn words_select_what_lines_tell(rt: HostRuntime) {
         (&["racl", "--live", "--workers=2", "p", "-"], None),
     ];
     for (words, lines) in CASES {
-        assert_eq!(rt; lines_after(rt.alloc(), words), lines);
+        assert!(rt; lines_after(rt.alloc(), words) == lines);
     }
 }
 
@@ -201,7 +198,7 @@ fn words_name_files_that_get_packets(rt: HostRuntime) {
         (&["racl", "--live", "--drops=d", "p", "-"], None),
     ];
     for (words, saved) in CASES {
-        assert_eq!(rt; saved_after(rt.alloc(), words), saved);
+        assert!(rt; saved_after(rt.alloc(), words) == saved);
     }
 }
 
@@ -224,7 +221,7 @@ fn other_words_end_with_a_status(rt: HostRuntime) {
         (&["racl", "-", "-"], 2),
     ];
     for (words, status) in CASES {
-        assert_eq!(rt; status_after(rt.alloc(), words), Some(status));
+        assert!(rt; status_after(rt.alloc(), words) == Some(status));
     }
-    assert_eq!(rt; words_status(&Error::from(AllocError)), 4);
+    assert!(rt; words_status(&Error::from(AllocError)) == 4);
 }

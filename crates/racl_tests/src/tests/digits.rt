@@ -8,9 +8,9 @@ use std::test::Fail;
 fn digits_stand_for_bytes(rt: HostRuntime) -> Result<(), Fail> {
     let alloc = rt.alloc();
     let bytes = decode_digits(alloc, b"d4 C3\tb2\r\na 1")?;
-    assert_eq!(rt; bytes.as_slice(), [0xd4, 0xc3, 0xb2, 0xa1].as_slice());
-    assert_eq!(rt; decode_digits(alloc, b"d4c").err(), Some(Fault::Hex));
-    assert_eq!(rt; decode_digits(alloc, b"0x00").err(), Some(Fault::Hex));
+    assert!(rt; bytes.as_slice() == [0xd4, 0xc3, 0xb2, 0xa1].as_slice());
+    assert!(rt; decode_digits(alloc, b"d4c").err() == Some(Fault::Hex));
+    assert!(rt; decode_digits(alloc, b"0x00").err() == Some(Fault::Hex));
     Ok(())
 }
 

@@ -157,9 +157,9 @@ fn told(
 fn packets_and_the_rules_that_decided_them(rt: HostRuntime) -> Result<(), Fail> {
     for (interface, frame, verdict, explained, object) in ROWS {
         let text = told(rt.alloc(), View::Text, interface, frame, verdict)?;
-        assert_eq!(rt; text.as_slice(), explained.as_bytes());
+        assert!(rt; text.as_slice() == explained.as_bytes());
         let text = told(rt.alloc(), View::Json, interface, frame, verdict)?;
-        assert_eq!(rt; text.as_slice(), object.as_bytes());
+        assert!(rt; text.as_slice() == object.as_bytes());
     }
     Ok(())
 }

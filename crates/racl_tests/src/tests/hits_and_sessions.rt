@@ -148,13 +148,10 @@ fn rules_and_what_they_decided(rt: HostRuntime) -> Result<(), Fail> {
         rule(Direction::Inbound, 1, 4),
         rule(Direction::Outbound, 2, 5),
     ];
-    assert_eq!(rt;
-        numbered_rules(rt.alloc(), hits_rules())?.as_slice(),
-        wanted.as_slice()
-    );
+    assert!(rt; numbered_rules(rt.alloc(), hits_rules())?.as_slice() == wanted.as_slice());
     for (times, view, told) in HITS {
         let text = hits_told(rt.alloc(), times, view)?;
-        assert_eq!(rt; text.as_slice(), told.as_bytes());
+        assert!(rt; text.as_slice() == told.as_bytes());
     }
     Ok(())
 }
@@ -206,7 +203,7 @@ fn sessions_that_are_stored(rt: HostRuntime) -> Result<(), Fail> {
     let stored = stored_of(rt.alloc(), &FOUR, &SIX)?;
     for (view, told) in [(View::Text, LINES), (View::Json, OBJECTS)] {
         let text = sessions_text(rt.alloc(), view, TIMES, &stored)?;
-        assert_eq!(rt; text.as_slice(), told.as_bytes());
+        assert!(rt; text.as_slice() == told.as_bytes());
     }
     Ok(())
 }

@@ -8,9 +8,9 @@ fn an_input_has_three_parts(rt: HostRuntime) -> Result<(), Fail> {
     let Some(input) = split_input(b"# one\nhex\nd4 c3\n") else {
         return racl_test_refused();
     };
-    assert_eq!(rt; input.policy, b"# one\n".as_slice());
-    assert_eq!(rt; input.form, Form::Hexadecimal);
-    assert_eq!(rt; input.content, b"d4 c3\n".as_slice());
+    assert!(rt; input.policy == b"# one\n".as_slice());
+    assert!(rt; input.form == Form::Hexadecimal);
+    assert!(rt; input.content == b"d4 c3\n".as_slice());
     Ok(())
 }
 
@@ -21,21 +21,21 @@ fn captures_have_numbers(rt: HostRuntime) -> Result<(), Fail> {
     let Some(input) = split_input(text) else {
         return racl_test_refused();
     };
-    assert_eq!(rt; input.policy, b"hex 300\n".as_slice());
-    assert_eq!(rt; input.form, Form::Numbered(7));
+    assert!(rt; input.policy == b"hex 300\n".as_slice());
+    assert!(rt; input.form == Form::Numbered(7));
     let first = cut_at_numbered_marker(input.content);
-    assert_eq!(rt; first.digits, b"d4\nhex\n".as_slice());
+    assert!(rt; first.digits == b"d4\nhex\n".as_slice());
     let Some(next) = first.next else {
         return racl_test_refused();
     };
-    assert_eq!(rt; next.interface, 255);
+    assert!(rt; next.interface == 255);
     let second = cut_at_numbered_marker(next.content);
-    assert_eq!(rt; second.digits, b"c3 hex 1\nhex 256\n".as_slice());
+    assert!(rt; second.digits == b"c3 hex 1\nhex 256\n".as_slice());
     assert!(rt; second.next.is_none());
     let Some(ended) = split_input(b"mac\nhex 0") else {
         return racl_test_refused();
     };
-    assert_eq!(rt; ended.form, Form::Numbered(0));
+    assert!(rt; ended.form == Form::Numbered(0));
     assert!(rt; split_input(b"hex  1\nhex 1x\nhex \nhex 0001\nhex 1\r").is_none());
     Ok(())
 }

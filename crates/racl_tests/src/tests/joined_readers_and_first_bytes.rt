@@ -51,14 +51,11 @@ fn readers_are_one_source(rt: HostRuntime) -> Result<(), Fail> {
         return racl_test_refused();
     };
     let mut all = Vec::new(rt.alloc());
-    assert_eq!(rt; read_until(&mut joined, &mut all, 21), Ok(false));
-    assert_eq!(rt; read_until(&mut joined, &mut all, 100), Ok(true));
-    assert_eq!(rt;
-        all.as_slice(),
-        b"mac\npcap\n\xd4\xc3\nhex 255\n0af0\nhex\n".as_slice()
-    );
-    assert_eq!(rt; joined.front(1), Some(b"\x0a\xf0".as_slice()));
-    assert_eq!(rt; joined.front(3), None);
+    assert!(rt; read_until(&mut joined, &mut all, 21) == Ok(false));
+    assert!(rt; read_until(&mut joined, &mut all, 100) == Ok(true));
+    assert!(rt; all.as_slice() == b"mac\npcap\n\xd4\xc3\nhex 255\n0af0\nhex\n".as_slice());
+    assert!(rt; joined.front(1) == Some(b"\x0a\xf0".as_slice()));
+    assert!(rt; joined.front(3) == None);
     Ok(())
 }
 
@@ -75,10 +72,10 @@ fn read_of(kept: &mut FrontKept<&'static [u8]>) -> Option<usize> {
 #[test]
 fn first_bytes_are_kept(rt: HostRuntime) {
     let mut kept = FrontKept::new(b"abcdefghijklmnopqrstuvwxyz".as_slice());
-    assert_eq!(rt; read_of(&mut kept), Some(20));
-    assert_eq!(rt; kept.front(), b"abcdefghijklmnopqrst".as_slice());
-    assert_eq!(rt; read_of(&mut kept), Some(6));
-    assert_eq!(rt; kept.front(), b"abcdefghijklmnopqrstuvwxyz".as_slice());
+    assert!(rt; read_of(&mut kept) == Some(20));
+    assert!(rt; kept.front() == b"abcdefghijklmnopqrst".as_slice());
+    assert!(rt; read_of(&mut kept) == Some(6));
+    assert!(rt; kept.front() == b"abcdefghijklmnopqrstuvwxyz".as_slice());
 }
 
 #[test]
@@ -97,17 +94,17 @@ fn first_bytes_tell_other_files(rt: HostRuntime) {
         ([0xa1, 0xb2, 0x3c, 0x4d], [0, 0, 1, 20], Some(Other::Cooked)),
     ];
     for (magic, link, other) in CASES {
-        assert_eq!(rt; other_file(&first_bytes(magic, link)), other);
+        assert!(rt; other_file(&first_bytes(magic, link)) == other);
     }
     let pcapng = first_bytes([0x0a, 0x0d, 0x0d, 0x0a], [0; 4]);
-    assert_eq!(rt; told_of_fewer(&pcapng), None);
+    assert!(rt; told_of_fewer(&pcapng) == None);
 }
 
 /// First bytes of files that are no captures of Ethernet: after which faults this is told.
 #[test]
 fn first_bytes_make_a_remark(rt: HostRuntime) {
     let pcapng = first_bytes([0x0a, 0x0d, 0x0d, 0x0a], [0; 4]);
-    assert_eq!(rt; remark(&Err(Fault::Magic), &pcapng), Some(Other::Pcapng));
-    assert_eq!(rt; remark(&Err(Fault::LinkType), &pcapng), Some(Other::Pcapng));
-    assert_eq!(rt; remark(&Err(Fault::Short), &pcapng), None);
+    assert!(rt; remark(&Err(Fault::Magic), &pcapng) == Some(Other::Pcapng));
+    assert!(rt; remark(&Err(Fault::LinkType), &pcapng) == Some(Other::Pcapng));
+    assert!(rt; remark(&Err(Fault::Short), &pcapng) == None);
 }

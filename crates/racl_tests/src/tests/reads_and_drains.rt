@@ -90,10 +90,10 @@ fn an_interrupted_device_is_asked_again(rt: HostRuntime) -> Result<(), Fail> {
     let mut reader = Device::new(Interrupted::new(2));
     let mut all = Vec::new(rt.alloc());
     assert!(rt; !read_until(&mut reader, &mut all, 3)?);
-    assert_eq!(rt; (all.len(), reader.inner.calls, reader.failures), (3, 9, 0));
+    assert!(rt; (all.len(), reader.inner.calls, reader.failures) == (3, 9, 0));
     let mut writer = Device::new(Interrupted::new(2));
     write_all(&mut writer, &[1; 3])?;
-    assert_eq!(rt; (writer.inner.calls, writer.failures), (9, 0));
+    assert!(rt; (writer.inner.calls, writer.failures) == (9, 0));
     Ok(())
 }
 
@@ -121,11 +121,11 @@ fn reads_until_there_are_enough_bytes(rt: HostRuntime) -> Result<(), Fail> {
     let bytes = vec![in rt.alloc(); 5u8; 200_000]?;
     let mut all = vec![in rt.alloc(); 4u8; 1]?;
     for (least, wanted) in READS {
-        assert_eq!(rt; read_from(&bytes, &mut all, least), wanted);
+        assert!(rt; read_from(&bytes, &mut all, least) == wanted);
     }
-    assert_eq!(rt; all.len(), 270_000);
-    assert_eq!(rt; all[0], 4);
-    assert_eq!(rt; &all[70_000..], bytes.as_slice());
+    assert!(rt; all.len() == 270_000);
+    assert!(rt; all[0] == 4);
+    assert!(rt; &all[70_000..] == bytes.as_slice());
     Ok(())
 }
 
@@ -134,11 +134,8 @@ fn reads_until_there_are_enough_bytes(rt: HostRuntime) -> Result<(), Fail> {
 fn a_buffer_with_room_does_not_grow(rt: HostRuntime) -> Result<(), Fail> {
     let bytes = vec![in rt.alloc(); 5u8; 2_000_000]?;
     let mut all = Vec::with_capacity(rt.alloc(), 1_800_000)?;
-    assert_eq!(rt;
-        read_from(&bytes, &mut all, 1_800_000),
-        Some((false, 200_000))
-    );
-    assert_eq!(rt; all.capacity(), 1_800_000);
+    assert!(rt; read_from(&bytes, &mut all, 1_800_000) == Some((false, 200_000)));
+    assert!(rt; all.capacity() == 1_800_000);
     Ok(())
 }
 
@@ -149,15 +146,12 @@ fn a_buffer_is_used_again(rt: HostRuntime) -> Result<(), Fail> {
     let mut reader = Device::new(bytes.as_slice());
     let mut buffer = ReadBuffer::new(vec![in rt.alloc(); 4u8; 3]?);
     assert!(rt; !buffer.read_until(&mut reader, 150_003)?);
-    assert_eq!(rt;
-        (buffer.bytes().len(), reader.inner.len()),
-        (150_003, 50_000)
-    );
+    assert!(rt; (buffer.bytes().len(), reader.inner.len()) == (150_003, 50_000));
     assert!(rt; buffer.bytes().starts_with(&[4, 4, 4, 5]));
     buffer.hold(&[6; 2])?;
-    assert_eq!(rt; buffer.bytes(), [6u8; 2].as_slice());
+    assert!(rt; buffer.bytes() == [6u8; 2].as_slice());
     assert!(rt; buffer.read_until(&mut reader, 150_003)?);
-    assert_eq!(rt; buffer.bytes().len(), 50_002);
+    assert!(rt; buffer.bytes().len() == 50_002);
     assert!(rt; buffer.bytes().starts_with(&[6, 6, 5]));
     Ok(())
 }
@@ -171,12 +165,9 @@ fn a_read_may_be_short_or_fail(rt: HostRuntime) -> Result<(), Fail> {
     };
     let mut all = Vec::new(rt.alloc());
     assert!(rt; !read_until(&mut reader, &mut all, 10)?);
-    assert_eq!(rt; all.as_slice(), [7u8; 10].as_slice());
-    assert_eq!(rt;
-        read_until(&mut reader, &mut all, 18).err(),
-        Some(Fault::Read)
-    );
-    assert_eq!(rt; (all.len(), reader.failures), (17, 1));
+    assert!(rt; all.as_slice() == [7u8; 10].as_slice());
+    assert!(rt; read_until(&mut reader, &mut all, 18).err() == Some(Fault::Read));
+    assert!(rt; (all.len(), reader.failures) == (17, 1));
     Ok(())
 }
 
@@ -193,12 +184,12 @@ fn drained(bytes: &[u8], read: usize) -> (Option<Fault>, usize)
 #[test]
 fn drains_up_to_the_most_bytes(rt: HostRuntime) {
     let bytes = [5; 1000];
-    assert_eq!(rt; drained(&bytes, MOST_BYTES - 1000), (None, 0));
-    assert_eq!(rt; drained(&bytes, MOST_BYTES - 999).0, Some(Fault::TooLarge));
+    assert!(rt; drained(&bytes, MOST_BYTES - 1000) == (None, 0));
+    assert!(rt; drained(&bytes, MOST_BYTES - 999).0 == Some(Fault::TooLarge));
     let mut reader = Sevens {
         reads: 3,
         failures: 0,
     };
-    assert_eq!(rt; drain(&mut reader, 0).err(), Some(Fault::Read));
-    assert_eq!(rt; reader.failures, 1);
+    assert!(rt; drain(&mut reader, 0).err() == Some(Fault::Read));
+    assert!(rt; reader.failures == 1);
 }

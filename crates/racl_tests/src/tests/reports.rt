@@ -47,8 +47,8 @@ fn a_report_line_per_verdict(rt: HostRuntime) -> Result<(), Fail> {
         truncated: true,
     }];
     let totals = write_report(Some(&rt), rt.alloc(), &mut writer, &VERDICTS, &CAPTURES)?;
-    assert_eq!(rt; writer.inner.as_slice(), report_of_verdicts());
-    assert_eq!(rt; (totals.packets, totals.passed, totals.dropped), (11, 4, 7));
+    assert!(rt; writer.inner.as_slice() == report_of_verdicts());
+    assert!(rt; (totals.packets, totals.passed, totals.dropped) == (11, 4, 7));
     assert!(rt; totals.truncated);
     Ok(())
 }
@@ -82,7 +82,7 @@ fn a_report_part_per_capture(rt: HostRuntime) -> Result<(), Fail> {
     ];
     let mut writer = Device::new(Vec::new(rt.alloc()));
     let totals = write_report(Some(&rt), rt.alloc(), &mut writer, &VERDICTS, &CAPTURES)?;
-    assert_eq!(rt; writer.inner.as_slice(), report_of_captures());
+    assert!(rt; writer.inner.as_slice() == report_of_captures());
     assert!(rt; totals.truncated);
     Ok(())
 }
@@ -130,11 +130,8 @@ fn lines_of_some_packets(rt: HostRuntime) -> Result<(), Fail> {
             &VERDICTS,
             &CAPTURES,
         )?;
-        assert_eq!(rt; writer.inner.as_slice(), text.as_bytes());
-        assert_eq!(rt;
-            (totals.passed, totals.dropped, totals.truncated),
-            (2, 1, true)
-        );
+        assert!(rt; writer.inner.as_slice() == text.as_bytes());
+        assert!(rt; (totals.passed, totals.dropped, totals.truncated) == (2, 1, true));
     }
     Ok(())
 }
@@ -201,9 +198,9 @@ fn pieces(rt: HostRuntime) -> Result<(), Fail> {
         } else {
             Ok((8000, 8000))
         };
-        assert_eq!(rt; told, want, "after {writes} writes");
+        assert!(rt; told == want, "after {writes} writes");
         assert!(rt; writer.taken <= lines + end);
-        assert_eq!(rt; writer.taken == lines + end, writes == 4);
+        assert!(rt; (writer.taken == lines + end) == (writes == 4));
     }
     Ok(())
 }

@@ -171,13 +171,13 @@ fn a_record_is_read_in_two_parts(rt: HostRuntime) -> Result<(), Fail> {
     for _ in 0..3 {
         bytes.extend_from_slice(&record([4, 0, 0, 0]))?;
     }
-    assert_eq!(rt; count(&rt, alloc, &bytes), Ok((3, false)));
+    assert!(rt; count(&rt, alloc, &bytes) == Ok((3, false)));
     bytes.extend_from_slice(&record([1, 0, 4, 0]))?;
     bytes.extend_from_slice(&record([4, 0, 0, 0]))?;
-    assert_eq!(rt; count(&rt, alloc, &bytes), Err(Fault::LongRecord(4)));
+    assert!(rt; count(&rt, alloc, &bytes) == Err(Fault::LongRecord(4)));
     for (length, counted) in [(83, (2, true)), (54, (1, true))] {
         bytes.truncate(length);
-        assert_eq!(rt; count(&rt, alloc, &bytes), Ok(counted));
+        assert!(rt; count(&rt, alloc, &bytes) == Ok(counted));
     }
     Ok(())
 }
@@ -187,8 +187,8 @@ fn a_record_is_read_in_two_parts(rt: HostRuntime) -> Result<(), Fail> {
 fn windows_end_at_the_limit(rt: HostRuntime) {
     let most = MOST_BYTES + 1 - 54;
     let (reader, answer) = read_zeros(&rt, rt.alloc(), 2 * MOST_BYTES);
-    assert_eq!(rt; (answer, reader.failures), (Some(Fault::TooLarge), 0));
-    assert_eq!(rt; reader.left, 2 * MOST_BYTES - most);
+    assert!(rt; (answer, reader.failures) == (Some(Fault::TooLarge), 0));
+    assert!(rt; reader.left == 2 * MOST_BYTES - most);
 }
 
 // Windows: a read that fails within the limit is told, one behind it isn't made.
@@ -196,9 +196,9 @@ fn windows_end_at_the_limit(rt: HostRuntime) {
 fn reads_fail_up_to_the_limit(rt: HostRuntime) {
     let most = MOST_BYTES + 1 - 54;
     let (reader, answer) = read_zeros(&rt, rt.alloc(), most);
-    assert_eq!(rt; (answer, reader.failures), (Some(Fault::TooLarge), 0));
+    assert!(rt; (answer, reader.failures) == (Some(Fault::TooLarge), 0));
     let (reader, answer) = read_zeros(&rt, rt.alloc(), most - 1);
-    assert_eq!(rt; (answer, reader.failures), (Some(Fault::Read), 1));
+    assert!(rt; (answer, reader.failures) == (Some(Fault::Read), 1));
 }
 
 // Windows of up to two records and a byte, read beside and in turn.
@@ -215,9 +215,9 @@ fn records_lie_across_the_edges_of_windows(rt: HostRuntime) -> Result<(), Fail> 
     for is_beside in [false, true] {
         for size in 1..=41 {
             let whole = count_small(&rt, alloc, &bytes, size, is_beside);
-            assert_eq!(rt; whole, Ok((6, false)), "windows of {size}");
+            assert!(rt; whole == Ok((6, false)), "windows of {size}");
             let fault = count_small(&rt, alloc, &long, size, is_beside);
-            assert_eq!(rt; fault, Err(Fault::LongRecord(7)), "windows of {size}");
+            assert!(rt; fault == Err(Fault::LongRecord(7)), "windows of {size}");
         }
     }
     Ok(())
@@ -237,7 +237,7 @@ fn a_capture_is_cut_in_any_window(rt: HostRuntime) -> Result<(), Fail> {
         // A record has 20 bytes.
         let behind_header = length.saturating_sub(24);
         let wanted = (behind_header / 20, behind_header % 20 != 0);
-        assert_eq!(rt; found, Ok(wanted), "{length} bytes");
+        assert!(rt; found == Ok(wanted), "{length} bytes");
     }
     Ok(())
 }

@@ -42,10 +42,10 @@ fn block_grows_to_two_pages(rt: HostRuntime) -> Result<(), Fail> {
         (Add(103), [6, 0], Changed(None), (0, 4)),
         (Add(104), [8, 0], Changed(None), (0, 5)),
     ];
-    assert_eq!(rt; first_wrong(&table, &mut caller, &ADDED), None);
-    assert_eq!(rt; block(&table, &mut caller, 0), (2, 1, false));
+    assert!(rt; first_wrong(&table, &mut caller, &ADDED) == None);
+    assert!(rt; block(&table, &mut caller, 0) == (2, 1, false));
     // Page 1 is free, and five pages were never used.
-    assert_eq!(rt; pages_after_growth(&table, &mut caller), Some((1, 3)));
+    assert!(rt; pages_after_growth(&table, &mut caller) == Some((1, 3)));
     const FOUND: [Row; 5] = [
         (Search, [0, 0], Kept(Some(100)), (0, 5)),
         (Search, [2, 0], Kept(Some(101)), (0, 5)),
@@ -53,7 +53,7 @@ fn block_grows_to_two_pages(rt: HostRuntime) -> Result<(), Fail> {
         (Search, [6, 0], Kept(Some(103)), (0, 5)),
         (Search, [8, 0], Kept(Some(104)), (0, 5)),
     ];
-    assert_eq!(rt; first_wrong(&table, &mut caller, &FOUND), None);
+    assert!(rt; first_wrong(&table, &mut caller, &FOUND) == None);
     Ok(())
 }
 
@@ -64,8 +64,8 @@ fn block_grows_to_four_pages(rt: HostRuntime) -> Result<(), Fail> {
         return table_refused();
     };
     assert!(rt; add_keys_to_table(&table, &mut caller, &[0, 4, 8, 12, 16]));
-    assert_eq!(rt; block(&table, &mut caller, 0), (2, 2, false));
-    assert_eq!(rt; pages_after_growth(&table, &mut caller), Some((1, 5)));
+    assert!(rt; block(&table, &mut caller, 0) == (2, 2, false));
+    assert!(rt; pages_after_growth(&table, &mut caller) == Some((1, 5)));
     assert!(rt; has(&table, &mut caller, &[0, 4, 8, 12, 16]));
     Ok(())
 }
@@ -77,13 +77,13 @@ fn block_grows_linear(rt: HostRuntime) -> Result<(), Fail> {
         return table_refused();
     };
     assert!(rt; add_keys_to_table(&table, &mut caller, &[0, 8, 16, 24, 32]));
-    assert_eq!(rt; block(&table, &mut caller, 0), (2, 1, true));
+    assert!(rt; block(&table, &mut caller, 0) == (2, 1, true));
     assert!(rt; has(&table, &mut caller, &[0, 8, 16, 24, 32]));
     const ROWS: [Row; 2] = [
         (Remove, [8, 0], Changed(Some(8)), (0, 6)),
         (Search, [8, 0], Kept(None), (0, 6)),
     ];
-    assert_eq!(rt; first_wrong(&table, &mut caller, &ROWS), None);
+    assert!(rt; first_wrong(&table, &mut caller, &ROWS) == None);
     assert!(rt; has(&table, &mut caller, &[0, 16, 24, 32]));
     Ok(())
 }
@@ -102,7 +102,7 @@ fn grown_block_is_full(rt: HostRuntime) -> Result<(), Fail> {
         (Add(128), [128, 0], Full, (0, 16)),
         (Search, [128, 0], Kept(None), (0, 16)),
     ];
-    assert_eq!(rt; first_wrong(&table, &mut caller, &ROWS), None);
+    assert!(rt; first_wrong(&table, &mut caller, &ROWS) == None);
     assert!(rt; has(&table, &mut caller, &KEYS));
     Ok(())
 }
@@ -115,7 +115,7 @@ fn block_turns_linear_at_limit(rt: HostRuntime) -> Result<(), Fail> {
         return table_refused();
     };
     assert!(rt; add_keys_to_table(&table, &mut caller, &[0, 4, 8, 12, 16, 24, 32]));
-    assert_eq!(rt; block(&table, &mut caller, 0), (6, 2, true));
+    assert!(rt; block(&table, &mut caller, 0) == (6, 2, true));
     assert!(rt; has(&table, &mut caller, &[0, 4, 8, 12, 16, 24, 32]));
     Ok(())
 }

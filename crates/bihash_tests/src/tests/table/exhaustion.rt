@@ -22,7 +22,7 @@ fn one_page_worn(rt: HostRuntime) -> Result<(), Fail> {
         (Remove, [0, 0], Worn(Some(8)), (0, 5)),
         (Add(9), [1, 0], NoPages { log2: 0, left: 0 }, (1, 0)),
     ];
-    assert_eq!(rt; first_wrong(&table, &mut caller, &ROWS), None);
+    assert!(rt; first_wrong(&table, &mut caller, &ROWS) == None);
     Ok(())
 }
 
@@ -40,7 +40,7 @@ fn worn_then_page_free(rt: HostRuntime) -> Result<(), Fail> {
         (Add(8), [0, 0], Worn(None), (0, 4)),
         (Add(9), [1, 0], Changed(None), (1, 1)),
     ];
-    assert_eq!(rt; first_wrong(&table, &mut caller, &ROWS), None);
+    assert!(rt; first_wrong(&table, &mut caller, &ROWS) == None);
     Ok(())
 }
 
@@ -62,7 +62,7 @@ fn worn(rt: HostRuntime) -> Result<(), Fail> {
         (Search, [0, 0], Kept(Some(9)), (0, 3)),
         (Add(5), [1, 0], Changed(None), (1, 1)),
     ];
-    assert_eq!(rt; first_wrong(&table, &mut caller, &ROWS), None);
+    assert!(rt; first_wrong(&table, &mut caller, &ROWS) == None);
     Ok(())
 }
 
@@ -73,16 +73,16 @@ fn pages_used_up(rt: HostRuntime) -> Result<(), Fail> {
         return table_refused();
     };
     assert!(rt; add_keys_to_table(&table, &mut caller, &[0, 2, 4, 6, 1]));
-    assert_eq!(rt; block(&table, &mut caller, 1), (2, 0, false));
+    assert!(rt; block(&table, &mut caller, 1) == (2, 0, false));
     const REMOVED: [Row; 1] = [(Remove, [1, 0], Changed(Some(1)), (1, 2))];
-    assert_eq!(rt; first_wrong(&table, &mut caller, &REMOVED), None);
-    assert_eq!(rt; block(&table, &mut caller, 1), (0, 0, false));
+    assert!(rt; first_wrong(&table, &mut caller, &REMOVED) == None);
+    assert!(rt; block(&table, &mut caller, 1) == (0, 0, false));
     const ROWS: [Row; 2] = [
         (Add(8), [8, 0], NoPages { log2: 1, left: 0 }, (0, 4)),
         (Add(9), [1, 0], Changed(None), (1, 3)),
     ];
-    assert_eq!(rt; first_wrong(&table, &mut caller, &ROWS), None);
-    assert_eq!(rt; block(&table, &mut caller, 1), (2, 0, false));
+    assert!(rt; first_wrong(&table, &mut caller, &ROWS) == None);
+    assert!(rt; block(&table, &mut caller, 1) == (2, 0, false));
     Ok(())
 }
 
@@ -94,7 +94,7 @@ fn no_pages_at_the_limit(rt: HostRuntime) -> Result<(), Fail> {
     };
     assert!(rt; add_keys_to_table(&table, &mut caller, &[0, 4, 8, 12, 16, 24]));
     const REFUSED: [Row; 1] = [(Add(32), [32, 0], NoPages { log2: 2, left: 3 }, (0, 6))];
-    assert_eq!(rt; first_wrong(&table, &mut caller, &REFUSED), None);
+    assert!(rt; first_wrong(&table, &mut caller, &REFUSED) == None);
     assert!(rt; has(&table, &mut caller, &[0, 4, 8, 12, 16, 24]));
     Ok(())
 }

@@ -64,17 +64,17 @@ fn recycled_pair(rt: HostRuntime) -> Result<(), Fail> {
     };
     let caller = &mut caller;
     assert!(rt; add_keys_to_table(&table, caller, &KEYS));
-    assert_eq!(rt; enter(&table, caller, 32, &TwoAndFour), Ok(Changed(None)));
+    assert!(rt; enter(&table, caller, 32, &TwoAndFour) == Ok(Changed(None)));
     const FOUND: [Row; 2] = [
         (Search, [2, 0], Kept(None), (0, 17)),
         (Search, [32, 0], Kept(Some(99)), (0, 17)),
     ];
-    assert_eq!(rt; first_wrong(&table, caller, &FOUND), None);
+    assert!(rt; first_wrong(&table, caller, &FOUND) == None);
     const OTHERS: [u32; 15] = [0, 4, 6, 8, 10, 12, 14, 16, 18, 20, 22, 24, 26, 28, 30];
     assert!(rt; has(&table, caller, &OTHERS));
-    assert_eq!(rt; enter(&table, caller, 34, &Nothing), Ok(Full));
-    assert_eq!(rt; stamp(caller), Some((0, 17)));
-    assert_eq!(rt; block(&table, caller, 0), (4, 2, true));
+    assert!(rt; enter(&table, caller, 34, &Nothing) == Ok(Full));
+    assert!(rt; stamp(caller) == Some((0, 17)));
+    assert!(rt; block(&table, caller, 0) == (4, 2, true));
     Ok(())
 }
 
@@ -105,7 +105,7 @@ fn two_recyclers(rt: HostRuntime) -> Result<(), Fail> {
     ];
     assert!(rt; has(&table, &mut both, &LEFT));
     let pairs = table.close(rt.alloc(), both).ok();
-    assert_eq!(rt; pairs.map(|p| p.len()), Some(16));
+    assert!(rt; pairs.map(|p| p.len()) == Some(16));
     Ok(())
 }
 

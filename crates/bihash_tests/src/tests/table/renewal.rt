@@ -40,24 +40,24 @@ fn renewed_worn_table(rt: HostRuntime) -> Result<(), Fail> {
         (Add(5), [1, 0], Changed(None), (1, 1)),
         (Add(10), [0, 0], Worn(Some(9)), (0, 3)),
     ];
-    assert_eq!(rt; first_wrong(&table, &mut caller, &WORN), None);
+    assert!(rt; first_wrong(&table, &mut caller, &WORN) == None);
     let Some((table, mut caller)) = renew(rt.alloc(), table, caller) else {
         return table_refused();
     };
-    assert_eq!(rt; stamp(&caller), None);
+    assert!(rt; stamp(&caller) == None);
     const RENEWED: [Row; 4] = [
         (Search, [0, 0], Kept(Some(9)), (0, 0)),
         (Add(10), [0, 0], Changed(Some(9)), (0, 1)),
         (Add(1), [2, 0], Changed(None), (0, 2)),
         (Search, [1, 0], Kept(Some(5)), (1, 0)),
     ];
-    assert_eq!(rt; first_wrong(&table, &mut caller, &RENEWED), None);
+    assert!(rt; first_wrong(&table, &mut caller, &RENEWED) == None);
     let Some((table, mut caller)) = renew(rt.alloc(), table, caller) else {
         return table_refused();
     };
-    assert_eq!(rt; stamp(&caller), None);
+    assert!(rt; stamp(&caller) == None);
     const AGAIN: [Row; 1] = [(Search, [0, 0], Kept(Some(10)), (0, 0))];
-    assert_eq!(rt; first_wrong(&table, &mut caller, &AGAIN), None);
+    assert!(rt; first_wrong(&table, &mut caller, &AGAIN) == None);
     Ok(())
 }
 
@@ -90,7 +90,7 @@ fn renew_strangers(rt: HostRuntime) -> Result<(), Fail> {
         return table_refused();
     };
     const ADDED: [Row; 1] = [(Add(5), [2, 0], Changed(None), (0, 1))];
-    assert_eq!(rt; first_wrong(&table, &mut first, &ADDED), None);
+    assert!(rt; first_wrong(&table, &mut first, &ADDED) == None);
     let Some((table, both)) = stays_worn(rt.alloc(), table, first, second) else {
         return table_refused();
     };

@@ -15,16 +15,16 @@ fn two_callers_without_a_meeting(rt: HostRuntime) -> Result<(), Fail> {
     let Some((table, mut first, mut second)) = two_callers::<Eight>(rt.alloc()) else {
         return table_refused();
     };
-    assert_eq!(rt; stamp(&second), None);
+    assert!(rt; stamp(&second) == None);
     const ADDED: [Row; 1] = [(Add(7), [0, 0], Changed(None), (0, 1))];
-    assert_eq!(rt; first_wrong(&table, &mut first, &ADDED), None);
+    assert!(rt; first_wrong(&table, &mut first, &ADDED) == None);
     const TOUCHED: [Row; 2] = [
         (Search, [0, 0], Kept(Some(7)), (0, 1)),
         (Touch(8), [0, 0], Changed(Some(7)), (0, 2)),
     ];
-    assert_eq!(rt; first_wrong(&table, &mut second, &TOUCHED), None);
+    assert!(rt; first_wrong(&table, &mut second, &TOUCHED) == None);
     const FOUND: [Row; 1] = [(Search, [0, 0], Kept(Some(8)), (0, 2))];
-    assert_eq!(rt; first_wrong(&table, &mut first, &FOUND), None);
+    assert!(rt; first_wrong(&table, &mut first, &FOUND) == None);
     let both = table.join(first, second);
     assert!(rt; ends_with(rt.alloc(), table, both, &[([0, 0], 8)]));
     Ok(())
@@ -45,7 +45,7 @@ fn all_callers_split(rt: HostRuntime) -> Result<(), Fail> {
     let Err((fault, _)) = table.split(rt.alloc(), caller) else {
         return Err("a sixty-fifth caller was made")?;
     };
-    assert_eq!(rt; fault, SplitFault::Numbers);
+    assert!(rt; fault == SplitFault::Numbers);
     Ok(())
 }
 
@@ -56,7 +56,7 @@ fn two_callers_join_to_close(rt: HostRuntime) -> Result<(), Fail> {
         return table_refused();
     };
     const ADDED: [Row; 1] = [(Add(5), [2, 0], Changed(None), (0, 1))];
-    assert_eq!(rt; first_wrong(&table, &mut first, &ADDED), None);
+    assert!(rt; first_wrong(&table, &mut first, &ADDED) == None);
     assert!(rt; !table.is_lone(&mut first));
     let Some((table, mut both)) = table_stays_open(rt.alloc(), table, first, second) else {
         return table_refused();
@@ -92,21 +92,15 @@ fn dropped_caller_keeps_lock(rt: HostRuntime) -> Result<(), Fail> {
         return table_refused();
     };
     assert!(rt; drop_caller_with_locks(&table, second, false));
-    assert_eq!(rt;
-        table_answer(&table, &mut first, Search, &[0, 0]),
-        Err(Contended)
-    );
-    assert_eq!(rt;
-        table_answer(&table, &mut first, Remove, &[0, 0]),
-        Err(Contended)
-    );
-    assert_eq!(rt; stamp(&first), None);
+    assert!(rt; table_answer(&table, &mut first, Search, &[0, 0]) == Err(Contended));
+    assert!(rt; table_answer(&table, &mut first, Remove, &[0, 0]) == Err(Contended));
+    assert!(rt; stamp(&first) == None);
     const ADDED: [Row; 1] = [(Add(3), [1, 0], Changed(None), (1, 1))];
-    assert_eq!(rt; first_wrong(&table, &mut first, &ADDED), None);
+    assert!(rt; first_wrong(&table, &mut first, &ADDED) == None);
     let Err((fault, _, _)) = table.close(rt.alloc(), first) else {
         return Err("the table was closed under a stranger")?;
     };
-    assert_eq!(rt; fault, CloseFault::Strangers);
+    assert!(rt; fault == CloseFault::Strangers);
     Ok(())
 }
 
@@ -117,13 +111,10 @@ fn dropped_caller_keeps_pool(rt: HostRuntime) -> Result<(), Fail> {
         return table_refused();
     };
     assert!(rt; drop_caller_with_locks(&table, second, true));
-    assert_eq!(rt;
-        table_answer(&table, &mut first, Add(3), &[1, 0]),
-        Err(Contended)
-    );
-    assert_eq!(rt; stamp(&first), None);
+    assert!(rt; table_answer(&table, &mut first, Add(3), &[1, 0]) == Err(Contended));
+    assert!(rt; stamp(&first) == None);
     const FOUND: [Row; 1] = [(Search, [1, 0], Kept(None), (1, 0))];
-    assert_eq!(rt; first_wrong(&table, &mut first, &FOUND), None);
+    assert!(rt; first_wrong(&table, &mut first, &FOUND) == None);
     Ok(())
 }
 
@@ -134,21 +125,18 @@ fn callers_that_met_keep_their_stamps(rt: HostRuntime) -> Result<(), Fail> {
         return table_refused();
     };
     const BY_FIRST: [Row; 1] = [(Call::Add(7), [0, 0], Changed(None), (0, 1))];
-    assert_eq!(rt; first_wrong(&table, &mut first, &BY_FIRST), None);
+    assert!(rt; first_wrong(&table, &mut first, &BY_FIRST) == None);
     const BY_SECOND: [Row; 2] = [
         (Call::Add(9), [1, 0], Changed(None), (1, 1)),
         (Call::Add(8), [1, 0], Changed(Some(9)), (1, 2)),
     ];
-    assert_eq!(rt; first_wrong(&table, &mut second, &BY_SECOND), None);
+    assert!(rt; first_wrong(&table, &mut second, &BY_SECOND) == None);
     let (mut first, mut second) = table.meet(first, second);
-    assert_eq!(rt;
-        (stamp(&first), stamp(&second)),
-        (Some((0, 1)), Some((1, 2)))
-    );
-    assert_eq!(rt; (first.seat.numbers(), second.seat.numbers()), (1, 1));
+    assert!(rt; (stamp(&first), stamp(&second)) == (Some((0, 1)), Some((1, 2))));
+    assert!(rt; (first.seat.numbers(), second.seat.numbers()) == (1, 1));
     const FOUND_BY_FIRST: [Row; 1] = [(Call::Search, [1, 0], Kept(Some(8)), (1, 2))];
-    assert_eq!(rt; first_wrong(&table, &mut first, &FOUND_BY_FIRST), None);
+    assert!(rt; first_wrong(&table, &mut first, &FOUND_BY_FIRST) == None);
     const FOUND_BY_SECOND: [Row; 1] = [(Call::Search, [0, 0], Kept(Some(7)), (0, 1))];
-    assert_eq!(rt; first_wrong(&table, &mut second, &FOUND_BY_SECOND), None);
+    assert!(rt; first_wrong(&table, &mut second, &FOUND_BY_SECOND) == None);
     Ok(())
 }

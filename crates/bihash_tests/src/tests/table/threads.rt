@@ -32,7 +32,7 @@ fn two_writers(rt: HostRuntime) -> Result<(), Fail> {
         (Search, [0, 0], Kept(Some(1000)), (0, 2000)),
         (Search, [2, 0], Kept(Some(1000)), (0, 2000)),
     ];
-    assert_eq!(rt; first_wrong(&table, &mut both, &FOUND), None);
+    assert!(rt; first_wrong(&table, &mut both, &FOUND) == None);
     Ok(())
 }
 
@@ -122,15 +122,15 @@ fn two_threads_keep_and_search(rt: HostRuntime) -> Result<(), Fail> {
         return table_refused();
     };
     const ADDED: [Row; 1] = [(Add(7), [0, 0], Changed(None), (0, 1))];
-    assert_eq!(rt; first_wrong(&table, &mut first, &ADDED), None);
+    assert!(rt; first_wrong(&table, &mut first, &ADDED) == None);
     let patch = KeepsLate {
         entered: AtomicBool::new(false),
         passed: AtomicBool::new(false),
         gave_up: AtomicBool::new(false),
     };
     let (kept, found) = keep_and_search(&rt, &table, first, second, &patch);
-    assert_eq!(rt; kept, Some(Reply::Kept(Some(7))));
-    assert_eq!(rt; found, Some(Some(7)));
+    assert!(rt; kept == Some(Reply::Kept(Some(7))));
+    assert!(rt; found == Some(Some(7)));
     assert!(rt; !patch.gave_up.load(Ordering::SeqCst));
     Ok(())
 }
@@ -174,7 +174,7 @@ fn page_given_away_under_readers(rt: HostRuntime) -> Result<(), Fail> {
     assert!(rt; as_written);
     // The page is not lost.
     let added = table_answer(&table, &mut all, Add(12), &[0, 0]);
-    assert_eq!(rt; added, Ok(Changed(None)));
+    assert!(rt; added == Ok(Changed(None)));
     Ok(())
 }
 

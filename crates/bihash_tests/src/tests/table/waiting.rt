@@ -109,10 +109,7 @@ fn waiting_calls_by_name(rt: HostRuntime) -> Result<(), Fail> {
         (Call::Search, [0, 0], Kept(None), (0, 3)),
         (Call::Add(4), [0, 0], Changed(None), (0, 4)),
     ];
-    assert_eq!(rt;
-        first_wrong_waiting(&rt, &table, &mut caller, true, &ROWS),
-        None
-    );
+    assert!(rt; first_wrong_waiting(&rt, &table, &mut caller, true, &ROWS) == None);
     Ok(())
 }
 
@@ -134,9 +131,6 @@ fn waiting_calls_by_patch(rt: HostRuntime) -> Result<(), Fail> {
         (Call::AddIfAbsent(4), [1, 5], Changed(None), (1, 5)),
         (Call::Search, [1, 5], Kept(Some(4)), (1, 5)),
     ];
-    assert_eq!(rt;
-        first_wrong_waiting(&rt, &table, &mut caller, false, &ROWS),
-        None
-    );
+    assert!(rt; first_wrong_waiting(&rt, &table, &mut caller, false, &ROWS) == None);
     Ok(())
 }

@@ -63,10 +63,9 @@ fn lines_are_written_as_soon_as_their_records_are_there(rt: HostRuntime) -> Resu
         };
         let mut writer = trickling(alloc, usize::MAX);
         let outcome = run_live(&rt, alloc, &DEFAULTS, POLICY, &mut reader, &mut writer);
-        assert_eq!(rt; outcome, Err(Fault::Read), "after {count} bytes");
-        assert_eq!(rt;
-            writer.taken.as_slice(),
-            lines.as_bytes(),
+        assert!(rt; outcome == Err(Fault::Read), "after {count} bytes");
+        assert!(rt;
+            writer.taken.as_slice() == lines.as_bytes(),
             "after {count} bytes"
         );
         let mut reader = Drip {
@@ -76,10 +75,10 @@ fn lines_are_written_as_soon_as_their_records_are_there(rt: HostRuntime) -> Resu
         };
         let mut writer = trickling(alloc, usize::MAX);
         let outcome = run_live(&rt, alloc, &DEFAULTS, POLICY, &mut reader, &mut writer);
-        assert_eq!(rt; outcome.is_ok(), true, "of {count} bytes");
+        assert!(rt; outcome.is_ok() == true, "of {count} bytes");
         let (told, behind) = writer.taken.split_at(lines.len().min(writer.taken.len()));
-        assert_eq!(rt; told, lines.as_bytes(), "of {count} bytes");
-        assert_eq!(rt; behind, end.as_bytes(), "of {count} bytes");
+        assert!(rt; told == lines.as_bytes(), "of {count} bytes");
+        assert!(rt; behind == end.as_bytes(), "of {count} bytes");
     }
     Ok(())
 }

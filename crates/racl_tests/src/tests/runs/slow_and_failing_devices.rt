@@ -104,9 +104,9 @@ fn run_on_sound_devices(rt: HostRuntime) {
         dropped: 1,
         truncated: false,
     };
-    assert_eq!(rt; outcome, Ok(totals));
-    assert_eq!(rt; status(&outcome), 0);
-    assert_eq!(rt; writer.inner.as_slice(), whole_run_report());
+    assert!(rt; outcome == Ok(totals));
+    assert!(rt; status(&outcome) == 0);
+    assert!(rt; writer.inner.as_slice() == whole_run_report());
 }
 
 /// A run on slow devices: a read and a write for each byte.
@@ -120,8 +120,8 @@ fn run_on_slow_devices(rt: HostRuntime) {
     };
     let mut writer = trickling(alloc, usize::MAX);
     let outcome = run(&rt, alloc, &DEFAULTS, &mut reader, &mut writer);
-    assert_eq!(rt; status(&outcome), 0);
-    assert_eq!(rt; writer.taken.as_slice(), whole_run_report());
+    assert!(rt; status(&outcome) == 0);
+    assert!(rt; writer.taken.as_slice() == whole_run_report());
 }
 
 /// Runs on failing devices: wherever a read fails, nothing is written.
@@ -137,9 +137,9 @@ fn runs_with_failing_reads(rt: HostRuntime) {
         };
         let mut writer = trickling(alloc, usize::MAX);
         let outcome = run(&rt, alloc, &DEFAULTS, &mut reader, &mut writer);
-        assert_eq!(rt; outcome, Err(Fault::Read), "after {reads} reads");
-        assert_eq!(rt; reader.failures, 1, "after {reads} reads");
-        assert_eq!(rt; writer.taken.len(), 0, "after {reads} reads");
+        assert!(rt; outcome == Err(Fault::Read), "after {reads} reads");
+        assert!(rt; reader.failures == 1, "after {reads} reads");
+        assert!(rt; writer.taken.len() == 0, "after {reads} reads");
     }
 }
 
@@ -152,9 +152,9 @@ fn runs_with_failing_writes(rt: HostRuntime) {
         let mut reader = Device::new(whole_run_input());
         let mut writer = trickling(alloc, writes);
         let outcome = run(&rt, alloc, &DEFAULTS, &mut reader, &mut writer);
-        assert_eq!(rt; outcome, Err(Fault::Write), "after {writes} writes");
-        assert_eq!(rt; writer.failures, 1, "after {writes} writes");
-        assert_eq!(rt; writer.taken.as_slice(), &report[..writes]);
+        assert!(rt; outcome == Err(Fault::Write), "after {writes} writes");
+        assert!(rt; writer.failures == 1, "after {writes} writes");
+        assert!(rt; writer.taken.as_slice() == &report[..writes]);
     }
 }
 
@@ -164,6 +164,6 @@ fn a_write_of_nothing_is_a_failed_one(rt: HostRuntime) {
     let mut reader = Device::new(whole_run_input());
     let mut writer = Stopped { failures: 0 };
     let outcome = run(&rt, rt.alloc(), &DEFAULTS, &mut reader, &mut writer);
-    assert_eq!(rt; outcome, Err(Fault::Write));
-    assert_eq!(rt; writer.failures, 1);
+    assert!(rt; outcome == Err(Fault::Write));
+    assert!(rt; writer.failures == 1);
 }
