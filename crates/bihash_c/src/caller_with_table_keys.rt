@@ -2,7 +2,7 @@
 ghost use Rattle.bihash_table.specs.Calls.{TellsRecycleTry, TellsSearchTry, TellsUpdateTry};
 
 use crate::caller_with_table::CallerWithTable;
-use bihash_table::Contended;
+use bihash_table::{Contended, KeyWithHash};
 use bihash_words::{Expiry, Patch, Reply, Shape};
 
 impl<S: Shape> CallerWithTable<S> {
@@ -36,6 +36,6 @@ impl<S: Shape> CallerWithTable<S> {
             (E.is_expired expiry.now) result }
     {
         let sessions = self.share.sessions();
-        sessions.try_add_or_recycle(&mut self.caller, key, patch, expiry)
+        sessions.try_add_or_recycle(&mut self.caller, &KeyWithHash::of(key), patch, expiry)
     }
 }

@@ -5,6 +5,7 @@ ghost use Rattle.bihash_words.specs.Pages.{page_of, word_paging};
 ghost use Rattle.bihash_rule.specs.Words.{buckets};
 ghost use Rattle.bihash_rule.specs.Histories.{bucket_of};
 
+use crate::key_with_hash::KeyWithHash;
 use bihash_words::{BucketWord, Shape};
 
 /// A key with what its hash and its words tell: the bucket, the bits after those that name it, which
@@ -37,7 +38,18 @@ impl<'k, S: Shape> HashedKey<'k, S> {
         ensures counted { length (S.words_of key.now) ≡ S.WORDS }
         ensures inside { result.bucket < buckets (sizes_of S.Shape) }
     {
-        let hash = S::hash(key);
+        HashedKey::with_hash(&KeyWithHash::of(key))
+    }
+
+    /// Where this key belongs, whose hash is known.
+    pub(crate) fn with_hash(known: &KeyWithHash<'k, S>) -> HashedKey<'k, S>
+        requires { IsSound (sizes_of S.Shape) }
+        ensures key { result.key.now ≡ known.now.key.now }
+        ensures home { bucket_of (sizes_of S.Shape) (S.words_of known.now.key.now) ≡ result.bucket }
+        ensures counted { length (S.words_of known.now.key.now) ≡ S.WORDS }
+        ensures inside { result.bucket < buckets (sizes_of S.Shape) }
+    {
+        let (key, hash) = (known.key, known.hash);
         HashedKey {
             bucket: (hash % (1u64 << S::LOG2_BUCKETS)) as usize,
             page_bits: hash >> S::LOG2_BUCKETS,

@@ -15,6 +15,7 @@ use crate::change_of_block::enter_larger;
 use crate::contended::Contended;
 use crate::entered_value::Entrant;
 use crate::hashed_key::{HashedKey, SeenBucket};
+use crate::key_with_hash::KeyWithHash;
 use crate::never_expired::Never;
 use crate::open_bucket_search::{pair_in_open_bucket, room_in_open_bucket, value_found};
 use crate::shared_table::Sessions;
@@ -37,7 +38,7 @@ impl<S: Shape> Sessions<S> {
         requires { IsIdle self.now.row caller.old.seat }
         ensures { TellsUpdateTry ⟦<S as Shape>⟧ caller.old.seat caller.new.seat key.now (P.decision patch.now) result }
     {
-        self.try_add_or_recycle(caller, key, patch, &Never)
+        self.try_add_or_recycle(caller, &KeyWithHash::of(key), patch, &Never)
     }
 
     /// Tries an update once as `try_update` does, but where the answer would be `Full`, the new pair takes the place of
@@ -47,16 +48,16 @@ impl<S: Shape> Sessions<S> {
     pub fn try_add_or_recycle<P: Patch, E: Expiry>(
         &self,
         caller: &mut Caller<S>,
-        key: &S::Key,
+        known: &KeyWithHash<'_, S>,
         patch: &P,
         expiry: &E,
     ) -> Result<Reply, Contended>
         requires { IsIdle self.now.row caller.old.seat }
-        ensures { TellsRecycleTry ⟦<S as Shape>⟧ caller.old.seat caller.new.seat key.now (P.decision patch.now)
+        ensures { TellsRecycleTry ⟦<S as Shape>⟧ caller.old.seat caller.new.seat known.now.key.now (P.decision patch.now)
             (E.is_expired expiry.now) result }
     {
         self.row.is_sound();
-        let hashed = HashedKey::of(key);
+        let hashed = HashedKey::with_hash(known);
         let Some(word) = load_unlocked(&self.row, &mut caller.seat, hashed.bucket) else {
             return Err(Contended);
         };

@@ -5,6 +5,7 @@ ghost use Rattle.bihash_words.specs.declared.patch.Change.TheVariants.{Set, Remo
 ghost use Rattle.bihash_steps.specs.CallerCalls.{IsIdle};
 ghost use Rattle.bihash_table.specs.Calls.{TellsRecycle, TellsUpdate};
 
+use crate::key_with_hash::KeyWithHash;
 use crate::shared_table::Sessions;
 use bihash_steps::Caller;
 use bihash_words::{Add, AddIfAbsent, Delete, Expiry, Patch, Reply, Shape, Touch};
@@ -42,17 +43,17 @@ impl<S: Shape> Sessions<S> {
         &self,
         rt: &R,
         caller: &mut Caller<S>,
-        key: &S::Key,
+        known: &KeyWithHash<'_, S>,
         patch: &P,
         expiry: &E,
     ) -> Reply
         requires { IsIdle self.now.row caller.old.seat }
-        ensures { TellsRecycle ⟦<S as Shape>⟧ caller.old.seat caller.new.seat key.now (P.decision patch.now)
+        ensures { TellsRecycle ⟦<S as Shape>⟧ caller.old.seat caller.new.seat known.now.key.now (P.decision patch.now)
             (E.is_expired expiry.now) result }
     {
         let backoff = Backoff::new();
         for _ in rt.forever() {
-            if let Ok(reply) = self.try_add_or_recycle(caller, key, patch, expiry) {
+            if let Ok(reply) = self.try_add_or_recycle(caller, known, patch, expiry) {
                 return reply;
             }
             backoff.snooze();

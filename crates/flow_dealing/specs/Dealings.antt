@@ -2,11 +2,17 @@
 use Rattle.std.specs.Prelude.{ℕ, ◌%◌, Option, Some, None}
 use Rattle.packet_view.specs.Frames as frames
 use Rattle.session_state.specs.declared.flow.Flow.{Flow}
+use Rattle.session_state.specs.declared.flow.FlowKey.{FlowKey}
 use Rattle.session_state.specs.Flows.{flow_of}
 use Rattle.flow_filter.specs.Readings.{Framed, Reading, Ruled}
-use Rattle.flow_filter.specs.OneThread.{Layout, home_of}
+use Rattle.flow_filter.specs.OneThread.{Layout, family_of, home_of, sizes_in}
+use Rattle.flow_filter.specs.Updates.{words_of}
 use Rattle.flow_dealing.specs.declared.dealing.Dealing.{Dealing}
 use Rattle.flow_dealing.specs.declared.dealing.Dealing.TheVariants.{Round, Bucket}
+
+-- the hash of a key in the table of its family
+abbrev pub hash_in : Layout → FlowKey → ℕ
+hash_in l key = (sizes_in l (family_of key)).hash (words_of key)
 
 -- what packets are dealt by, to how many workers
 pub record Deal : Type 0 where

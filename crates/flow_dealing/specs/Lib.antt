@@ -1,4 +1,5 @@
 pub mod Dealings
+pub mod HashedFlows
 pub mod Places
 pub mod Traces
 pub mod Views

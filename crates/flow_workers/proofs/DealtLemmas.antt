@@ -17,6 +17,8 @@ use Rattle.flow_filter.specs.Readings.{IsSeenAt}
 use Rattle.flow_filter.specs.InterfaceFilters.{IsReadyAt}
 use Rattle.flow_filter.specs.declared.interface_filters.InterfaceFilter.{InterfaceFilter}
 use Rattle.flow_filter.specs.declared.verdict.Verdict.{Verdict}
+use Rattle.flow_filter.specs.OneThread.{layout_of}
+use Rattle.flow_dealing.specs.HashedFlows.{IsHashed}
 use Rattle.packet_dealing.proofs.DealtLists.{front_only, next_there, some_left, stands_at, there_behind}
 use Rattle.packet_dealing.specs.Dealt.{AreDealt, IsDealtTo}
 use Rattle.packet_dealing.specs.declared.dealt_chunk.DealtChunk.{DealtChunk}
@@ -71,8 +73,8 @@ module _ {A B R G K L : Type 0} (ga : Ghosts A K) (gb : Ghosts B L) (batch : Bat
       → IsReadyAt (policy_of batch.setup) batch.setup.filter.now.times packet.interface filter
       → IsViewed filter.own packet viewed → frame ≡ frame_facts viewed.frame.now → IsSeenAt filter.own packet frame
       → ((other : FrameFacts) → IsSeenAt filter.own packet other → other ≡ frame)
-      → MayJudgeViewed ga gb batch worker at filter viewed share
-  may_judge_viewed worker at packet filter viewed frame share may ready seen same shown only = record {
+      → IsHashed (layout_of ga gb) viewed.hashed.now → MayJudgeViewed ga gb batch worker at filter viewed share
+  may_judge_viewed worker at packet filter viewed frame share may ready seen same shown only hashed = record {
     shapes = may.shapes;
     idle = may.idle;
     fits = may.fits;
@@ -83,6 +85,7 @@ module _ {A B R G K L : Type 0} (ga : Ghosts A K) (gb : Ghosts B L) (batch : Bat
       seen = seen;
       only = λ other is. only other is ∙ same;
     };
+    hashed = hashed;
     mine = subst (λ f. IsWorkerOf ga gb batch at f worker) same (may.mine filter.own frame shown);
   }
 

@@ -1,33 +1,38 @@
 //! One worker: each packet that is dealt to it is judged, in the order of the file.
-ghost use Rattle.std.specs.Prelude.{◌+◌, ◌<◌, IfOk, length, map};
-ghost use Rattle.packet_view.specs.Captures.{packet_facts};
+ghost use Rattle.std.specs.Prelude.{◌+◌, ◌<◌, IfOk, length};
+ghost use Rattle.packet_dealing.specs.Dealt.{place_of};
 ghost use Rattle.flow_workers.specs.inner.Jobs.{CanWork, HasWorked, HasWorkedOn, IsShareOf, MayJudgeChunk, MayJudgeFound};
 
 use crate::gate::Gate;
-use crate::worker_packet_verdict::{judge_by_view, judge_sighting};
+use crate::worker_packet_verdict::{judge_other, judge_sighting};
 use crate::worker_share::{Batch, Dealt, Job, Share};
 use bihash_words::Shape;
-use packet_dealing::{DealtChunk, Found};
-use packet_view::Packet;
+use packet_dealing::{DealtChunk, DealtPacket, OtherSighting};
 use std::alloc::AllocError;
 use std::sync::Wait;
 
-// Judges a packet of the worker, which stands at this place among those of the batch, by what was found of it.
+// Judges a packet of the worker, which stands in a chunk that begins at this place among those of the batch, by what was found
+// of it.
 #[inline(always)]
 fn judge_found<A: Shape, B: Shape, R: Wait, G: Gate>(
     batch: &Batch<'_, '_, '_, A, B, R, G>,
     worker: usize,
-    at: usize,
-    others: &[Packet<'_>],
-    found: &Found,
+    first: usize,
+    others: &[OtherSighting<'_>],
+    found: &DealtPacket,
     share: &mut Share<A, B>,
 ) -> Result<(), AllocError>
-    requires { MayJudgeFound ⟦<A as Shape>⟧ ⟦<B as Shape>⟧ batch.now worker at (map packet_facts others.now) found.now share.old }
-    ensures { IfOk result (λ _. HasWorkedOn ⟦<A as Shape>⟧ ⟦<B as Shape>⟧ batch.now worker at (at + 1) share.old share.new) }
+    requires { MayJudgeFound ⟦<A as Shape>⟧ ⟦<B as Shape>⟧ batch.now worker first others.now found.now share.old }
+    ensures { IfOk result (λ _. HasWorkedOn ⟦<A as Shape>⟧ ⟦<B as Shape>⟧ batch.now worker (first + place_of found.now)
+        (first + place_of found.now + 1) share.old share.new) }
 {
     match found {
-        Found::Plain(seen) => judge_sighting(batch, worker, at, seen, share),
-        Found::Other(place) => judge_by_view(batch, worker, at, &others[*place], share),
+        DealtPacket::Plain(at, seen) => {
+            judge_sighting(batch, worker, first + *at as usize, seen, share)
+        }
+        DealtPacket::Other(at, place) => {
+            judge_other(batch, worker, first + *at, &others[*place], share)
+        }
     }
 }
 
@@ -46,7 +51,7 @@ fn judge_chunk<'a, A: Shape, B: Shape, R: Wait, G: Gate>(
     let own = chunk.own[worker].as_slice();
     let others = chunk.others.as_slice();
     for dealt in own {
-        judge_found(batch, worker, first + dealt.at, others, &dealt.found, share)?;
+        judge_found(batch, worker, first, others, dealt, share)?;
     }
     Ok(())
 }

@@ -6,10 +6,10 @@ ghost use Rattle.flow_workers.specs.inner.Together.{HasJudgedNext, HaveJudgedBat
 ghost use Rattle.flow_workers.specs.inner.Turns.{MayJudgeBatch};
 
 use crate::gate::Gate;
-use crate::worker_packet_verdict::judge_packet;
+use crate::worker_packet_verdict::{judge_other, judge_packet, judge_sighting};
 use crate::worker_share::{Batch, JudgedBatch, Share};
 use bihash_words::Shape;
-use packet_dealing::worker_of_packet;
+use packet_dealing::{see_other, see_plain, worker_of_packet};
 use packet_view::{Packet, PacketBursts};
 use std::alloc::{AllocError, Global};
 use std::sync::Wait;
@@ -25,8 +25,16 @@ fn judge_next<A: Shape, B: Shape, R: Wait, G: Gate>(
     requires { MayJudgeNext ⟦<A as Shape>⟧ ⟦<B as Shape>⟧ batch.now at (packet_facts packet.now) shares.old.items }
     ensures { IfOk result (HasJudgedNext ⟦<A as Shape>⟧ ⟦<B as Shape>⟧ batch.now at (packet_facts packet.now) shares.old.items shares.new.items) }
 {
-    let worker = worker_of_packet::<A, B>(&batch.setup.dealer(), batch.first + at, packet);
-    judge_packet(batch, worker, at, packet, &mut shares[worker])?;
+    let dealer = batch.setup.dealer();
+    let number = batch.first + at;
+    let Some(seen) = see_plain::<A, B>(packet) else {
+        let other = see_other::<A, B>(*packet);
+        let worker = worker_of_packet::<A, B>(&dealer, number, &other.hashed);
+        judge_other(batch, worker, at, &other, &mut shares[worker])?;
+        return Ok(worker);
+    };
+    let worker = worker_of_packet::<A, B>(&dealer, number, &seen.hashed_flow());
+    judge_sighting(batch, worker, at, &seen, &mut shares[worker])?;
     Ok(worker)
 }
 

@@ -36,7 +36,7 @@ impl<'a, D: HasReading> PacketPlan<'a, D> {
             Frame::Malformed => PacketPlan::Settled(Verdict::Malformed),
             Frame::Short => PacketPlan::Settled(Verdict::Short),
             Frame::Ip(direction, tuple) => {
-                let Some(flow) = packet.flow else {
+                let Some(flow) = &packet.hashed.flow else {
                     let ruling = filter.rules_of(*direction).first_match(&tuple_copy(tuple));
                     return PacketPlan::Settled(verdict_of_rules(ruling));
                 };

@@ -5,6 +5,8 @@ ghost use Rattle.packet_view.specs.Frames.{frame_facts};
 ghost use Rattle.bihash_table.specs.Tries.{TookByTries};
 ghost use Rattle.flow_filter.specs.Filters.{section_in};
 ghost use Rattle.flow_filter.specs.Liveness.{IsForeseen};
+ghost use Rattle.flow_filter.specs.OneThread.{layout_of};
+ghost use Rattle.flow_dealing.specs.HashedFlows.{IsHashed};
 ghost use Rattle.flow_workers.specs.Calls.{MayAsk, TellsVerdict};
 ghost use Rattle.flow_workers.specs.Judging.{TookByOneTry};
 ghost use Rattle.flow_workers.specs.inner.PacketPlans.{IsFrameRuling};
@@ -12,11 +14,12 @@ ghost use Rattle.flow_workers.specs.inner.ViewedPackets.{TellsViewed};
 
 use crate::packet_plan::PacketPlan;
 use crate::session_tables::{Callers, Tables};
-use crate::table_update::update;
+use crate::table_update::{HashedKey, update};
 use crate::update_tries::{OneTry, Tries, UntilAnswered};
 use crate::viewed_packet::ViewedPacket;
 use bihash_table::Contended;
 use bihash_words::Shape;
+use flow_dealing::HashedFlow;
 use flow_filter::{Filter, HasReading, InterfaceFilter, Verdict};
 use packet_dealing::flow_of_frame;
 use packet_view::{Packet, view};
@@ -36,6 +39,7 @@ pub fn judge_as<A: Shape, B: Shape, D: HasReading, T: Tries>(
     requires asks { MayAsk tables.now callers.old }
     requires ruling { IsFrameRuling (section_in filter.now) (frame_facts packet.now.frame.now) D.ruling }
     requires lives { IsForeseen filter.now.times packet.now.moment D.is_live }
+    requires hashed { IsHashed (layout_of ⟦<A as Shape>⟧ ⟦<B as Shape>⟧) packet.now.hashed.now }
     ensures { TellsViewed T.took filter.now packet.now tables.now callers.old callers.new result }
 {
     match PacketPlan::<D>::new(filter, packet) {
@@ -45,7 +49,11 @@ pub fn judge_as<A: Shape, B: Shape, D: HasReading, T: Tries>(
                 moment: packet.moment,
                 times: filter.times,
             };
-            match update(tries, tables, callers, *key, &patch, &expiry) {
+            let hashed = HashedKey {
+                key: *key,
+                hash: packet.hashed.hash,
+            };
+            match update(tries, tables, callers, hashed, &patch, &expiry) {
                 Ok(reply) => Ok(patch.verdict(reply)),
                 Err(refusal) => Err(refusal),
             }
@@ -66,8 +74,8 @@ pub fn judge<A: Shape, B: Shape, R: Wait>(
 {
     let filter = filter.ready(packet.interface);
     let frame = view(packet.frame, packet.interface, filter.own);
-    let flow = flow_of_frame(&frame);
-    let packet = ViewedPacket::new(packet.moment, &frame, &flow);
+    let hashed = HashedFlow::of::<A, B>(flow_of_frame(&frame));
+    let packet = ViewedPacket::new(packet.moment, &frame, &hashed);
     let tries = UntilAnswered { rt };
     let Ok(verdict) = judge_as::<A, B, Brand, UntilAnswered<'_, R>>(
         &tries, &filter, tables, callers, &packet,
@@ -87,7 +95,7 @@ pub fn try_judge<A: Shape, B: Shape>(
 {
     let filter = filter.ready(packet.interface);
     let frame = view(packet.frame, packet.interface, filter.own);
-    let flow = flow_of_frame(&frame);
-    let packet = ViewedPacket::new(packet.moment, &frame, &flow);
+    let hashed = HashedFlow::of::<A, B>(flow_of_frame(&frame));
+    let packet = ViewedPacket::new(packet.moment, &frame, &hashed);
     judge_as::<A, B, Brand, OneTry>(&OneTry, &filter, tables, callers, &packet)
 }

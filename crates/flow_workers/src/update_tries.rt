@@ -5,10 +5,17 @@ ghost use Rattle.bihash_rule.specs.declared.view.View.{View};
 ghost use Rattle.bihash_steps.specs.CallerCalls.{IsIdle};
 ghost use Rattle.flow_workers.specs.inner.Updates.{TellsWords};
 
-use bihash_table::{Caller, Contended, Sessions};
+use bihash_table::{Caller, Contended, KeyWithHash, Sessions};
 use bihash_words::{Expiry, Patch, Reply, Shape};
 use std::convert::Infallible;
 use std::sync::Wait;
+
+/// The words of a key, and their hash.
+#[derive(Clone, Copy)]
+pub struct KeyWords<'w> {
+    pub words: &'w [u64],
+    pub hash: u64,
+}
 
 /// How often an update of a table is tried.
 pub trait Tries {
@@ -23,13 +30,14 @@ pub trait Tries {
         &self,
         table: &Sessions<S>,
         caller: &mut Caller<S>,
-        words: &[u64],
+        key: &KeyWords<'_>,
         patch: &P,
         expiry: &E,
     ) -> Result<Reply, Self::Refusal>
-        requires counted { length words.now ≡ S.WORDS }
+        requires counted { length key.now.words.now ≡ S.WORDS }
+        requires hashed { key.now.hash ≡ S.hash_of_words key.now.words.now }
         requires idle { IsIdle table.now.row caller.old.seat }
-        ensures { TellsWords took ⟦<S as Shape>⟧ caller.old.seat caller.new.seat words.now (P.decision patch.now)
+        ensures { TellsWords took ⟦<S as Shape>⟧ caller.old.seat caller.new.seat key.now.words.now (P.decision patch.now)
             (E.is_expired expiry.now) result };
 }
 
@@ -48,11 +56,16 @@ impl Tries for OneTry {
         &self,
         table: &Sessions<S>,
         caller: &mut Caller<S>,
-        words: &[u64],
+        key: &KeyWords<'_>,
         patch: &P,
         expiry: &E,
     ) -> Result<Reply, Contended> {
-        table.try_add_or_recycle(caller, &S::key(words), patch, expiry)
+        let words = S::key(key.words);
+        let known = KeyWithHash {
+            key: &words,
+            hash: key.hash,
+        };
+        table.try_add_or_recycle(caller, &known, patch, expiry)
     }
 }
 
@@ -74,10 +87,15 @@ impl<'r, R: Wait> Tries for UntilAnswered<'r, R> {
         &self,
         table: &Sessions<S>,
         caller: &mut Caller<S>,
-        words: &[u64],
+        key: &KeyWords<'_>,
         patch: &P,
         expiry: &E,
     ) -> Result<Reply, Infallible> {
-        Ok(table.add_or_recycle(self.rt, caller, &S::key(words), patch, expiry))
+        let words = S::key(key.words);
+        let known = KeyWithHash {
+            key: &words,
+            hash: key.hash,
+        };
+        Ok(table.add_or_recycle(self.rt, caller, &known, patch, expiry))
     }
 }

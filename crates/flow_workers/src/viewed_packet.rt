@@ -4,8 +4,8 @@ ghost use Rattle.std.specs.Option.{ForSome};
 ghost use Rattle.packet_view.specs.Frames.{frame_facts};
 ghost use Rattle.flow_dealing.specs.Dealings.{flow_of_frame};
 
+use flow_dealing::HashedFlow;
 use packet_view::Frame;
-use session_state::Flow;
 
 /// A packet whose frame was viewed. Its frame and flow stay where they were made.
 #[derive(Clone, Copy)]
@@ -13,10 +13,9 @@ pub struct ViewedPacket<'a> {
     /// When the packet came, in seconds.
     pub moment: u32,
     pub frame: &'a Frame,
-    /// `None`: the packet takes no part in sessions.
-    pub flow: &'a Option<Flow>,
-    pub ghost shown: { flow.now ≡ flow_of_frame (frame_facts frame.now) },
-    pub ghost of_two: { ForSome flow.now (λ f. f.side < 2) },
+    pub hashed: &'a HashedFlow,
+    pub ghost shown: { hashed.now.flow ≡ flow_of_frame (frame_facts frame.now) },
+    pub ghost of_two: { ForSome hashed.now.flow (λ f. f.side < 2) },
 }
 
 impl<'a> ViewedPacket<'a> {
@@ -29,17 +28,18 @@ impl<'a> ViewedPacket<'a> {
     ghost use Rattle.flow_workers.specs.inner.ViewedPackets.{IsViewed};
 
     /// A packet of this second, whose frame turned out to be this and shows this flow.
-    pub fn new(moment: u32, frame: &'a Frame, flow: &'a Option<Flow>) -> ViewedPacket<'a>
-        requires shown { flow.now ≡ flow_of_frame (frame_facts frame.now) }
-        requires side { ForSome flow.now (λ f. f.side < 2) }
+    pub fn new(moment: u32, frame: &'a Frame, hashed: &'a HashedFlow) -> ViewedPacket<'a>
+        requires shown { hashed.now.flow ≡ flow_of_frame (frame_facts frame.now) }
+        requires side { ForSome hashed.now.flow (λ f. f.side < 2) }
         ensures seen { (own : Option Mac) (packet : PacketFacts) → packet.moment ≡ moment
             → IsSeenAt own packet (frame_facts frame.now) → IsViewed own packet result }
         ensures frame { result.frame.now ≡ frame.now }
+        ensures hashed { result.hashed.now ≡ hashed.now }
     {
         ViewedPacket {
             moment,
             frame,
-            flow,
+            hashed,
         }
     }
 }

@@ -1,7 +1,7 @@
 //! One packet of a worker: what it is, and its verdict, which the worker says.
 ghost use Rattle.std.specs.Prelude.{◌+◌, IfOk};
 ghost use Rattle.packet_view.specs.Captures.{packet_facts};
-ghost use Rattle.flow_workers.specs.inner.Jobs.{HasWorkedOn, MayJudgePacket, MayJudgeSighting, MayJudgeViewed};
+ghost use Rattle.flow_workers.specs.inner.Jobs.{HasWorkedOn, MayJudgeOther, MayJudgePacket, MayJudgeSighting, MayJudgeViewed};
 
 use crate::gate::Gate;
 use crate::packet_verdict::judge_as;
@@ -9,9 +9,10 @@ use crate::update_tries::UntilAnswered;
 use crate::viewed_packet::ViewedPacket;
 use crate::worker_share::{Batch, Share};
 use bihash_words::Shape;
+use flow_dealing::HashedFlow;
 use flow_filter::InterfaceFilter;
-use packet_dealing::{PlainSighting, flow_of_frame};
-use packet_view::{Packet, plain_frame, view};
+use packet_dealing::{OtherSighting, PlainSighting, flow_of_frame, see_other};
+use packet_view::{Packet, plain_frame};
 use std::alloc::AllocError;
 use std::marker::Brand;
 use std::sync::Wait;
@@ -47,23 +48,23 @@ fn record_verdict<A: Shape, B: Shape, R: Wait, G: Gate>(
     Ok(())
 }
 
-/// Judges a packet of the worker by the view of its frame. Few frames aren't plain, and what is done with the others is
-/// shorter without this.
+/// Judges a packet of the worker, which stands at this place among those of the batch, and was seen so. Few frames aren't plain,
+/// and what is done with the others is shorter without this.
 #[inline(never)]
-pub fn judge_by_view<A: Shape, B: Shape, R: Wait, G: Gate>(
+pub fn judge_other<A: Shape, B: Shape, R: Wait, G: Gate>(
     batch: &Batch<'_, '_, '_, A, B, R, G>,
     worker: usize,
     at: usize,
-    packet: &Packet<'_>,
+    seen: &OtherSighting<'_>,
     share: &mut Share<A, B>,
 ) -> Result<(), AllocError>
-    requires { MayJudgePacket ⟦<A as Shape>⟧ ⟦<B as Shape>⟧ batch.now worker at (packet_facts packet.now) share.old }
+    requires { MayJudgeOther ⟦<A as Shape>⟧ ⟦<B as Shape>⟧ batch.now worker at seen.now share.old }
     ensures { IfOk result (λ _. HasWorkedOn ⟦<A as Shape>⟧ ⟦<B as Shape>⟧ batch.now worker at (at + 1) share.old share.new) }
 {
+    let packet = seen.packet;
     let filter = batch.setup.filter.at(packet.interface);
-    let frame = view(packet.frame, packet.interface, filter.own);
-    let flow = flow_of_frame(&frame);
-    let viewed = ViewedPacket::new(packet.moment, &frame, &flow);
+    let frame = seen.frame.at(packet.frame, packet.interface, filter.own);
+    let viewed = ViewedPacket::new(packet.moment, &frame, &seen.hashed);
     record_verdict(batch, worker, at, filter, &viewed, share)
 }
 
@@ -81,13 +82,13 @@ pub fn judge_sighting<A: Shape, B: Shape, R: Wait, G: Gate>(
     ensures { IfOk result (λ _. HasWorkedOn ⟦<A as Shape>⟧ ⟦<B as Shape>⟧ batch.now worker at (at + 1) share.old share.new) }
 {
     let filter = batch.setup.filter.at(seen.interface);
-    let frame = seen.frame.at(seen.interface, filter.own);
-    let flow = flow_of_frame(&frame);
-    let viewed = ViewedPacket::new(seen.moment, &frame, &flow);
+    let frame = seen.frame().at(seen.interface, filter.own);
+    let hashed = seen.hashed_flow();
+    let viewed = ViewedPacket::new(seen.moment, &frame, &hashed);
     record_verdict(batch, worker, at, filter, &viewed, share)
 }
 
-/// Judges a packet of the worker, which stands at this place among those of the batch, and says its verdict.
+/// Judges a packet of the only worker, which stands at this place among those of the batch, and says its verdict.
 #[inline(always)]
 pub fn judge_packet<A: Shape, B: Shape, R: Wait, G: Gate>(
     batch: &Batch<'_, '_, '_, A, B, R, G>,
@@ -101,9 +102,9 @@ pub fn judge_packet<A: Shape, B: Shape, R: Wait, G: Gate>(
 {
     let filter = batch.setup.filter.at(packet.interface);
     let Some(frame) = plain_frame(packet.frame, packet.interface, filter.own) else {
-        return judge_by_view(batch, worker, at, packet, share);
+        return judge_other(batch, worker, at, &see_other::<A, B>(*packet), share);
     };
-    let flow = flow_of_frame(&frame);
-    let viewed = ViewedPacket::new(packet.moment, &frame, &flow);
+    let hashed = HashedFlow::of::<A, B>(flow_of_frame(&frame));
+    let viewed = ViewedPacket::new(packet.moment, &frame, &hashed);
     record_verdict(batch, worker, at, filter, &viewed, share)
 }

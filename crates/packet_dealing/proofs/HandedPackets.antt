@@ -1,22 +1,21 @@
 -- Packets in the lists of their workers.
 use Rattle.std.specs.Global.{Vec}
 use Rattle.std.specs.List.{AllZip}
-use Rattle.std.proofs.Common.{◌≡◌, ◌≢◌, ◌∙◌, ◌+◌, ◌<◌, ℕ, suc, List, [], ◌∷◌, ◌++◌, Some, All, ap, ap₂, arith, get_or, inl, inr, length, map, refl, slice_get, subst, sym, eq-eqb}
+use Rattle.std.proofs.Common.{◌≡◌, ◌≢◌, ◌∙◌, ◌+◌, ◌<◌, ℕ, suc, List, [], ◌∷◌, ◌++◌, Some, All, ap, arith, get_or, inl, inr, length, refl, slice_get, subst, sym, eq-eqb}
 use Rattle.std.specs.Prelude.{◌==◌, if◌then◌else◌}
 use Rattle.std.proofs.lemmas.Bool.{ne_eqb}
 use Rattle.std.proofs.lemmas.Bool.Decides.{eqb_tells}
 use Rattle.std.proofs.ResultArms.{subst_both}
-use Rattle.std.proofs.lemmas.List.{length-map, map_push}
 use Rattle.std.proofs.lemmas.Option.{slice_get_within}
 use Rattle.std.proofs.lemmas.Slice.Zip.{all_zipped_more}
-use Rattle.packet_view.specs.Captures.{PacketFacts, packet_facts}
-use Rattle.packet_view.specs.declared.packet.Packet.{Packet}
+use Rattle.packet_view.specs.Captures.{PacketFacts}
 use Rattle.bihash_words.specs.declared.shape.Shape.{Ghosts}
 use Rattle.packet_dealing.proofs.DealtLists.{front_only, workers_push}
-use Rattle.packet_dealing.specs.Dealt.{AreWorkers, HaveOwn, IsDealtChunk, IsDealtPacket, IsDealtTo, IsFoundOf, IsSightingOf, picked}
+use Rattle.flow_filter.specs.OneThread.{Layout, layout_of}
+use Rattle.packet_dealing.specs.Dealt.{AreWorkers, HaveOwn, IsDealtChunk, IsDealtPacket, IsDealtTo, IsFoundOf, IsOtherOf, IsSightingOf, picked}
+use Rattle.packet_dealing.specs.declared.other_sighting.OtherSighting.{OtherSighting}
 use Rattle.packet_dealing.specs.declared.plain_sighting.PlainSighting.{PlainSighting}
-use Rattle.packet_dealing.specs.declared.dealt_chunk.Found.{Found}
-use Rattle.packet_dealing.specs.declared.dealt_chunk.Found.TheVariants.{Plain, Other}
+use Rattle.packet_dealing.specs.declared.dealt_chunk.DealtPacket.TheVariants.{Plain, Other}
 use Rattle.packet_dealing.specs.declared.packet_worker.Dealer.{Dealer}
 use Rattle.packet_dealing.specs.declared.dealt_chunk.DealtPacket.{DealtPacket}
 use Rattle.packet_dealing.specs.declared.dealt_chunk.DealtChunk.{DealtChunk}
@@ -108,71 +107,68 @@ get_last [] x = refl
 get_last (y ∷ xs) x = get_last xs x
 
 -- each stays where it was, and one more stands behind them
-there_push : (olds news : List PacketFacts)
-    → ((i : ℕ) (other : PacketFacts) → slice_get olds i ≡ Some other → slice_get news i ≡ Some other)
-    → (packet : PacketFacts) (found : Found) → IsFoundOf olds packet found → IsFoundOf news packet found
-there_push olds news stay packet (Plain seen) is = is
-there_push olds news stay packet (Other place) is = stay place packet is
+there_push : (l : Layout) (olds news : List OtherSighting)
+    → ((i : ℕ) (other : OtherSighting) → slice_get olds i ≡ Some other → slice_get news i ≡ Some other)
+    → (packet : PacketFacts) (found : DealtPacket) → IsFoundOf l olds packet found → IsFoundOf l news packet found
+there_push l olds news stay packet (Plain at seen) is = is
+there_push l olds news stay packet (Other at place) (other, there, is) = (other, stay place other there, is)
 
-still_dealt : (olds news : List PacketFacts)
-    → ((i : ℕ) (other : PacketFacts) → slice_get olds i ≡ Some other → slice_get news i ≡ Some other)
-    → (own : List DealtPacket) (placed : List (ℕ × PacketFacts)) → AllZip (IsDealtPacket olds) own placed
-    → AllZip (IsDealtPacket news) own placed
-still_dealt olds news stay [] [] are = tt
-still_dealt olds news stay [] (p ∷ ps) are = absurd are
-still_dealt olds news stay (d ∷ ds) [] are = absurd are
-still_dealt olds news stay (d ∷ ds) (p ∷ ps) are =
-    (record { at = are.0.at; found = there_push olds news stay p.1 d.found are.0.found }, still_dealt olds news stay ds ps are.1)
+still_dealt : (l : Layout) (olds news : List OtherSighting)
+    → ((i : ℕ) (other : OtherSighting) → slice_get olds i ≡ Some other → slice_get news i ≡ Some other)
+    → (own : List DealtPacket) (placed : List (ℕ × PacketFacts)) → AllZip (IsDealtPacket l olds) own placed
+    → AllZip (IsDealtPacket l news) own placed
+still_dealt l olds news stay [] [] are = tt
+still_dealt l olds news stay [] (p ∷ ps) are = absurd are
+still_dealt l olds news stay (d ∷ ds) [] are = absurd are
+still_dealt l olds news stay (d ∷ ds) (p ∷ ps) are =
+    (record { at = are.0.at; found = there_push l olds news stay p.1 d are.0.found }, still_dealt l olds news stay ds ps are.1)
 
 -- the packet that was found is handed on as that
-pub handed_plain : (old new : DealtChunk) (worker : ℕ) (packet : PacketFacts) (seen : PlainSighting)
-    → IsSightingOf packet seen → HasHandedFound old worker (Plain seen) new → HasHanded old worker packet new
-handed_plain old new worker packet seen is did = record {
-  dealt = record { at = length old.workers.items; found = Plain seen };
-  is = record { at = refl; found = is };
+pub handed_plain : (l : Layout) (old new : DealtChunk) (worker at : ℕ) (packet : PacketFacts) (seen : PlainSighting)
+    → at ≡ length old.workers.items → IsSightingOf l packet seen → HasHandedFound old worker (Plain at seen) new
+    → HasHanded l old worker packet new
+handed_plain l old new worker at packet seen last is did = record {
+  dealt = Plain at seen;
+  is = record { at = last; found = is };
   noted = did.noted;
   count = did.count;
   here = did.here;
   apart = did.apart;
-  others = λ i other there. ap (λ (list : Vec Packet). slice_get (map packet_facts list.items) i) did.others ∙ there;
+  others = λ i other there. ap (λ (list : Vec OtherSighting). slice_get list.items i) did.others ∙ there;
 }
 
 -- so is one that stands last among the others now
-pub handed_other : (old mid new : DealtChunk) (worker place : ℕ) (packet : Packet) → place ≡ length old.others.items
-    → mid.workers ≡ old.workers → mid.own ≡ old.own → mid.others.items ≡ old.others.items ++ packet ∷ []
-    → HasHandedFound mid worker (Other place) new → HasHanded old worker (packet_facts packet) new
-handed_other old mid new worker place packet last workers own more did = record {
-  dealt = record { at = length old.workers.items; found = Other place };
-  is = record { at = refl; found = stands_last };
+pub handed_other : (l : Layout) (old mid new : DealtChunk) (worker at place : ℕ) (packet : PacketFacts)
+    (seen : OtherSighting) → at ≡ length old.workers.items → place ≡ length old.others.items
+    → mid.workers ≡ old.workers → mid.own ≡ old.own → mid.others.items ≡ old.others.items ++ seen ∷ []
+    → IsOtherOf l packet seen → HasHandedFound mid worker (Other at place) new → HasHanded l old worker packet new
+handed_other l old mid new worker at place packet seen last last_other workers own more is did = record {
+  dealt = Other at place;
+  is = record { at = last; found = (seen, stands_last, is) };
   noted = did.noted ∙ ap (λ (list : Vec ℕ). list.items ++ worker ∷ []) workers;
   count = did.count ∙ ap (λ (list : Vec (Vec DealtPacket)). length list.items) own;
   here = λ d e. did.here d e
-      ∙ ap₂ (λ (lists : Vec (Vec DealtPacket)) (n : ℕ). (get_or lists.items worker e).items
-      ++ record { at = n; found = Other place } ∷ []) own
-      (ap (λ (list : Vec ℕ). length list.items) workers);
-  apart = λ w d differ. did.apart w d differ ∙ ap (λ (lists : Vec (Vec DealtPacket)). get_or lists.items w d) own;
+      ∙ ap (λ (lists : Vec (Vec DealtPacket)). (get_or lists.items worker e).items ++ Other at place ∷ []) own;
+  apart = λ w d differ. did.apart w d differ
+      ∙ ap (λ (lists : Vec (Vec DealtPacket)). get_or lists.items w d) own;
   others = λ i other there. ap (λ list. slice_get list i) listed
-      ∙ (front_only (map packet_facts old.others.items) (packet_facts packet ∷ []) i
-      (slice_get_within (map packet_facts old.others.items) i other there) ∙ there);
+      ∙ (front_only old.others.items (seen ∷ []) i (slice_get_within old.others.items i other there) ∙ there);
 }
   where
-    listed : map packet_facts new.others.items ≡ map packet_facts old.others.items ++ packet_facts packet ∷ []
-    listed = ap (λ (list : Vec Packet). map packet_facts list.items) did.others
-        ∙ (ap (map packet_facts) more ∙ map_push packet_facts old.others.items packet)
+    listed : new.others.items ≡ old.others.items ++ seen ∷ []
+    listed = ap (λ (list : Vec OtherSighting). list.items) did.others ∙ more
 
-    stands_last : slice_get (map packet_facts new.others.items) place ≡ Some (packet_facts packet)
+    stands_last : slice_get new.others.items place ≡ Some seen
     stands_last = ap (λ list. slice_get list place) listed
-        ∙ (ap (slice_get (map packet_facts old.others.items ++ packet_facts packet ∷ []))
-        (last ∙ sym (length-map old.others.items packet_facts))
-        ∙ get_last (map packet_facts old.others.items) (packet_facts packet))
+        ∙ (ap (slice_get (old.others.items ++ seen ∷ [])) last_other ∙ get_last old.others.items seen)
 
 -- no packet was handed out
-none_own : (count : ℕ) (chunk : DealtChunk) (packets : List PacketFacts) → IsEmptyChunk count chunk
-    → HaveOwn count chunk packets
-none_own count chunk packets empty = record {
+none_own : (l : Layout) (count : ℕ) (chunk : DealtChunk) (packets : List PacketFacts) → IsEmptyChunk count chunk
+    → HaveOwn l count chunk packets
+none_own l count chunk packets empty = record {
   lists = empty.count;
   each = λ w d inside.
-      subst_both (AllZip (IsDealtPacket (map packet_facts chunk.others.items)))
+      subst_both (AllZip (IsDealtPacket l chunk.others.items))
       (sym (all_at (λ (list : Vec DealtPacket). list.items ≡ []) chunk.own.items empty.each w d
       (subst (λ n. w < n) (sym empty.count) inside)))
       (sym (ap (λ ws. picked w 0 ws packets) empty.none ∙ none_picked w 0 packets)) tt;
@@ -182,25 +178,25 @@ none_own count chunk packets empty = record {
     all_at P xs all i d inside = all i d inside
 
 -- the next packet was handed to its worker
-own_push : (count : ℕ) (old new : DealtChunk) (worker : ℕ) (packet : PacketFacts) (packets : List PacketFacts)
-    → worker < count → HaveOwn count old packets
-    → slice_get packets (length old.workers.items) ≡ Some packet → HasHanded old worker packet new
-    → HaveOwn count new packets
-own_push count old new worker packet packets one own there did = record {
+own_push : (l : Layout) (count : ℕ) (old new : DealtChunk) (worker : ℕ) (packet : PacketFacts) (packets : List PacketFacts)
+    → worker < count → HaveOwn l count old packets
+    → slice_get packets (length old.workers.items) ≡ Some packet → HasHanded l old worker packet new
+    → HaveOwn l count new packets
+own_push l count old new worker packet packets one own there did = record {
   lists = did.count ∙ own.lists;
   each = λ w d inside. elim (eqb_tells w worker) [
     | inl (test, same) ↦
-        subst_both (AllZip (IsDealtPacket others))
+        subst_both (AllZip (IsDealtPacket l others))
         (sym (ap (λ n. (get_or new.own.items n d).items) same ∙ (did.here d d
         ∙ ap (λ n. (get_or old.own.items n d).items ++ did.dealt ∷ []) (sym same))))
         (sym (ap (λ ws. picked w 0 ws packets) did.noted
         ∙ (mine_push w 0 worker old.workers.items packet packets there (sym same)
         ∙ ap (λ n. picked w 0 old.workers.items packets ++ (n, packet) ∷ [])
         (let e : 0 + length old.workers.items ≡ length old.workers.items = omega arith in e))))
-        (all_zipped_more (IsDealtPacket others) (get_or old.own.items w d).items (picked w 0 old.workers.items packets) did.dealt
+        (all_zipped_more (IsDealtPacket l others) (get_or old.own.items w d).items (picked w 0 old.workers.items packets) did.dealt
         (length old.workers.items, packet) (before w d inside) did.is)
     | inr (test, differ) ↦
-        subst_both (AllZip (IsDealtPacket others))
+        subst_both (AllZip (IsDealtPacket l others))
         (sym (ap (λ (list : Vec DealtPacket). list.items) (did.apart w d differ)))
         (sym (ap (λ ws. picked w 0 ws packets) did.noted
         ∙ other_push w 0 worker old.workers.items packet packets there (λ same. differ (sym same))))
@@ -208,12 +204,12 @@ own_push count old new worker packet packets one own there did = record {
   ];
 }
   where
-    others : List PacketFacts
-    others = map packet_facts new.others.items
+    others : List OtherSighting
+    others = new.others.items
 
     before : (w : ℕ) (d : Vec DealtPacket) → w < count
-        → AllZip (IsDealtPacket others) (get_or old.own.items w d).items (picked w 0 old.workers.items packets)
-    before w d inside = still_dealt (map packet_facts old.others.items) others did.others _ _ (own.each w d inside)
+        → AllZip (IsDealtPacket l others) (get_or old.own.items w d).items (picked w 0 old.workers.items packets)
+    before w d inside = still_dealt l old.others.items others did.others _ _ (own.each w d inside)
 
 module _ {A B K L : Type 0} (ga : Ghosts A K) (gb : Ghosts B L) (dealer : Dealer) (first : ℕ)
     (packets : List PacketFacts) where
@@ -223,16 +219,16 @@ module _ {A B K L : Type 0} (ga : Ghosts A K) (gb : Ghosts B L) (dealer : Dealer
       inside = let none = ap length empty.none in omega arith;
       each = λ k packet below there. absurd (let none = ap length empty.none in omega arith);
     };
-    own = none_own dealer.workers chunk packets empty;
+    own = none_own (layout_of ga gb) dealer.workers chunk packets empty;
   }
 
   pub dealt_push : (old new : DealtChunk) (worker : ℕ) (packet : PacketFacts) → worker < dealer.workers
       → IsDealtChunk ga gb dealer first old packets
       → slice_get packets (length old.workers.items) ≡ Some packet
       → IsDealtTo ga gb dealer (first + length old.workers.items) packet worker
-      → HasHanded old worker packet new → IsDealtChunk ga gb dealer first new packets
+      → HasHanded (layout_of ga gb) old worker packet new → IsDealtChunk ga gb dealer first new packets
   dealt_push old new worker packet one before there dealt did = record {
     workers = subst (λ ws. AreWorkers ga gb dealer first ws packets) (sym did.noted)
         (workers_push ga gb dealer first packets old.workers.items worker packet before.workers there dealt);
-    own = own_push dealer.workers old new worker packet packets one before.own there did;
+    own = own_push (layout_of ga gb) dealer.workers old new worker packet packets one before.own there did;
   }

@@ -4,12 +4,31 @@ ghost use Rattle.packet_view.specs.Captures.{packet_facts};
 ghost use Rattle.packet_dealing.specs.inner.Chunks.{CanDeal, HasDealtNext, IsChunkOfJob, MayDeal};
 
 use crate::chunk::Job;
-use crate::dealt_chunk::DealtChunk;
-use crate::packet_worker::{Dealer, worker_by_sighting, worker_by_view};
-use crate::plain_sighting::sighting_of;
+use crate::dealt_chunk::{DealtChunk, DealtPacket};
+use crate::other_sighting::see_other;
+use crate::packet_worker::{Dealer, worker_of_packet};
+use crate::plain_sighting::see_plain;
 use bihash_words::Shape;
 use packet_view::{Packet, PacketBursts};
 use std::alloc::AllocError;
+
+// Deals the next packet of a chunk, which has this number, by the view of its frame. Few frames aren't plain, and the path of
+// the others is shorter without this.
+#[inline(never)]
+fn deal_other<'a, A: Shape, B: Shape>(
+    dealer: &Dealer,
+    number: usize,
+    packet: Packet<'a>,
+    chunk: &mut DealtChunk<'a>,
+) -> Result<(), AllocError>
+    requires may { MayDeal ⟦<A as Shape>⟧ ⟦<B as Shape>⟧ dealer.now }
+    requires lists { length chunk.old.own.items ≡ dealer.now.workers }
+    ensures { IfOk result (λ _. HasDealtNext ⟦<A as Shape>⟧ ⟦<B as Shape>⟧ dealer.now number (packet_facts packet.entry) chunk.old chunk.new) }
+{
+    let seen = see_other::<A, B>(packet);
+    let worker = worker_of_packet::<A, B>(dealer, number, &seen.hashed);
+    chunk.hand_other(worker, seen)
+}
 
 // Deals the next packet of a chunk, which has this number.
 #[inline(always)]
@@ -23,16 +42,14 @@ fn deal_next<'a, A: Shape, B: Shape>(
     requires lists { length chunk.old.own.items ≡ dealer.now.workers }
     ensures { IfOk result (λ _. HasDealtNext ⟦<A as Shape>⟧ ⟦<B as Shape>⟧ dealer.now number (packet_facts packet.entry) chunk.old chunk.new) }
 {
-    match sighting_of(&packet) {
-        Some(seen) => {
-            let worker = worker_by_sighting::<A, B>(dealer, number, &seen);
-            chunk.hand_plain(worker, seen)
-        }
-        None => {
-            let worker = worker_by_view::<A, B>(dealer, number, &packet);
-            chunk.hand_other(worker, packet)
-        }
-    }
+    let Ok(at) = u32::try_from(chunk.workers.len()) else {
+        return deal_other::<A, B>(dealer, number, packet, chunk);
+    };
+    let Some(seen) = see_plain::<A, B>(&packet) else {
+        return deal_other::<A, B>(dealer, number, packet, chunk);
+    };
+    let worker = worker_of_packet::<A, B>(dealer, number, &seen.hashed_flow());
+    chunk.hand(worker, DealtPacket::Plain(at, seen))
 }
 
 /// Deals the packets of a chunk.

@@ -1,27 +1,21 @@
 //! Packets that follow each other, once it is known who judges each of them.
 ghost use Rattle.std.specs.Prelude.{◌≡◌, ◌<◌, ◌^◌, IfOk, length};
-ghost use Rattle.packet_view.specs.Captures.{packet_facts};
-ghost use Rattle.packet_dealing.specs.Dealt.{IsSightingOf};
+ghost use Rattle.packet_view.specs.Captures.{PacketFacts};
+ghost use Rattle.flow_filter.specs.OneThread.{Layout};
+ghost use Rattle.packet_dealing.specs.Dealt.{IsOtherOf};
 ghost use Rattle.packet_dealing.specs.inner.OwnPackets.{HasHanded, HasHandedFound, IsEmptyChunk, IsEmptyRoom};
 
+use crate::other_sighting::OtherSighting;
 use crate::plain_sighting::PlainSighting;
-use packet_view::Packet;
 use std::alloc::{AllocError, Global};
 
-/// What dealing found of a packet.
+/// What dealing found of a packet, by its place in its chunk, from 0. Others stand beside, so that a plain one takes few bytes.
 #[derive(Clone, Copy)]
-pub enum Found {
-    /// All that judging asks: nobody reads the packet's bytes again.
-    Plain(PlainSighting),
-    /// That its frame isn't plain: its place among those packets of its chunk, from 0.
-    Other(usize),
-}
-
-/// A packet's place in its chunk, from 0, and what was found of the packet.
-#[derive(Clone, Copy)]
-pub struct DealtPacket {
-    pub at: usize,
-    pub found: Found,
+pub enum DealtPacket {
+    /// That its frame is plain.
+    Plain(u32, PlainSighting),
+    /// That its frame needn't be: its place among the chunk's others, from 0.
+    Other(usize, usize),
 }
 
 /// Packets that follow each other, and who judges them.
@@ -31,8 +25,8 @@ pub struct DealtChunk<'a> {
     pub workers: Vec<u8>,
     /// For each worker the packets that it judges, in their order.
     pub own: Vec<Vec<DealtPacket>>,
-    /// The packets whose frames aren't plain, in their order.
-    pub others: Vec<Packet<'a>>,
+    /// The others among them, in their order.
+    pub others: Vec<OtherSighting<'a>>,
 }
 
 /// The lists of a chunk without their packets. Whoever deals again hands it on: memory that was given back costs a first touch
@@ -126,41 +120,31 @@ impl<'a> DealtChunk<'a> {
         }
     }
 
-    // The next packet, of which this was found, is this worker's.
+    /// The next packet, of which this was found, is this worker's.
     #[inline(always)]
-    fn hand(&mut self, worker: usize, found: Found) -> Result<(), AllocError>
+    pub(crate) fn hand(&mut self, worker: usize, found: DealtPacket) -> Result<(), AllocError>
         requires few { worker < 2 ^ 8 }
         requires one { worker < length self.old.own.items }
         ensures { IfOk result (λ _. HasHandedFound self.old worker found self.new) }
     {
-        let at = self.workers.len();
         self.workers.push(worker as u8)?;
-        self.own[worker].push(DealtPacket { at, found })?;
+        self.own[worker].push(found)?;
         Ok(())
     }
 
-    /// The next packet, whose plain frame was seen so, is this worker's.
-    #[inline(always)]
-    pub(crate) fn hand_plain(
+    /// The next packet, which was seen so, is this worker's, and one of the others.
+    pub(crate) fn hand_other(
         &mut self,
         worker: usize,
-        seen: PlainSighting,
+        seen: OtherSighting<'a>,
     ) -> Result<(), AllocError>
         requires few { worker < 2 ^ 8 }
         requires one { worker < length self.old.own.items }
-        ensures { IfOk result (λ _. (packet : _) → IsSightingOf packet seen → HasHanded self.old worker packet self.new) }
+        ensures { IfOk result (λ _. (l : Layout) (packet : PacketFacts) → IsOtherOf l packet seen.entry
+            → HasHanded l self.old worker packet self.new) }
     {
-        self.hand(worker, Found::Plain(seen))
-    }
-
-    /// The next packet, whose frame isn't plain, is this worker's.
-    pub(crate) fn hand_other(&mut self, worker: usize, packet: Packet<'a>) -> Result<(), AllocError>
-        requires few { worker < 2 ^ 8 }
-        requires one { worker < length self.old.own.items }
-        ensures { IfOk result (λ _. HasHanded self.old worker (packet_facts packet.entry) self.new) }
-    {
-        let place = self.others.len();
-        self.others.push(packet)?;
-        self.hand(worker, Found::Other(place))
+        let found = DealtPacket::Other(self.workers.len(), self.others.len());
+        self.others.push(seen)?;
+        self.hand(worker, found)
     }
 }

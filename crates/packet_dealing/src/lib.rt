@@ -7,13 +7,15 @@ mod chunk_jobs;
 mod dealing_in_threads;
 mod dealt_chunk;
 mod frame_flow;
+mod other_sighting;
 mod packet_worker;
 mod plain_sighting;
 mod tasks_in_threads;
 
 pub use dealing_in_threads::deal_packets;
-pub use dealt_chunk::{DealtChunk, DealtPacket, DealtRoom, Found};
+pub use dealt_chunk::{DealtChunk, DealtPacket, DealtRoom};
 pub use frame_flow::flow_of_frame;
+pub use other_sighting::{OtherSighting, see_other};
 pub use packet_worker::{Dealer, worker_of_packet};
-pub use plain_sighting::PlainSighting;
+pub use plain_sighting::{PlainSighting, see_plain};
 pub use tasks_in_threads::{Task, run_all};

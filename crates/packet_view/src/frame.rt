@@ -22,6 +22,26 @@ pub enum Frame {
     Ip(Direction, Tuple),
 }
 
+impl Frame {
+    ghost use Rattle.packet_view.specs.Frames.{IsFrame, FrameFacts, frame_facts};
+
+    /// What a frame is at the interface with this number and own address, by what it is there without one: its bytes are looked
+    /// at for its way alone.
+    #[inline]
+    pub fn at(&self, frame: &[u8], interface: u8, own: Option<Mac>) -> Frame
+        requires { IsFrame frame.now (record { number = interface; own = None }) (frame_facts self.now) }
+        ensures shown { IsFrame frame.now (record { number = interface; own = own }) (frame_facts result) }
+        ensures only { (other : FrameFacts) → IsFrame frame.now (record { number = interface; own = own }) other → other ≡ frame_facts result }
+    {
+        match self {
+            Frame::NotIp => Frame::NotIp,
+            Frame::Malformed => Frame::Malformed,
+            Frame::Short => Frame::Short,
+            Frame::Ip(_, tuple) => Frame::Ip(direction(frame, own), *tuple),
+        }
+    }
+}
+
 /// What a frame that goes this way at the interface with this number is by its packet, None where that is malformed.
 #[inline]
 fn frame_of(interface: u8, direction: Direction, packet: Option<IpPacket<'_>>) -> Frame

@@ -1,5 +1,6 @@
 pub mod Decisions
 pub mod Flags
 pub mod Flows
+pub mod PlainFlows
 pub mod SameFlow
 pub mod Sessions

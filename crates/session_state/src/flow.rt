@@ -2,14 +2,15 @@
 ghost use Rattle.std.specs.Prelude.{◌≡◌, ◌<◌, ◌+◌, ◌*◌, ◌^◌, IfSome, Some};
 ghost use Rattle.packet_view.specs.declared.tuple.Family.TheVariants.{V4};
 ghost use Rattle.packet_view.specs.Addresses.{address_limit};
-ghost use Rattle.packet_view.specs.PlainFrames.{IsTupleOf};
-ghost use Rattle.packet_view.specs.Tuples.{TupleFacts, tuple_facts};
+ghost use Rattle.packet_view.specs.Tuples.{tuple_facts};
 ghost use Rattle.session_state.specs.declared.flow.Flow.{Flow};
 ghost use Rattle.session_state.specs.Flows;
+ghost use Rattle.session_state.specs.declared.flow.FlowKey.TheVariants.{Four};
 ghost use Rattle.session_state.specs.Flows.{IsFlow, echo_flow, end_of_number, flow_by_order, flow_of, key_of};
 
 use crate::flow_end::{End, is_first, receiver, sender};
-use packet_view::{Family, Fields, PlainPacket, Tuple};
+use crate::plain_packet_flow::{end_number, flow_by_number};
+use packet_view::{Family, Fields, Tuple};
 
 /// What names a flow in its family's table: the interface, and addresses, ports and protocol of both ends.
 #[derive(Clone, Copy, Debug, PartialEq, Eq)]
@@ -96,37 +97,14 @@ fn oriented(tuple: &Tuple, first: End, second: End, starts: bool) -> Flow
     }
 }
 
-// The number of an end in an IPv4 flow: the order of ends is that of their numbers.
-fn end_number(end: End) -> u64
-    requires { end.address < 2 ^ 32 }
-    ensures is { end_of_number result ≡ end }
-    ensures fits { result < 2 ^ 48 }
-{
-    ((end.address as u64) << 16) + u64::from(end.port)
-}
-
-// The key of an IPv4 flow, whose ends, as numbers, stand in this order.
-fn key_by_number(first: u64, second: u64, proto: u8, interface: u8) -> FlowKey
+// The words of the key of an IPv4 flow, whose ends, as numbers, stand in this order.
+pub(crate) fn key_words(first: u64, second: u64, proto: u8, interface: u8) -> [u64; 2]
     requires first { first < 2 ^ 48 }
     requires second { second < 2 ^ 48 }
-    ensures { result ≡ key_of V4 (end_of_number first) (end_of_number second) proto interface }
+    ensures { Four result ≡ key_of V4 (end_of_number first) (end_of_number second) proto interface }
 {
     let ports = ports_word(first % (1 << 16), second % (1 << 16), proto, interface);
-    FlowKey::Four([((first >> 16) << 32) + (second >> 16), ports])
-}
-
-// The flow of an IPv4 packet between ends as numbers. Which of them stands first is as good as random, so no branch
-// depends on it.
-fn flow_by_number(from: u64, to: u64, proto: u8, interface: u8) -> Flow
-    requires from { from < 2 ^ 48 }
-    requires to { to < 2 ^ 48 }
-    ensures { result ≡ Flows.flow_by_number proto interface from to }
-{
-    Flow {
-        key: key_by_number(from.min(to), from.max(to), proto, interface),
-        side: u8::from(to < from),
-        starts: true,
-    }
+    [((first >> 16) << 32) + (second >> 16), ports]
 }
 
 // The flow of a TCP or UDP packet, in whose key the lesser end stands first.
@@ -140,7 +118,8 @@ fn by_order(tuple: &Tuple) -> Flow
             end_number(receiver(tuple)),
             tuple.proto,
             tuple.interface,
-        ),
+        )
+        .flow(),
         Family::V6 => by_ends(tuple),
     }
 }
@@ -189,23 +168,4 @@ pub fn orient(tuple: &Tuple) -> Option<Flow>
         Fields::Ports { .. } | Fields::Tcp { .. } => Some(by_order(tuple)),
         Fields::Icmp { kind, .. } => echo(tuple, kind),
     }
-}
-
-/// The flow of a plain packet at the interface with this number: what `orient` answers of each five-tuple that says the
-/// same.
-#[inline(always)]
-pub fn plain_flow(packet: PlainPacket, interface: u8) -> Flow
-    ensures value { (tuple : TupleFacts) → tuple.interface ≡ interface → IsTupleOf packet tuple
-        → flow_of tuple ≡ Some result }
-    ensures side { result.side < 2 }
-{
-    let from = End {
-        address: u128::from(packet.source),
-        port: packet.from,
-    };
-    let to = End {
-        address: u128::from(packet.dest),
-        port: packet.to,
-    };
-    flow_by_number(end_number(from), end_number(to), packet.proto, interface)
 }

@@ -5,17 +5,19 @@ mod flow;
 mod flow_end;
 mod flow_laws;
 mod packet_patch;
+mod plain_packet_flow;
 mod session;
 mod session_expiry;
 mod session_flags;
 mod session_laws;
 mod timeouts;
 
-pub use flow::{Flow, FlowKey, orient, plain_flow};
+pub use flow::{Flow, FlowKey, orient};
 pub use flow_laws::{
     both_directions_share_a_key, keys_tell_flows, sides_tell_senders, tuples_are_in_range,
 };
 pub use packet_patch::PacketPatch;
+pub use plain_packet_flow::{PlainFlow, plain_flow};
 pub use session::Session;
 pub use session_expiry::SessionExpiry;
 pub use session_laws::{

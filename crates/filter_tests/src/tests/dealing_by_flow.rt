@@ -1,6 +1,6 @@
 //! Workers of packets whose buckets were worked out by hand.
 use bihash_words::{ShapeV4, ShapeV6, flow_shapes_are_sound};
-use flow_dealing::{Dealing, worker_of};
+use flow_dealing::{Dealing, HashedFlow, worker_of};
 use session_state::{Flow, FlowKey};
 
 /// The first step of SplitMix64 from 0, whose mixed value is 0xe220a8397b1dcdaf.
@@ -9,7 +9,8 @@ const STEP: u64 = 0x9e3779b97f4a7c15;
 // The worker, of five, to whom a test deals the packet with number 9 and this flow.
 fn worker_in(dealing: Dealing, flow: Option<Flow>) -> usize {
     flow_shapes_are_sound();
-    worker_of::<ShapeV4, ShapeV6>(dealing, 5, 9, flow)
+    let hashed = HashedFlow::of::<ShapeV4, ShapeV6>(flow);
+    worker_of::<ShapeV4, ShapeV6>(dealing, 5, 9, &hashed)
 }
 
 // The flow with this key, by whose bucket a test deals a packet.

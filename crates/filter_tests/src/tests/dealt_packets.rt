@@ -4,7 +4,10 @@ ghost use Rattle.std.specs.Prelude.{◌≤◌, ◌<◌, ◌+◌, ◌^◌, length
 use super::filter_test_refused;
 use bihash_words::{ShapeV4, ShapeV6, flow_shapes_are_sound};
 use flow_dealing::Dealing;
-use packet_dealing::{Dealer, DealtChunk, DealtRoom, Found, deal_packets, worker_of_packet};
+use packet_dealing::{
+    Dealer, DealtChunk, DealtPacket, DealtRoom, OtherSighting, deal_packets, see_other, see_plain,
+    worker_of_packet,
+};
 use packet_view::{Packet, Packets};
 use std::alloc::{AllocError, Global};
 use std::process::Abort;
@@ -69,16 +72,29 @@ fn deal<'a, R: Threads + Sync>(
     deal_packets::<ShapeV4, ShapeV6, R>(rt, alloc, dealer, first.number, packets, kept)
 }
 
-// What was found of a packet is what its bytes say: addresses and ports at their places in a frame of 54 bytes, or, of
-// another frame, the packet itself.
-fn expect_found<R: Abort>(rt: &R, found: &Found, others: &[Packet<'_>], packet: &Packet<'_>) {
+// What was found of the packet at this place is what its bytes say: addresses and ports at their places in a frame of 54
+// bytes, and the hash by whose last bits the flow has its bucket; or, of another frame, the packet itself.
+fn expect_found<R: Abort>(
+    rt: &R,
+    at: usize,
+    found: &DealtPacket,
+    others: &[OtherSighting<'_>],
+    packet: &Packet<'_>,
+) {
     match found {
-        Found::Plain(seen) => {
+        DealtPacket::Plain(place, seen) => {
+            assert!(rt; *place as usize == at);
             let frame = packet.frame;
             assert!(rt; frame.len() == 54);
             assert!(rt; (seen.interface, seen.moment) == (0, packet.moment));
-            assert!(rt; seen.frame.sender == 0x020000000000 + u64::from(frame[11]));
-            let said = seen.frame.packet;
+            assert!(rt; seen.frame().sender == 0x020000000000 + u64::from(frame[11]));
+            let bucket = match (frame[29], frame[33]) {
+                (1, 2) | (2, 1) => 2896,
+                (1, 3) | (3, 1) => 1046,
+                _ => 2793,
+            };
+            assert!(rt; seen.hash % 4096 == bucket);
+            let said = seen.frame().packet;
             assert!(rt;
                 (said.source, said.dest, said.proto)
                     == (
@@ -92,9 +108,9 @@ fn expect_found<R: Abort>(rt: &R, found: &Found, others: &[Packet<'_>], packet: 
                     == ([frame[34], frame[35]], [frame[36], frame[37]])
             );
         }
-        Found::Other(place) => {
-            assert!(rt; *place < others.len());
-            let other = others[*place];
+        DealtPacket::Other(place, other) => {
+            assert!(rt; *place == at && *other < others.len());
+            let other = others[*other].packet;
             assert!(rt; (other.moment, other.frame) == (packet.moment, packet.frame));
             assert!(rt; other.frame.len() != 54);
         }
@@ -119,8 +135,7 @@ fn expect_own<'a, R: Abort>(
         assert!(rt; first < 8 && at < 8);
         let place = first + at;
         assert!(rt; place < packets.len());
-        assert!(rt; dealt.at == at);
-        expect_found(rt, &dealt.found, part.others.as_slice(), &packets[place]);
+        expect_found(rt, at, dealt, part.others.as_slice(), &packets[place]);
     }
     assert!(rt; left.next().is_none());
 }
@@ -223,7 +238,15 @@ fn one_packet_has_its_worker(rt: HostRuntime) {
         packet_to_deal(100, &ARP),
         packet_to_deal(100, &SIX),
     );
-    assert!(rt; worker_of_packet::<ShapeV4, ShapeV6>(&dealer, 9, &first) == 1);
-    assert!(rt; worker_of_packet::<ShapeV4, ShapeV6>(&dealer, 9, &second) == 0);
-    assert!(rt; worker_of_packet::<ShapeV4, ShapeV6>(&dealer, 9, &third) == 2);
+    let plain = see_plain::<ShapeV4, ShapeV6>(&first).expect(&rt, "a plain frame");
+    assert!(rt; see_plain::<ShapeV4, ShapeV6>(&second).is_none());
+    assert!(rt; see_plain::<ShapeV4, ShapeV6>(&third).is_none());
+    for (hashed, worker) in [
+        (plain.hashed_flow(), 1),
+        (see_other::<ShapeV4, ShapeV6>(first).hashed, 1),
+        (see_other::<ShapeV4, ShapeV6>(second).hashed, 0),
+        (see_other::<ShapeV4, ShapeV6>(third).hashed, 2),
+    ] {
+        assert!(rt; worker_of_packet::<ShapeV4, ShapeV6>(&dealer, 9, &hashed) == worker);
+    }
 }

@@ -12,10 +12,12 @@ use Rattle.flow_filter.specs.declared.interface_filters.InterfaceFilter.{Interfa
 use Rattle.flow_filter.specs.declared.verdict.Verdict.{Verdict}
 use Rattle.flow_dealing.specs.Dealings.{flow_of_frame, worker_of}
 use Rattle.flow_dealing.specs.Views.{Views}
-use Rattle.packet_dealing.specs.Dealt.{AreDealt, IsDealtChunk, IsDealtTo, IsFoundOf, IsSightingOf, deal_of}
+use Rattle.flow_dealing.specs.HashedFlows.{IsHashed}
+use Rattle.packet_dealing.specs.Dealt.{AreDealt, IsDealtChunk, IsDealtTo, IsFoundOf, IsOtherOf, IsSightingOf, deal_of, place_of}
 use Rattle.packet_dealing.specs.declared.packet_worker.Dealer.{Dealer}
 use Rattle.packet_dealing.specs.declared.plain_sighting.PlainSighting.{PlainSighting}
-use Rattle.packet_dealing.specs.declared.dealt_chunk.Found.{Found}
+use Rattle.packet_dealing.specs.declared.other_sighting.OtherSighting.{OtherSighting}
+use Rattle.packet_dealing.specs.declared.dealt_chunk.DealtPacket.{DealtPacket}
 use Rattle.packet_dealing.specs.declared.dealt_chunk.DealtChunk.{DealtChunk}
 use Rattle.flow_workers.specs.declared.worker_setup.Setup.{Setup}
 use Rattle.flow_workers.specs.declared.worker_share.Job.{Job}
@@ -76,15 +78,22 @@ pub record MayJudgePacket {A B R G K L : Type 0} (ga : Ghosts A K) (gb : Ghosts 
 pub record MayJudgeSighting {A B R G K L : Type 0} (ga : Ghosts A K) (gb : Ghosts B L) (batch : Batch A B R G K L)
     (worker at : ℕ) (seen : PlainSighting) (share : Share A B K L ga gb) : Type 0 where
   pub packet : PacketFacts
-  pub is : IsSightingOf packet seen
+  pub is : IsSightingOf (layout_of ga gb) packet seen
   pub may : MayJudgePacket ga gb batch worker at packet share
 
--- it is one of which this was found when it was dealt, beside these others
-pub record MayJudgeFound {A B R G K L : Type 0} (ga : Ghosts A K) (gb : Ghosts B L) (batch : Batch A B R G K L)
-    (worker at : ℕ) (others : List PacketFacts) (found : Found) (share : Share A B K L ga gb) : Type 0 where
+-- it is one that was seen so
+pub record MayJudgeOther {A B R G K L : Type 0} (ga : Ghosts A K) (gb : Ghosts B L) (batch : Batch A B R G K L)
+    (worker at : ℕ) (seen : OtherSighting) (share : Share A B K L ga gb) : Type 0 where
   pub packet : PacketFacts
-  pub is : IsFoundOf others packet found
+  pub is : IsOtherOf (layout_of ga gb) packet seen
   pub may : MayJudgePacket ga gb batch worker at packet share
+
+-- it is one of which this was found when it was dealt, beside these others, in a chunk that begins at this place
+pub record MayJudgeFound {A B R G K L : Type 0} (ga : Ghosts A K) (gb : Ghosts B L) (batch : Batch A B R G K L)
+    (worker first : ℕ) (others : List OtherSighting) (found : DealtPacket) (share : Share A B K L ga gb) : Type 0 where
+  pub packet : PacketFacts
+  pub is : IsFoundOf (layout_of ga gb) others packet found
+  pub may : MayJudgePacket ga gb batch worker (first + place_of found) packet share
 
 -- the packet at this place of the batch was viewed so, by the filter at its interface, and its frame is nothing else
 pub record IsViewedAt {A B R G K L : Type 0} (batch : Batch A B R G K L) (at : ℕ) (filter : InterfaceFilter)
@@ -108,6 +117,7 @@ pub record MayJudgeViewed {A B R G K L : Type 0} (ga : Ghosts A K) (gb : Ghosts 
   pub idle : AreIdle ga gb batch.setup.tables.now share.callers
   pub fits : batch.first + length (remaining batch.packets) < 2 ^ 64
   pub stands : IsViewedAt batch at filter viewed
+  pub hashed : IsHashed (layout_of ga gb) viewed.hashed.now
   pub mine : IsWorkerOf ga gb batch at (frame_facts viewed.frame.now) worker
 
 -- the chunk has packets of the batch from this place on, with their workers

@@ -4,6 +4,7 @@ use Rattle.packet_view.specs.Captures.{PacketFacts}
 use Rattle.packet_view.specs.CheckedCaptures.{remaining}
 use Rattle.packet_view.specs.declared.packets.Packets.{Packets}
 use Rattle.bihash_words.specs.declared.shape.Shape.{Ghosts}
+use Rattle.flow_filter.specs.OneThread.{layout_of}
 use Rattle.packet_dealing.specs.Dealt.{AreShapes, IsDealtChunk, IsDealtTo}
 use Rattle.packet_dealing.specs.declared.packet_worker.Dealer.{Dealer}
 use Rattle.packet_dealing.specs.inner.OwnPackets.{HasHanded, IsEmptyChunk}
@@ -24,7 +25,7 @@ pub record HasDealtNext {A B K L : Type 0} (ga : Ghosts A K) (gb : Ghosts B L) (
   pub worker : ℕ
   pub one : worker < dealer.workers
   pub dealt : IsDealtTo ga gb dealer number packet worker
-  pub handed : HasHanded old worker packet new
+  pub handed : HasHanded (layout_of ga gb) old worker packet new
 
 pub record CanDeal {A B K L : Type 0} (ga : Ghosts A K) (gb : Ghosts B L) (job : Job A B) : Type 0 where
   pub may : MayDeal ga gb job.dealer

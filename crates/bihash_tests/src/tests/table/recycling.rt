@@ -5,7 +5,7 @@ ghost use Rattle.bihash_rule.specs.Views.{nothing_held};
 
 use super::Call::Search;
 use super::{Eight, Row, add_keys_to_table, block, first_wrong, has, table_refused, two_callers};
-use bihash_table::{Caller, Contended, Sessions, create, stamp};
+use bihash_table::{Caller, Contended, KeyWithHash, Sessions, create, stamp};
 use bihash_words::Reply::{Changed, Full, Kept};
 use bihash_words::{Add, Expiry, Reply};
 use std::sync::Wait;
@@ -49,7 +49,9 @@ fn enter<E: Expiry>(
     ensures own { caller.new.seat.row ≡ table.now.row }
     ensures free { caller.new.seat.view.holds ≡ nothing_held }
 {
-    table.try_add_or_recycle(caller, &[key, 0], &Add { value: 99 }, expiry)
+    let key = [key, 0];
+    let known = KeyWithHash::of(&key);
+    table.try_add_or_recycle(caller, &known, &Add { value: 99 }, expiry)
 }
 
 // The keys that fill bucket 0.
@@ -155,7 +157,7 @@ fn recycle_six<R: Wait>(
         let reply = table.add_or_recycle(
             rt,
             &mut caller,
-            &[value, 0],
+            &KeyWithHash::of(&[value, 0]),
             &Add { value },
             &BelowHundred,
         );

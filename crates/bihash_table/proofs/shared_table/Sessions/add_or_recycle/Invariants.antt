@@ -13,7 +13,7 @@ invariant-loop g l = record {
   finite : (goal.iterator-loop g).is_finite l.iterator';
   same : l.caller.seat ≡ with_view l.initial.caller.seat l.caller.seat.view;
   tried : IsContended (sizes_of g.S.Shape) l.initial.caller.seat.view l.caller.seat.view
-      (bucket_of (sizes_of g.S.Shape) (g.S.Shape.words_of l.key));
+      (bucket_of (sizes_of g.S.Shape) (g.S.Shape.words_of l.known.key.now));
   tries : (tries : ℕ) × TookAtMost l.initial.caller.seat.view l.caller.seat.view tries
       × (l.initial.caller.seat.view.lone ≡ true → tries ≡ 0);
   lone : l.initial.caller.seat.view.lone ≡ true → l.caller.seat.view ≡ l.initial.caller.seat.view;

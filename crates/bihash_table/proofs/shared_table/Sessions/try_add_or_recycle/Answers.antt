@@ -25,7 +25,7 @@ returns g c =
     let x = c.load_unlocked.new.seat in
     let y = c.pair_in_open_bucket-pair.new.seat in
     let t = c.make_tried_change.new.caller.seat in
-    let hashed = c.of-hashed.result in
+    let hashed = c.with_hash-hashed.result in
     let found = value_of c.pair_in_open_bucket-pair.result in
     let change = c.decide-change.result in
     let r = c.make_tried_change.result in
@@ -35,9 +35,9 @@ returns g c =
     let is_expired = g.E.Expiry.is_expired c.args.expiry.now in
     let all : TriedOver g.S.Shape s t hashed.key.now found change is_expired r
     = over_seen g.S.Shape s y t hashed.bucket hashed.key.now found change is_expired same ahead (sym hashed.home) locks r c.make_tried_change.ensures in
-    let key = c.args.key.now in
+    let key = c.args.known.now.key.now in
     let tried : TriedOver g.S.Shape s t key found change is_expired r
-    = subst (λ k. TriedOver g.S.Shape s t k found change is_expired r) c.of-hashed.ensures.key all in
+    = subst (λ k. TriedOver g.S.Shape s t k found change is_expired r) c.with_hash-hashed.ensures.key all in
     record {
       same = tried.same;
       answered = update_answered_over g.S.Shape s t key found change (g.P.Patch.decision c.args.patch.now) is_expired

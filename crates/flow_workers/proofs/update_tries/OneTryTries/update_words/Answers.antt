@@ -8,8 +8,8 @@ use Rattle.flow_workers.proofs.update_tries.OneTryTries.update_words.Goals as go
 
 pub returns : goal.returns
 returns g c =
-    let key : g.S.Shape.words_of c.key.result ≡ c.args.words.now
-    = ap g.S.Shape.words_of c.key.ensures ∙ g.met.S.Shape.words_of_key c.args.words.now c.requires.counted in
+    let key : g.S.Shape.words_of c.key-words.result ≡ c.args.key.now.words.now
+    = ap g.S.Shape.words_of c.key-words.ensures ∙ g.met.S.Shape.words_of_key c.args.key.now.words.now c.requires.counted in
     let tells = c.try_add_or_recycle.ensures in record {
       same = tells.same;
       answered =
@@ -17,12 +17,12 @@ returns g c =
           tells.answered;
       no_pages = if_ok _ _ c.try_add_or_recycle.result
           (λ reply short log2 left is.
-          short_at g.S.Shape c.try_add_or_recycle.new.caller.seat.view c.key.result c.args.words.now log2 left c.key.ensures key
+          short_at g.S.Shape c.try_add_or_recycle.new.caller.seat.view c.key-words.result c.args.key.now.words.now log2 left c.key-words.ensures key
           (short log2 left is))
           tells.no_pages;
       wanted = if_both _ _ _ c.try_add_or_recycle.result
           (λ reply updated short. update_keeps_wanted g.S.Shape g.met.S.Shape.key_of_words g.met.S.Shape.words_of_key
-          c.args.caller.now.seat.view c.try_add_or_recycle.new.caller.seat.view c.key.result _ _ reply updated
+          c.args.caller.now.seat.view c.try_add_or_recycle.new.caller.seat.view c.key-words.result _ _ reply updated
           tells.lawful short)
           tells.answered tells.no_pages;
       locks = took_by_one _ _ c.try_add_or_recycle.result tells.locks;
