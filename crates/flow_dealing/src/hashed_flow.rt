@@ -12,7 +12,7 @@ use session_state::{Flow, FlowKey};
 pub struct HashedFlow {
     /// `None`: the packet takes no part in sessions.
     pub flow: Option<Flow>,
-    /// 0 without a flow.
+    /// Says nothing without a flow.
     pub hash: u64,
 }
 

@@ -14,7 +14,7 @@ ghost use Rattle.flow_workers.specs.inner.ViewedPackets.{TellsViewed};
 
 use crate::packet_plan::PacketPlan;
 use crate::session_tables::{Callers, Tables};
-use crate::table_update::{HashedKey, update};
+use crate::table_update::{HashedFlowKey, update};
 use crate::update_tries::{OneTry, Tries, UntilAnswered};
 use crate::viewed_packet::ViewedPacket;
 use bihash_table::Contended;
@@ -49,7 +49,7 @@ pub fn judge_as<A: Shape, B: Shape, D: HasReading, T: Tries>(
                 moment: packet.moment,
                 times: filter.times,
             };
-            let hashed = HashedKey {
+            let hashed = HashedFlowKey {
                 key: *key,
                 hash: packet.hashed.hash,
             };

@@ -6,13 +6,13 @@ ghost use Rattle.flow_workers.specs.Calls.{MayAsk};
 ghost use Rattle.flow_workers.specs.inner.Updates.{TellsFlow};
 
 use crate::session_tables::{Callers, Tables};
-use crate::update_tries::{KeyWords, Tries};
+use crate::update_tries::{HashedWords, Tries};
 use bihash_words::{Expiry, Patch, Reply, Shape};
 use session_state::FlowKey;
 
 /// A flow's key, and its hash in the table of its family.
 #[derive(Clone, Copy)]
-pub struct HashedKey {
+pub struct HashedFlowKey {
     pub key: FlowKey,
     pub hash: u64,
 }
@@ -23,7 +23,7 @@ pub fn update<A: Shape, B: Shape, P: Patch, E: Expiry, T: Tries>(
     tries: &T,
     tables: &Tables<A, B>,
     callers: &mut Callers<A, B>,
-    hashed: HashedKey,
+    hashed: HashedFlowKey,
     patch: &P,
     expiry: &E,
 ) -> Result<Reply, T::Refusal>
@@ -36,12 +36,12 @@ pub fn update<A: Shape, B: Shape, P: Patch, E: Expiry, T: Tries>(
     match hashed.key {
         FlowKey::Four(words) => {
             let words = words.as_slice();
-            let key = KeyWords { words, hash };
+            let key = HashedWords { words, hash };
             tries.update_words(&tables.four, &mut callers.four, &key, patch, expiry)
         }
         FlowKey::Six(words) => {
             let words = words.as_slice();
-            let key = KeyWords { words, hash };
+            let key = HashedWords { words, hash };
             tries.update_words(&tables.six, &mut callers.six, &key, patch, expiry)
         }
     }

@@ -12,7 +12,7 @@ use std::sync::Wait;
 
 /// The words of a key, and their hash.
 #[derive(Clone, Copy)]
-pub struct KeyWords<'w> {
+pub struct HashedWords<'w> {
     pub words: &'w [u64],
     pub hash: u64,
 }
@@ -30,7 +30,7 @@ pub trait Tries {
         &self,
         table: &Sessions<S>,
         caller: &mut Caller<S>,
-        key: &KeyWords<'_>,
+        key: &HashedWords<'_>,
         patch: &P,
         expiry: &E,
     ) -> Result<Reply, Self::Refusal>
@@ -56,7 +56,7 @@ impl Tries for OneTry {
         &self,
         table: &Sessions<S>,
         caller: &mut Caller<S>,
-        key: &KeyWords<'_>,
+        key: &HashedWords<'_>,
         patch: &P,
         expiry: &E,
     ) -> Result<Reply, Contended> {
@@ -87,7 +87,7 @@ impl<'r, R: Wait> Tries for UntilAnswered<'r, R> {
         &self,
         table: &Sessions<S>,
         caller: &mut Caller<S>,
-        key: &KeyWords<'_>,
+        key: &HashedWords<'_>,
         patch: &P,
         expiry: &E,
     ) -> Result<Reply, Infallible> {

@@ -49,7 +49,7 @@ fn record_verdict<A: Shape, B: Shape, R: Wait, G: Gate>(
 }
 
 /// Judges a packet of the worker, which stands at this place among those of the batch, and was seen so. Few frames aren't plain,
-/// and what is done with the others is shorter without this.
+/// and the path of plain ones is shorter without this.
 #[inline(never)]
 pub fn judge_other<A: Shape, B: Shape, R: Wait, G: Gate>(
     batch: &Batch<'_, '_, '_, A, B, R, G>,
@@ -88,7 +88,8 @@ pub fn judge_sighting<A: Shape, B: Shape, R: Wait, G: Gate>(
     record_verdict(batch, worker, at, filter, &viewed, share)
 }
 
-/// Judges a packet of the only worker, which stands at this place among those of the batch, and says its verdict.
+/// Judges a packet of the worker, which stands at this place among those of the batch, and says its verdict. Nobody dealt it, so
+/// that nothing of it need be kept.
 #[inline(always)]
 pub fn judge_packet<A: Shape, B: Shape, R: Wait, G: Gate>(
     batch: &Batch<'_, '_, '_, A, B, R, G>,

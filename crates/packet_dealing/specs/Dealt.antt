@@ -68,7 +68,7 @@ pub record IsSightingOf (l : Layout) (packet : PacketFacts) (seen : PlainSightin
   pub side : seen.side < 2
   pub hashed : seen.hash ≡ hash_in l (Four seen.key)
 
--- the packet was seen so, and the flow's hash is this in these tables
+-- the packet was seen so where its interface has no own address, and the key's hash is this in these tables
 pub record IsOtherOf (l : Layout) (packet : PacketFacts) (seen : OtherSighting) : Type 0 where
   pub packet_is : packet_facts seen.packet ≡ packet
   pub frame : IsSeenAt None packet (frame_facts seen.frame)
@@ -81,7 +81,7 @@ abbrev pub place_of : DealtPacket → ℕ
 place_of (Plain at seen) = at
 place_of (Other at place) = at
 
--- this was found of the packet, beside these others
+-- this was found of the packet: a plain frame, or, at its place among these, another sighting
 abbrev pub IsFoundOf : Layout → List OtherSighting → PacketFacts → DealtPacket → Type 0
 IsFoundOf l others packet (Plain at seen) = IsSightingOf l packet seen
 IsFoundOf l others packet (Other at place) =

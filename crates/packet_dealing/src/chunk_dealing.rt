@@ -13,7 +13,7 @@ use packet_view::{Packet, PacketBursts};
 use std::alloc::AllocError;
 
 // Deals the next packet of a chunk, which has this number, by the view of its frame. Few frames aren't plain, and the path of
-// the others is shorter without this.
+// plain ones is shorter without this.
 #[inline(never)]
 fn deal_other<'a, A: Shape, B: Shape>(
     dealer: &Dealer,

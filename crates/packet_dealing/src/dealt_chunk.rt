@@ -9,12 +9,12 @@ use crate::other_sighting::OtherSighting;
 use crate::plain_sighting::PlainSighting;
 use std::alloc::{AllocError, Global};
 
-/// What dealing found of a packet, by its place in its chunk, from 0. Others stand beside, so that a plain one takes few bytes.
+/// What dealing found of a packet, and its place in its chunk, from 0. Other sightings stand beside, so that it takes few bytes.
 #[derive(Clone, Copy)]
 pub enum DealtPacket {
-    /// That its frame is plain.
+    /// That its frame is plain; its place in the chunk stands first.
     Plain(u32, PlainSighting),
-    /// That its frame needn't be: its place among the chunk's others, from 0.
+    /// That its frame needn't be plain: its place in the chunk, and that of its sighting among the chunk's others, from 0.
     Other(usize, usize),
 }
 

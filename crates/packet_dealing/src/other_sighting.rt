@@ -1,4 +1,4 @@
-//! Frames that aren't plain, where and when they were seen.
+//! Frames that needn't be plain, where and when they were seen.
 ghost use Rattle.packet_view.specs.Captures.{packet_facts};
 ghost use Rattle.flow_filter.specs.OneThread.{IsFlowLayout, layout_of};
 ghost use Rattle.packet_dealing.specs.Dealt.{IsOtherOf};
@@ -14,11 +14,12 @@ pub struct OtherSighting<'a> {
     pub packet: Packet<'a>,
     /// What its frame is where the interface has no own address.
     pub frame: Frame,
+    /// The packet's flow.
     pub hashed: HashedFlow,
 }
 
-/// The sighting of a packet. Few frames aren't plain.
-#[inline]
+/// The sighting of a packet. Few frames aren't plain, and the path of plain ones is shorter without this.
+#[inline(never)]
 pub fn see_other<'a, A: Shape, B: Shape>(packet: Packet<'a>) -> OtherSighting<'a>
     requires { IsFlowLayout (layout_of ⟦<A as Shape>⟧ ⟦<B as Shape>⟧) }
     ensures { IsOtherOf (layout_of ⟦<A as Shape>⟧ ⟦<B as Shape>⟧) (packet_facts packet.entry) result }

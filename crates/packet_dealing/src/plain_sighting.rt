@@ -36,7 +36,7 @@ impl PlainSighting {
 
     // The packet's place in its flow.
     #[inline(always)]
-    fn plain_flow(&self) -> PlainFlow
+    fn flow(&self) -> PlainFlow
         ensures { result ≡ plain_flow_in self.now }
     {
         PlainFlow {
@@ -52,7 +52,7 @@ impl PlainSighting {
         ensures hash { result.hash ≡ self.now.hash }
     {
         HashedFlow {
-            flow: Some(self.plain_flow().flow()),
+            flow: Some(self.flow().flow()),
             hash: self.hash,
         }
     }
@@ -63,7 +63,7 @@ impl PlainSighting {
         ensures { result ≡ frame_in self.now }
     {
         PlainFrame {
-            packet: self.plain_flow().packet(self.flags),
+            packet: self.flow().packet(self.flags),
             sender: self.sender,
         }
     }

@@ -142,7 +142,7 @@ fn keys_of_plain_packets(rt: HostRuntime) {
         },
         255,
     );
-    assert!(rt; Some(asked) == four(key, 0x03e8_0035_1100_00ff, 0, true));
+    assert!(rt; Some(asked.flow()) == four(key, 0x03e8_0035_1100_00ff, 0, true));
     let sent = plain_flow(
         PlainPacket {
             source: NET + 2,
@@ -154,7 +154,7 @@ fn keys_of_plain_packets(rt: HostRuntime) {
         },
         0,
     );
-    assert!(rt; Some(sent) == four(key, 0x03e8_0050_0600_0000, 1, true));
+    assert!(rt; Some(sent.flow()) == four(key, 0x03e8_0050_0600_0000, 1, true));
 }
 
 // Keys of sessions: a flow at another interface has another key, and both its directions have that one.
