@@ -1,11 +1,12 @@
 -- A worker at its own packets of a chunk.
-use Rattle.std.proofs.Common.{◌≡◌, ◌≢◌, ◌∙◌, ◌+◌, ◌<◌, ◌≤◌, Fits, w64, ℕ, List, [], ◌∷◌, Some, ap, arith, drop, get_or, inl, inr, length, refl, slice_get, subst, sym}
+use Rattle.std.proofs.Common.{◌≡◌, ◌≢◌, ◌∙◌, ◌+◌, ◌<◌, ◌≤◌, Fits, w64, ℕ, List, [], ◌∷◌, Some, ap, arith, drop, get_or, inl, inr, length, map, refl, slice_get, subst, sym}
 use Rattle.std.proofs.lemmas.Bool.Decides.{eqb_tells}
 use Rattle.std.specs.List.{AllZip}
 use Rattle.std.specs.Prelude.{◌^◌}
 use Rattle.std.proofs.lemmas.List.{drop_all, drop_more}
 use Rattle.std.proofs.lemmas.Option.{slice_get_within}
-use Rattle.packet_view.specs.Captures.{PacketFacts}
+use Rattle.packet_view.specs.Captures.{PacketFacts, packet_facts}
+use Rattle.packet_view.specs.declared.packet.Packet.{Packet}
 use Rattle.packet_view.specs.CheckedCaptures.{remaining}
 use Rattle.packet_view.proofs.BurstLemmas.{left_behind}
 use Rattle.bihash_words.specs.declared.shape.Shape.{Ghosts}
@@ -13,7 +14,6 @@ use Rattle.packet_dealing.proofs.DealtLists.{none_left, stands_at}
 use Rattle.packet_dealing.proofs.HandedPackets.{none_picked, none_there, picked_mine, picked_other}
 use Rattle.flow_filter.specs.OneThread.{layout_of}
 use Rattle.packet_dealing.specs.Dealt.{IsDealtPacket, IsDealtTo, IsFoundOf, picked, place_of}
-use Rattle.packet_dealing.specs.declared.other_sighting.OtherSighting.{OtherSighting}
 use Rattle.packet_dealing.specs.declared.dealt_chunk.DealtPacket.{DealtPacket}
 use Rattle.packet_dealing.specs.declared.dealt_chunk.DealtChunk.{DealtChunk}
 use Rattle.flow_workers.specs.declared.worker_share.Batch.{Batch}
@@ -28,7 +28,7 @@ pub record HasLeft {A B R G K L : Type 0} (ga : Ghosts A K) (gb : Ghosts B L) (b
     (chunk : DealtChunk) (left : List DealtPacket) (old new : Share A B K L ga gb) : Type 0 where
   pub place : ℕ
   pub inside : place ≤ length chunk.workers.items
-  pub own : AllZip (IsDealtPacket (layout_of ga gb) chunk.others.items) left
+  pub own : AllZip (IsDealtPacket (layout_of ga gb) (map packet_facts chunk.others.items)) left
       (picked w place (drop place chunk.workers.items) (drop (first + place) (remaining batch.packets)))
   pub worked : HasWorkedOn ga gb batch w first (first + place) old new
 
@@ -47,8 +47,8 @@ pub record IsNextFound {A B R G K L : Type 0} (ga : Ghosts A K) (gb : Ghosts B L
     (chunk : DealtChunk) (dealt : DealtPacket) (left : List DealtPacket) (old new : Share A B K L ga gb) : Type 0 where
   pub packet : PacketFacts
   pub placed : List (ℕ × PacketFacts)
-  pub found : IsFoundOf (layout_of ga gb) chunk.others.items packet dealt
-  pub zipped : AllZip (IsDealtPacket (layout_of ga gb) chunk.others.items) left placed
+  pub found : IsFoundOf (layout_of ga gb) (map packet_facts chunk.others.items) packet dealt
+  pub zipped : AllZip (IsDealtPacket (layout_of ga gb) (map packet_facts chunk.others.items)) left placed
   pub next : IsNext ga gb batch w first chunk (place_of dealt) packet placed old new
 
 same_front : {X : Type 0} (x y : X) (xs ys : List X) → x ∷ xs ≡ y ∷ ys → x ≡ y
@@ -141,13 +141,13 @@ module _ {A B R G K L : Type 0} (ga : Ghosts A K) (gb : Ghosts B L) (batch : Bat
       → IsNextFound ga gb batch w first chunk (get_or own i d) (drop (i + 1) own) old new
   next_own own i d inside has =
       one_found (picked w has.place (drop has.place chunk.workers.items) (drop (first + has.place) (remaining batch.packets)))
-      refl (subst (λ ds. AllZip (IsDealtPacket (layout_of ga gb) chunk.others.items) ds
+      refl (subst (λ ds. AllZip (IsDealtPacket (layout_of ga gb) (map packet_facts chunk.others.items)) ds
       (picked w has.place (drop has.place chunk.workers.items) (drop (first + has.place) (remaining batch.packets))))
       (drop_more own i d inside) has.own)
     where
       one_found : (placed : List (ℕ × PacketFacts))
           → placed ≡ picked w has.place (drop has.place chunk.workers.items) (drop (first + has.place) (remaining batch.packets))
-          → AllZip (IsDealtPacket (layout_of ga gb) chunk.others.items) (get_or own i d ∷ drop (i + 1) own) placed
+          → AllZip (IsDealtPacket (layout_of ga gb) (map packet_facts chunk.others.items)) (get_or own i d ∷ drop (i + 1) own) placed
           → IsNextFound ga gb batch w first chunk (get_or own i d) (drop (i + 1) own) old new
       one_found [] are zipped = absurd zipped
       one_found ((at, packet) ∷ placed) are zipped = record {
@@ -176,12 +176,12 @@ module _ {A B R G K L : Type 0} (ga : Ghosts A K) (gb : Ghosts B L) (batch : Bat
   own_over own i past has =
       passed (drop has.place chunk.workers.items) (drop (first + has.place) (remaining batch.packets)) has.place has.inside refl
       refl (none_zipped (picked w has.place (drop has.place chunk.workers.items) (drop (first + has.place) (remaining batch.packets)))
-      (subst (λ ds. AllZip (IsDealtPacket (layout_of ga gb) chunk.others.items) ds
+      (subst (λ ds. AllZip (IsDealtPacket (layout_of ga gb) (map packet_facts chunk.others.items)) ds
       (picked w has.place (drop has.place chunk.workers.items) (drop (first + has.place) (remaining batch.packets))))
       (drop_all i own past) has.own)) has.worked
     where
       none_zipped : (placed : List (ℕ × PacketFacts))
-          → AllZip (IsDealtPacket (layout_of ga gb) chunk.others.items) [] placed → [] ≡ placed
+          → AllZip (IsDealtPacket (layout_of ga gb) (map packet_facts chunk.others.items)) [] placed → [] ≡ placed
       none_zipped [] zipped = refl
       none_zipped (p ∷ placed) zipped = absurd zipped
 
@@ -189,13 +189,13 @@ module _ {A B R G K L : Type 0} (ga : Ghosts A K) (gb : Ghosts B L) (batch : Bat
     (chunk : DealtChunk) where
   -- all of the worker's own packets are left
   pub all_left : (own : List DealtPacket) (share : Share A B K L ga gb)
-      → AllZip (IsDealtPacket (layout_of ga gb) chunk.others.items) own
+      → AllZip (IsDealtPacket (layout_of ga gb) (map packet_facts chunk.others.items)) own
       (picked w 0 chunk.workers.items (drop first (remaining batch.packets)))
       → AreIdle ga gb batch.setup.tables.now share.callers → HasLeft ga gb batch w first chunk own share share
   all_left own share are idle = record {
     place = 0;
     inside = omega arith;
-    own = subst (λ n. AllZip (IsDealtPacket (layout_of ga gb) chunk.others.items) own
+    own = subst (λ n. AllZip (IsDealtPacket (layout_of ga gb) (map packet_facts chunk.others.items)) own
         (picked w 0 chunk.workers.items (drop n (remaining batch.packets)))) start are;
     worked = worked_to ga gb batch w first first (first + 0) share share start (worked_none ga gb batch w first share idle);
   }
@@ -205,12 +205,12 @@ module _ {A B R G K L : Type 0} (ga : Ghosts A K) (gb : Ghosts B L) (batch : Bat
 
   -- the next one may be judged by what was found of it
   pub may_judge_found : (dealt : DealtPacket) (left : List DealtPacket) (old between : Share A B K L ga gb)
-      (others : List OtherSighting) → IsNextFound ga gb batch w first chunk dealt left old between
+      (others : List Packet) → IsNextFound ga gb batch w first chunk dealt left old between
       → others ≡ chunk.others.items → AreShapes ga gb → batch.first + length (remaining batch.packets) < 2 ^ 64
-      → MayJudgeFound ga gb batch w first others dealt between
+      → MayJudgeFound ga gb batch w first (map packet_facts others) dealt between
   may_judge_found dealt left old between others is same shapes fits = record {
     packet = is.packet;
-    is = subst (λ os. IsFoundOf (layout_of ga gb) os is.packet dealt) (sym same) is.found;
+    is = subst (λ os. IsFoundOf (layout_of ga gb) (map packet_facts os) is.packet dealt) (sym same) is.found;
     may = record {
       shapes = shapes;
       idle = is.next.worked.idle;
@@ -228,7 +228,7 @@ module _ {A B R G K L : Type 0} (ga : Ghosts A K) (gb : Ghosts B L) (batch : Bat
   left_next dealt left old between new is judged = record {
     place = place_of dealt + 1;
     inside = let inside = is.next.inside in omega arith;
-    own = subst (AllZip (IsDealtPacket (layout_of ga gb) chunk.others.items) left) is.next.own is.zipped;
+    own = subst (AllZip (IsDealtPacket (layout_of ga gb) (map packet_facts chunk.others.items)) left) is.next.own is.zipped;
     worked = worked_to ga gb batch w first (first + place_of dealt + 1) (first + (place_of dealt + 1)) old new (omega arith)
         (worked_on ga gb batch w first (first + place_of dealt) (first + place_of dealt + 1) old between new is.next.worked judged);
   }

@@ -1,13 +1,15 @@
 //! One worker: each packet that is dealt to it is judged, in the order of the file.
-ghost use Rattle.std.specs.Prelude.{◌+◌, ◌<◌, IfOk, length};
+ghost use Rattle.std.specs.Prelude.{◌+◌, ◌<◌, IfOk, length, map};
+ghost use Rattle.packet_view.specs.Captures.{packet_facts};
 ghost use Rattle.packet_dealing.specs.Dealt.{place_of};
 ghost use Rattle.flow_workers.specs.inner.Jobs.{CanWork, HasWorked, HasWorkedOn, IsShareOf, MayJudgeChunk, MayJudgeFound};
 
 use crate::gate::Gate;
-use crate::worker_packet_verdict::{judge_other, judge_sighting};
+use crate::worker_packet_verdict::{judge_by_view, judge_sighting};
 use crate::worker_share::{Batch, Dealt, Job, Share};
 use bihash_words::Shape;
-use packet_dealing::{DealtChunk, DealtPacket, OtherSighting};
+use packet_dealing::{DealtChunk, DealtPacket};
+use packet_view::Packet;
 use std::alloc::AllocError;
 use std::sync::Wait;
 
@@ -18,11 +20,11 @@ fn judge_found<A: Shape, B: Shape, R: Wait, G: Gate>(
     batch: &Batch<'_, '_, '_, A, B, R, G>,
     worker: usize,
     first: usize,
-    others: &[OtherSighting<'_>],
+    others: &[Packet<'_>],
     found: &DealtPacket,
     share: &mut Share<A, B>,
 ) -> Result<(), AllocError>
-    requires { MayJudgeFound ⟦<A as Shape>⟧ ⟦<B as Shape>⟧ batch.now worker first others.now found.now share.old }
+    requires { MayJudgeFound ⟦<A as Shape>⟧ ⟦<B as Shape>⟧ batch.now worker first (map packet_facts others.now) found.now share.old }
     ensures { IfOk result (λ _. HasWorkedOn ⟦<A as Shape>⟧ ⟦<B as Shape>⟧ batch.now worker (first + place_of found.now)
         (first + place_of found.now + 1) share.old share.new) }
 {
@@ -31,7 +33,7 @@ fn judge_found<A: Shape, B: Shape, R: Wait, G: Gate>(
             judge_sighting(batch, worker, first + *at as usize, seen, share)
         }
         DealtPacket::Other(at, place) => {
-            judge_other(batch, worker, first + *at, &others[*place], share)
+            judge_by_view(batch, worker, first + *at, &others[*place], share)
         }
     }
 }

@@ -48,9 +48,8 @@ fn record_verdict<A: Shape, B: Shape, R: Wait, G: Gate>(
     Ok(())
 }
 
-/// Judges a packet of the worker, which stands at this place among those of the batch, and was seen so. Few frames aren't plain,
-/// and the path of plain ones is shorter without this.
-#[inline(never)]
+/// Judges a packet of the worker, which stands at this place among those of the batch, and was seen so.
+#[inline]
 pub fn judge_other<A: Shape, B: Shape, R: Wait, G: Gate>(
     batch: &Batch<'_, '_, '_, A, B, R, G>,
     worker: usize,
@@ -66,6 +65,22 @@ pub fn judge_other<A: Shape, B: Shape, R: Wait, G: Gate>(
     let frame = seen.frame.at(packet.frame, packet.interface, filter.own);
     let viewed = ViewedPacket::new(packet.moment, &frame, &seen.hashed);
     record_verdict(batch, worker, at, filter, &viewed, share)
+}
+
+/// Judges a packet of the worker, which stands at this place among those of the batch, by the view of its frame. Few frames
+/// aren't plain, and the path of plain ones is shorter without this.
+#[inline(never)]
+pub fn judge_by_view<A: Shape, B: Shape, R: Wait, G: Gate>(
+    batch: &Batch<'_, '_, '_, A, B, R, G>,
+    worker: usize,
+    at: usize,
+    packet: &Packet<'_>,
+    share: &mut Share<A, B>,
+) -> Result<(), AllocError>
+    requires { MayJudgePacket ⟦<A as Shape>⟧ ⟦<B as Shape>⟧ batch.now worker at (packet_facts packet.now) share.old }
+    ensures { IfOk result (λ _. HasWorkedOn ⟦<A as Shape>⟧ ⟦<B as Shape>⟧ batch.now worker at (at + 1) share.old share.new) }
+{
+    judge_other(batch, worker, at, &see_other::<A, B>(*packet), share)
 }
 
 /// Judges a packet of the worker, which stands at this place among those of the batch, and whose plain frame was seen so. All
@@ -103,7 +118,7 @@ pub fn judge_packet<A: Shape, B: Shape, R: Wait, G: Gate>(
 {
     let filter = batch.setup.filter.at(packet.interface);
     let Some(frame) = plain_frame(packet.frame, packet.interface, filter.own) else {
-        return judge_other(batch, worker, at, &see_other::<A, B>(*packet), share);
+        return judge_by_view(batch, worker, at, packet, share);
     };
     let hashed = HashedFlow::of::<A, B>(flow_of_frame(&frame));
     let viewed = ViewedPacket::new(packet.moment, &frame, &hashed);

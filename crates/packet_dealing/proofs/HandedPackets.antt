@@ -1,19 +1,20 @@
 -- Packets in the lists of their workers.
 use Rattle.std.specs.Global.{Vec}
 use Rattle.std.specs.List.{AllZip}
-use Rattle.std.proofs.Common.{◌≡◌, ◌≢◌, ◌∙◌, ◌+◌, ◌<◌, ℕ, suc, List, [], ◌∷◌, ◌++◌, Some, All, ap, arith, get_or, inl, inr, length, refl, slice_get, subst, sym, eq-eqb}
+use Rattle.std.proofs.Common.{◌≡◌, ◌≢◌, ◌∙◌, ◌+◌, ◌<◌, ℕ, suc, List, [], ◌∷◌, ◌++◌, Some, All, ap, arith, get_or, inl, inr, length, map, refl, slice_get, subst, sym, eq-eqb}
 use Rattle.std.specs.Prelude.{◌==◌, if◌then◌else◌}
 use Rattle.std.proofs.lemmas.Bool.{ne_eqb}
 use Rattle.std.proofs.lemmas.Bool.Decides.{eqb_tells}
 use Rattle.std.proofs.ResultArms.{subst_both}
+use Rattle.std.proofs.lemmas.List.{length-map, map_push}
 use Rattle.std.proofs.lemmas.Option.{slice_get_within}
 use Rattle.std.proofs.lemmas.Slice.Zip.{all_zipped_more}
-use Rattle.packet_view.specs.Captures.{PacketFacts}
+use Rattle.packet_view.specs.Captures.{PacketFacts, packet_facts}
+use Rattle.packet_view.specs.declared.packet.Packet.{Packet}
 use Rattle.bihash_words.specs.declared.shape.Shape.{Ghosts}
 use Rattle.packet_dealing.proofs.DealtLists.{front_only, workers_push}
 use Rattle.flow_filter.specs.OneThread.{Layout, layout_of}
-use Rattle.packet_dealing.specs.Dealt.{AreWorkers, HaveOwn, IsDealtChunk, IsDealtPacket, IsDealtTo, IsFoundOf, IsOtherOf, IsSightingOf, picked}
-use Rattle.packet_dealing.specs.declared.other_sighting.OtherSighting.{OtherSighting}
+use Rattle.packet_dealing.specs.Dealt.{AreWorkers, HaveOwn, IsDealtChunk, IsDealtPacket, IsDealtTo, IsFoundOf, IsSightingOf, picked}
 use Rattle.packet_dealing.specs.declared.plain_sighting.PlainSighting.{PlainSighting}
 use Rattle.packet_dealing.specs.declared.dealt_chunk.DealtPacket.TheVariants.{Plain, Other}
 use Rattle.packet_dealing.specs.declared.packet_worker.Dealer.{Dealer}
@@ -107,14 +108,14 @@ get_last [] x = refl
 get_last (y ∷ xs) x = get_last xs x
 
 -- each stays where it was, and one more stands behind them
-there_push : (l : Layout) (olds news : List OtherSighting)
-    → ((i : ℕ) (other : OtherSighting) → slice_get olds i ≡ Some other → slice_get news i ≡ Some other)
+there_push : (l : Layout) (olds news : List PacketFacts)
+    → ((i : ℕ) (other : PacketFacts) → slice_get olds i ≡ Some other → slice_get news i ≡ Some other)
     → (packet : PacketFacts) (found : DealtPacket) → IsFoundOf l olds packet found → IsFoundOf l news packet found
 there_push l olds news stay packet (Plain at seen) is = is
-there_push l olds news stay packet (Other at place) (other, there, is) = (other, stay place other there, is)
+there_push l olds news stay packet (Other at place) is = stay place packet is
 
-still_dealt : (l : Layout) (olds news : List OtherSighting)
-    → ((i : ℕ) (other : OtherSighting) → slice_get olds i ≡ Some other → slice_get news i ≡ Some other)
+still_dealt : (l : Layout) (olds news : List PacketFacts)
+    → ((i : ℕ) (other : PacketFacts) → slice_get olds i ≡ Some other → slice_get news i ≡ Some other)
     → (own : List DealtPacket) (placed : List (ℕ × PacketFacts)) → AllZip (IsDealtPacket l olds) own placed
     → AllZip (IsDealtPacket l news) own placed
 still_dealt l olds news stay [] [] are = tt
@@ -134,33 +135,36 @@ handed_plain l old new worker at packet seen last is did = record {
   count = did.count;
   here = did.here;
   apart = did.apart;
-  others = λ i other there. ap (λ (list : Vec OtherSighting). slice_get list.items i) did.others ∙ there;
+  others = λ i other there. ap (λ (list : Vec Packet). slice_get (map packet_facts list.items) i) did.others ∙ there;
 }
 
 -- so is one that stands last among the others now
-pub handed_other : (l : Layout) (old mid new : DealtChunk) (worker at place : ℕ) (packet : PacketFacts)
-    (seen : OtherSighting) → at ≡ length old.workers.items → place ≡ length old.others.items
-    → mid.workers ≡ old.workers → mid.own ≡ old.own → mid.others.items ≡ old.others.items ++ seen ∷ []
-    → IsOtherOf l packet seen → HasHandedFound mid worker (Other at place) new → HasHanded l old worker packet new
-handed_other l old mid new worker at place packet seen last last_other workers own more is did = record {
+pub handed_other : (l : Layout) (old mid new : DealtChunk) (worker at place : ℕ) (packet : Packet)
+    → at ≡ length old.workers.items → place ≡ length old.others.items
+    → mid.workers ≡ old.workers → mid.own ≡ old.own → mid.others.items ≡ old.others.items ++ packet ∷ []
+    → HasHandedFound mid worker (Other at place) new → HasHanded l old worker (packet_facts packet) new
+handed_other l old mid new worker at place packet last last_other workers own more did = record {
   dealt = Other at place;
-  is = record { at = last; found = (seen, stands_last, is) };
+  is = record { at = last; found = stands_last };
   noted = did.noted ∙ ap (λ (list : Vec ℕ). list.items ++ worker ∷ []) workers;
   count = did.count ∙ ap (λ (list : Vec (Vec DealtPacket)). length list.items) own;
   here = λ d e. did.here d e
       ∙ ap (λ (lists : Vec (Vec DealtPacket)). (get_or lists.items worker e).items ++ Other at place ∷ []) own;
-  apart = λ w d differ. did.apart w d differ
-      ∙ ap (λ (lists : Vec (Vec DealtPacket)). get_or lists.items w d) own;
+  apart = λ w d differ. did.apart w d differ ∙ ap (λ (lists : Vec (Vec DealtPacket)). get_or lists.items w d) own;
   others = λ i other there. ap (λ list. slice_get list i) listed
-      ∙ (front_only old.others.items (seen ∷ []) i (slice_get_within old.others.items i other there) ∙ there);
+      ∙ (front_only (map packet_facts old.others.items) (packet_facts packet ∷ []) i
+      (slice_get_within (map packet_facts old.others.items) i other there) ∙ there);
 }
   where
-    listed : new.others.items ≡ old.others.items ++ seen ∷ []
-    listed = ap (λ (list : Vec OtherSighting). list.items) did.others ∙ more
+    listed : map packet_facts new.others.items ≡ map packet_facts old.others.items ++ packet_facts packet ∷ []
+    listed = ap (λ (list : Vec Packet). map packet_facts list.items) did.others
+        ∙ (ap (map packet_facts) more ∙ map_push packet_facts old.others.items packet)
 
-    stands_last : slice_get new.others.items place ≡ Some seen
+    stands_last : slice_get (map packet_facts new.others.items) place ≡ Some (packet_facts packet)
     stands_last = ap (λ list. slice_get list place) listed
-        ∙ (ap (slice_get (old.others.items ++ seen ∷ [])) last_other ∙ get_last old.others.items seen)
+        ∙ (ap (slice_get (map packet_facts old.others.items ++ packet_facts packet ∷ []))
+        (last_other ∙ sym (length-map old.others.items packet_facts))
+        ∙ get_last (map packet_facts old.others.items) (packet_facts packet))
 
 -- no packet was handed out
 none_own : (l : Layout) (count : ℕ) (chunk : DealtChunk) (packets : List PacketFacts) → IsEmptyChunk count chunk
@@ -168,7 +172,7 @@ none_own : (l : Layout) (count : ℕ) (chunk : DealtChunk) (packets : List Packe
 none_own l count chunk packets empty = record {
   lists = empty.count;
   each = λ w d inside.
-      subst_both (AllZip (IsDealtPacket l chunk.others.items))
+      subst_both (AllZip (IsDealtPacket l (map packet_facts chunk.others.items)))
       (sym (all_at (λ (list : Vec DealtPacket). list.items ≡ []) chunk.own.items empty.each w d
       (subst (λ n. w < n) (sym empty.count) inside)))
       (sym (ap (λ ws. picked w 0 ws packets) empty.none ∙ none_picked w 0 packets)) tt;
@@ -204,12 +208,12 @@ own_push l count old new worker packet packets one own there did = record {
   ];
 }
   where
-    others : List OtherSighting
-    others = new.others.items
+    others : List PacketFacts
+    others = map packet_facts new.others.items
 
     before : (w : ℕ) (d : Vec DealtPacket) → w < count
         → AllZip (IsDealtPacket l others) (get_or old.own.items w d).items (picked w 0 old.workers.items packets)
-    before w d inside = still_dealt l old.others.items others did.others _ _ (own.each w d inside)
+    before w d inside = still_dealt l (map packet_facts old.others.items) others did.others _ _ (own.each w d inside)
 
 module _ {A B K L : Type 0} (ga : Ghosts A K) (gb : Ghosts B L) (dealer : Dealer) (first : ℕ)
     (packets : List PacketFacts) where

@@ -2,7 +2,7 @@
 use Rattle.std.specs.Global.{Vec}
 use Rattle.std.specs.List.{AllZip}
 use Rattle.std.specs.Option.{ForSome}
-use Rattle.std.specs.Prelude.{◌≡◌, ◌+◌, ◌<◌, ◌≤◌, ◌==◌, if◌then◌else◌, ℕ, List, [], ◌∷◌, Option, None, Some, drop, length, slice_get, slice_index, slice_index_or}
+use Rattle.std.specs.Prelude.{◌≡◌, ◌+◌, ◌<◌, ◌≤◌, ◌==◌, if◌then◌else◌, ℕ, List, [], ◌∷◌, Option, None, Some, drop, length, map, slice_get, slice_index, slice_index_or}
 use Rattle.packet_view.specs.Captures.{PacketFacts, packet_facts}
 use Rattle.packet_view.specs.Frames.{FrameFacts, frame_facts}
 use Rattle.packet_view.specs.PlainFrames.{IsPlainFrame}
@@ -81,14 +81,13 @@ abbrev pub place_of : DealtPacket → ℕ
 place_of (Plain at seen) = at
 place_of (Other at place) = at
 
--- this was found of the packet: a plain frame, or, at its place among these, another sighting
-abbrev pub IsFoundOf : Layout → List OtherSighting → PacketFacts → DealtPacket → Type 0
+-- this was found of the packet: a plain frame, or its place among these
+abbrev pub IsFoundOf : Layout → List PacketFacts → PacketFacts → DealtPacket → Type 0
 IsFoundOf l others packet (Plain at seen) = IsSightingOf l packet seen
-IsFoundOf l others packet (Other at place) =
-    (other : OtherSighting) × (slice_get others place ≡ Some other) × IsOtherOf l packet other
+IsFoundOf l others packet (Other at place) = slice_get others place ≡ Some packet
 
 -- the packet with its place
-pub record IsDealtPacket (l : Layout) (others : List OtherSighting) (dealt : DealtPacket) (placed : ℕ × PacketFacts)
+pub record IsDealtPacket (l : Layout) (others : List PacketFacts) (dealt : DealtPacket) (placed : ℕ × PacketFacts)
     : Type 0 where
   pub at : place_of dealt ≡ placed.0
   pub found : IsFoundOf l others placed.1 dealt
@@ -104,7 +103,7 @@ picked worker at (w ∷ ws) (packet ∷ packets) =
 pub record HaveOwn (l : Layout) (count : ℕ) (chunk : DealtChunk) (packets : List PacketFacts) : Type 0 where
   pub lists : length chunk.own.items ≡ count
   pub each : (w : ℕ) (d : Vec DealtPacket) → w < count
-      → AllZip (IsDealtPacket l chunk.others.items) (slice_index_or chunk.own.items w d).items
+      → AllZip (IsDealtPacket l (map packet_facts chunk.others.items)) (slice_index_or chunk.own.items w d).items
       (picked w 0 chunk.workers.items packets)
 
 -- the chunk has the workers of the first of these packets, whose numbers begin with this one, and for each worker its own

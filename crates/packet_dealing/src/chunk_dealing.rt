@@ -27,7 +27,7 @@ fn deal_other<'a, A: Shape, B: Shape>(
 {
     let seen = see_other::<A, B>(packet);
     let worker = worker_of_packet::<A, B>(dealer, number, &seen.hashed);
-    chunk.hand_other(worker, seen)
+    chunk.hand_other(worker, packet)
 }
 
 // Deals the next packet of a chunk, which has this number.

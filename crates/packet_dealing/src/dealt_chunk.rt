@@ -1,20 +1,19 @@
 //! Packets that follow each other, once it is known who judges each of them.
 ghost use Rattle.std.specs.Prelude.{◌≡◌, ◌<◌, ◌^◌, IfOk, length};
-ghost use Rattle.packet_view.specs.Captures.{PacketFacts};
+ghost use Rattle.packet_view.specs.Captures.{packet_facts};
 ghost use Rattle.flow_filter.specs.OneThread.{Layout};
-ghost use Rattle.packet_dealing.specs.Dealt.{IsOtherOf};
 ghost use Rattle.packet_dealing.specs.inner.OwnPackets.{HasHanded, HasHandedFound, IsEmptyChunk, IsEmptyRoom};
 
-use crate::other_sighting::OtherSighting;
 use crate::plain_sighting::PlainSighting;
+use packet_view::Packet;
 use std::alloc::{AllocError, Global};
 
-/// What dealing found of a packet, and its place in its chunk, from 0. Other sightings stand beside, so that it takes few bytes.
+/// What dealing found of a packet, and its place in its chunk, from 0.
 #[derive(Clone, Copy)]
 pub enum DealtPacket {
     /// That its frame is plain; its place in the chunk stands first.
     Plain(u32, PlainSighting),
-    /// That its frame needn't be plain: its place in the chunk, and that of its sighting among the chunk's others, from 0.
+    /// That its frame needn't be plain: its place in the chunk, and that among the chunk's others, from 0.
     Other(usize, usize),
 }
 
@@ -25,8 +24,9 @@ pub struct DealtChunk<'a> {
     pub workers: Vec<u8>,
     /// For each worker the packets that it judges, in their order.
     pub own: Vec<Vec<DealtPacket>>,
-    /// The others among them, in their order.
-    pub others: Vec<OtherSighting<'a>>,
+    /// The others among them, in their order. What is seen of them isn't kept: it takes so much room that its first touch costs
+    /// more than to see it again.
+    pub others: Vec<Packet<'a>>,
 }
 
 /// The lists of a chunk without their packets. Whoever deals again hands it on: memory that was given back costs a first touch
@@ -132,19 +132,14 @@ impl<'a> DealtChunk<'a> {
         Ok(())
     }
 
-    /// The next packet, which was seen so, is this worker's, and one of the others.
-    pub(crate) fn hand_other(
-        &mut self,
-        worker: usize,
-        seen: OtherSighting<'a>,
-    ) -> Result<(), AllocError>
+    /// The next packet is this worker's, and one of the others.
+    pub(crate) fn hand_other(&mut self, worker: usize, packet: Packet<'a>) -> Result<(), AllocError>
         requires few { worker < 2 ^ 8 }
         requires one { worker < length self.old.own.items }
-        ensures { IfOk result (λ _. (l : Layout) (packet : PacketFacts) → IsOtherOf l packet seen.entry
-            → HasHanded l self.old worker packet self.new) }
+        ensures { IfOk result (λ _. (l : Layout) → HasHanded l self.old worker (packet_facts packet.entry) self.new) }
     {
         let found = DealtPacket::Other(self.workers.len(), self.others.len());
-        self.others.push(seen)?;
+        self.others.push(packet)?;
         self.hand(worker, found)
     }
 }

@@ -5,7 +5,7 @@ use super::filter_test_refused;
 use bihash_words::{ShapeV4, ShapeV6, flow_shapes_are_sound};
 use flow_dealing::Dealing;
 use packet_dealing::{
-    Dealer, DealtChunk, DealtPacket, DealtRoom, OtherSighting, deal_packets, see_other, see_plain,
+    Dealer, DealtChunk, DealtPacket, DealtRoom, deal_packets, see_other, see_plain,
     worker_of_packet,
 };
 use packet_view::{Packet, Packets};
@@ -78,7 +78,7 @@ fn expect_found<R: Abort>(
     rt: &R,
     at: usize,
     found: &DealtPacket,
-    others: &[OtherSighting<'_>],
+    others: &[Packet<'_>],
     packet: &Packet<'_>,
 ) {
     match found {
@@ -110,7 +110,7 @@ fn expect_found<R: Abort>(
         }
         DealtPacket::Other(place, other) => {
             assert!(rt; *place == at && *other < others.len());
-            let other = others[*other].packet;
+            let other = others[*other];
             assert!(rt; (other.moment, other.frame) == (packet.moment, packet.frame));
             assert!(rt; other.frame.len() != 54);
         }

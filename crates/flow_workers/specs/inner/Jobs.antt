@@ -90,7 +90,7 @@ pub record MayJudgeOther {A B R G K L : Type 0} (ga : Ghosts A K) (gb : Ghosts B
 
 -- it is one of which this was found when it was dealt, beside these others, in a chunk that begins at this place
 pub record MayJudgeFound {A B R G K L : Type 0} (ga : Ghosts A K) (gb : Ghosts B L) (batch : Batch A B R G K L)
-    (worker first : ℕ) (others : List OtherSighting) (found : DealtPacket) (share : Share A B K L ga gb) : Type 0 where
+    (worker first : ℕ) (others : List PacketFacts) (found : DealtPacket) (share : Share A B K L ga gb) : Type 0 where
   pub packet : PacketFacts
   pub is : IsFoundOf (layout_of ga gb) others packet found
   pub may : MayJudgePacket ga gb batch worker (first + place_of found) packet share

@@ -1,5 +1,6 @@
-use Rattle.std.proofs.Common.{◌∙◌, ap, drop, subst, sym}
+use Rattle.std.proofs.Common.{◌∙◌, ap, drop, map, subst, sym}
 use Rattle.std.specs.List.{AllZip}
+use Rattle.packet_view.specs.Captures.{packet_facts}
 use Rattle.packet_view.specs.CheckedCaptures.{remaining}
 use Rattle.flow_filter.specs.OneThread.{layout_of}
 use Rattle.packet_dealing.specs.Dealt.{IsDealtPacket, picked}
@@ -10,7 +11,7 @@ pub loop-dealt-init : goal.loop-dealt-init
 loop-dealt-init g c =
     let chunk = c.args.chunk.now in
     all_left g.A.Shape g.B.Shape c.args.batch.now c.args.worker c.args.first chunk c.as_slice-own.result.now c.args.share.now
-    (subst (λ ds. AllZip (IsDealtPacket (layout_of g.A.Shape g.B.Shape) chunk.others.items) ds
+    (subst (λ ds. AllZip (IsDealtPacket (layout_of g.A.Shape g.B.Shape) (map packet_facts chunk.others.items)) ds
     (picked c.args.worker 0 chunk.workers.items (drop c.args.first (remaining c.args.batch.now.packets))))
     (sym (c.as_slice-own.ensures.value ∙ ap (λ list. list.items) c.index.ensures))
     (c.requires.of.own.each c.args.worker c.index.result.now c.requires.few))

@@ -6,13 +6,6 @@ use Rattle.flow_dealing.specs.HashedFlows.{IsHashed}
 use Rattle.flow_workers.proofs.DealtLemmas.{may_judge_viewed}
 use Rattle.flow_workers.proofs.worker_packet_verdict.judge_packet.Goals as goal
 
-pub judge_other-requires : goal.judge_other-requires
-judge_other-requires g c = record {
-  packet = packet_facts c.args.packet.now;
-  is = c.see_other.ensures;
-  may = c.requires;
-}
-
 pub record_verdict-requires : goal.record_verdict-requires
 record_verdict-requires g c =
     may_judge_viewed g.A.Shape g.B.Shape c.args.batch.now c.args.worker c.args.at _ _ _ (frame_facts c.in-Some.frame) _

@@ -10,5 +10,5 @@ returns g c =
       worker = c.worker_of_packet-worker.result;
       one = c.worker_of_packet-worker.ensures.one;
       dealt = c.worker_of_packet-worker.ensures.dealt packet c.see_other-seen.ensures.flow;
-      handed = did (layout_of g.A.Shape g.B.Shape) packet c.see_other-seen.ensures;
+      handed = did (layout_of g.A.Shape g.B.Shape);
     }) c.hand_other.ensures

@@ -7,5 +7,5 @@ pub returns : goal.returns
 returns c =
     let old = c.args.self.now in
     IfOk-weaker c.hand.result _ _
-    (λ _ did l packet is. handed_other l old (record old { others = c.push.new.self }) c.hand.new.self c.args.worker
-    c.len.result c.len-2.result packet c.args.seen (omega arith) (omega arith) refl refl c.in_ok-push.ensures.items is did) c.hand.ensures
+    (λ _ did l. handed_other l old (record old { others = c.push.new.self }) c.hand.new.self c.args.worker
+    c.len.result c.len-2.result c.args.packet (omega arith) (omega arith) refl refl c.in_ok-push.ensures.items did) c.hand.ensures
