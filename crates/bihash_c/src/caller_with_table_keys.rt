@@ -36,6 +36,7 @@ impl<S: Shape> CallerWithTable<S> {
             (E.is_expired expiry.now) result }
     {
         let sessions = self.share.sessions();
-        sessions.try_add_or_recycle(&mut self.caller, &KeyWithHash::of(key), patch, expiry)
+        let hash = S::hash(key);
+        sessions.try_add_or_recycle(&mut self.caller, &KeyWithHash { key, hash }, patch, expiry)
     }
 }
