@@ -11,8 +11,8 @@ use crate::worker_share::{Batch, Share};
 use bihash_words::Shape;
 use flow_dealing::HashedFlow;
 use flow_filter::InterfaceFilter;
-use packet_dealing::{OtherSighting, PlainSighting, flow_of_frame, see_other};
-use packet_view::{Packet, plain_frame};
+use packet_dealing::{OtherSighting, PlainSighting, flow_of_frame};
+use packet_view::{Packet, plain_frame, view};
 use std::alloc::AllocError;
 use std::marker::Brand;
 use std::sync::Wait;
@@ -80,7 +80,11 @@ pub fn judge_by_view<A: Shape, B: Shape, R: Wait, G: Gate>(
     requires { MayJudgePacket ⟦<A as Shape>⟧ ⟦<B as Shape>⟧ batch.now worker at (packet_facts packet.now) share.old }
     ensures { IfOk result (λ _. HasWorkedOn ⟦<A as Shape>⟧ ⟦<B as Shape>⟧ batch.now worker at (at + 1) share.old share.new) }
 {
-    judge_other(batch, worker, at, &see_other::<A, B>(*packet), share)
+    let filter = batch.setup.filter.at(packet.interface);
+    let frame = view(packet.frame, packet.interface, filter.own);
+    let hashed = HashedFlow::of::<A, B>(flow_of_frame(&frame));
+    let viewed = ViewedPacket::new(packet.moment, &frame, &hashed);
+    record_verdict(batch, worker, at, filter, &viewed, share)
 }
 
 /// Judges a packet of the worker, which stands at this place among those of the batch, and whose plain frame was seen so. All

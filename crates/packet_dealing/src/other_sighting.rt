@@ -18,8 +18,8 @@ pub struct OtherSighting<'a> {
     pub hashed: HashedFlow,
 }
 
-/// The sighting of a packet. Few frames aren't plain, and the path of plain ones is shorter without this.
-#[inline(never)]
+/// The sighting of a packet.
+#[inline(always)]
 pub fn see_other<'a, A: Shape, B: Shape>(packet: Packet<'a>) -> OtherSighting<'a>
     requires { IsFlowLayout (layout_of ⟦<A as Shape>⟧ ⟦<B as Shape>⟧) }
     ensures { IsOtherOf (layout_of ⟦<A as Shape>⟧ ⟦<B as Shape>⟧) (packet_facts packet.entry) result }
