@@ -2,6 +2,7 @@
 pub mod Alone
 pub mod CallerSplits
 pub mod Fresh
+pub mod Gathered
 pub mod Jobs
 pub mod Merges
 pub mod PacketPlans

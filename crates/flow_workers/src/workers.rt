@@ -1,15 +1,18 @@
 //! Workers that judge packets in batches.
 use crate::gate::Gate;
+use crate::judge_by_several::judge_by_several;
 use crate::judge_in_one_thread::judge_together;
-use crate::judge_in_threads::judge_in_threads;
 use crate::run_fault::RunFault;
 use crate::session_tables::Callers;
 use crate::share_splitting::split_shares;
-use crate::verdict_merge::{all_verdicts, let_go_merged, place_verdicts};
+use crate::verdict_merge::all_verdicts;
+use crate::verdicts_so_far::{merge_several, take_said};
 use crate::worker_callers::join_worker_callers;
 use crate::worker_results::results_of;
 use crate::worker_setup::Setup;
-use crate::worker_share::{Batch, JudgedBatch, Share, WorkerResults};
+use crate::worker_share::{
+    Batch, JudgedBatch, LastBatch, Merged, Share, VerdictsSoFar, WorkerResults,
+};
 use bihash_words::Shape;
 use flow_filter::Verdict;
 use packet_dealing::DealtRoom;
@@ -24,9 +27,9 @@ pub struct Workers<'t, 'f, A: Shape, B: Shape, R: Wait, G: Gate> {
     pub setup: Setup<'t, 'f, A, B, R, G>,
     /// What each worker has, in their order.
     pub shares: Vec<Share<A, B>>,
-    /// The verdicts on the packets that they judged, in the packets' order, where there are several workers. Those of one
-    /// are in its share, but for those that `judge_alone` gave out.
-    pub verdicts: Vec<Verdict>,
+    /// The verdicts on the packets that they judged, where there are several workers. Those of one are in its share, but for
+    /// those that `judge_alone` gave out.
+    pub verdicts: VerdictsSoFar,
     /// How many packets they judged.
     pub count: usize,
     /// The lists in which packets were dealt, for the next ones.
@@ -51,7 +54,10 @@ impl<'t, 'f, A: Shape, B: Shape, R: Wait, G: Gate> Workers<'t, 'f, A, B, R, G> {
         Ok(Workers {
             setup,
             shares,
-            verdicts: Vec::new(alloc),
+            verdicts: VerdictsSoFar {
+                merged: Vec::new(alloc),
+                last: None,
+            },
             count: 0,
             rooms: Vec::new(alloc),
         })
@@ -68,12 +74,13 @@ impl<'t, 'f, A: Shape, B: Shape, R: Wait, G: Gate> Workers<'t, 'f, A, B, R, G> {
             verdicts,
             ..
         } = self;
+        let merged = merge_several(alloc, setup.workers, verdicts)?;
         let WorkerResults { four, six, said } = results_of(alloc, shares)?;
         let callers = Callers {
             four: join_worker_callers(setup.rt, &setup.tables.four, four),
             six: join_worker_callers(setup.rt, &setup.tables.six, six),
         };
-        Ok((all_verdicts(verdicts, said), callers))
+        Ok((all_verdicts(merged, said), callers))
     }
 }
 
@@ -105,7 +112,7 @@ where
         let Workers {
             setup,
             shares,
-            mut verdicts,
+            verdicts,
             count,
             mut rooms,
         } = self;
@@ -115,20 +122,27 @@ where
             first: count,
             packets,
         };
-        let judged = if setup.is_alone() || batch.packets.count() < setup.many {
-            judge_together(alloc, batch, shares)
-        } else {
-            judge_in_threads(alloc, batch, shares, &mut rooms)
-        };
-        let JudgedBatch { mut shares, judges } = judged?;
-        if !setup.is_alone() {
-            verdicts = place_verdicts(verdicts, judges.as_slice(), shares.as_slice())?;
-            let_go_merged(&mut shares);
+        if setup.is_alone() {
+            let JudgedBatch { shares, .. } = judge_together(alloc, batch, shares)?;
+            return Ok(Workers {
+                setup,
+                shares,
+                verdicts,
+                count: next,
+                rooms,
+            });
         }
+        let (judged, merged) = judge_by_several(alloc, batch, shares, verdicts, &mut rooms)?;
+        let JudgedBatch { mut shares, judges } = judged;
+        let Merged { verdicts, spare } = merged;
+        let said = take_said(alloc, &mut shares, spare)?;
         Ok(Workers {
             setup,
             shares,
-            verdicts,
+            verdicts: VerdictsSoFar {
+                merged: verdicts,
+                last: Some(LastBatch { said, judges }),
+            },
             count: next,
             rooms,
         })
