@@ -20,7 +20,6 @@ use Rattle.flow_dealing.proofs.TraceMerges.{judge_each_packet}
 use Rattle.flow_workers.specs.declared.worker_setup.Setup.{Setup}
 use Rattle.flow_workers.specs.declared.worker_share.Batch.{Batch}
 use Rattle.flow_workers.specs.declared.worker_share.Share.{Share}
-use Rattle.flow_workers.specs.declared.worker_share.VerdictsSoFar.{VerdictsSoFar}
 use Rattle.flow_workers.specs.declared.session_tables.Callers.{Callers}
 use Rattle.flow_workers.specs.declared.session_tables.Tables.{Tables}
 use Rattle.flow_workers.specs.declared.workers.Workers.{Workers}
@@ -131,7 +130,7 @@ module _ {A B R G K L : Type 0} (ga : Ghosts A K) (gb : Ghosts B L) (old : Worke
         (worked.each 0 alone.share judged (let n = ap length alone.only in omega arith))))
 
     -- what it said is let go
-    pub alone_on : (kept : Share A B K L ga gb) (verdicts : List Verdict) (left : Vec (Share A B K L ga gb)) (merged : VerdictsSoFar)
+    pub alone_on : (kept : Share A B K L ga gb) (verdicts : List Verdict) (left : Vec (Share A B K L ga gb)) (merged : Vec Verdict)
         (count : ℕ) → HasLetGo ga gb old.setup.tables.now judged kept verdicts → left.items ≡ kept ∷ []
         → count ≡ old.count + length (remaining batch.packets)
         → HasGoneOn old batch.packets (record { setup = old.setup; shares = left; verdicts = merged; count = count; rooms = old.rooms }) verdicts

@@ -1,6 +1,5 @@
--- All workers between batches of packets: their shares keep no longer what several said of a batch, which is to be merged.
+-- All workers between batches of packets: what several said of a batch is merged, and their shares keep it no longer.
 use Rattle.std.proofs.Common.{◌≡◌, ◌∙◌, ◌+◌, ◌<◌, ◌++◌, ℕ, List, [], ◌∷◌, ap, arith, false, get_or, length, ◌==◌, ◌≤◌, length-append, map, refl, subst, sym, true≢false}
-use Rattle.std.specs.Prelude.{None, Some}
 use Rattle.std.specs.Global.{Vec}
 use lib.ListN.{get_elem?}
 use Rattle.packet_view.specs.Captures.{PacketFacts}
@@ -14,20 +13,18 @@ use Rattle.packet_dealing.specs.Dealt.{AreWorkers}
 use Rattle.packet_dealing.specs.declared.dealt_chunk.DealtRoom.{DealtRoom}
 use Rattle.flow_workers.specs.declared.worker_setup.Setup.{Setup}
 use Rattle.flow_workers.specs.declared.worker_share.Batch.{Batch}
-use Rattle.flow_workers.specs.declared.worker_share.LastBatch.{LastBatch}
 use Rattle.flow_workers.specs.declared.worker_share.Share.{Share}
 use Rattle.flow_workers.specs.declared.workers.Workers.{Workers}
 use Rattle.flow_workers.specs.Progress.{AreAtRest, IsAtRestAfter, IsSoundSetup}
 use Rattle.flow_workers.specs.inner.Jobs.{dealer_of, run_facts}
-use Rattle.flow_workers.specs.inner.Gathered.{IsToMerge}
-use Rattle.flow_workers.specs.inner.Merges.{AreInPlace, AreJudges, AreTold, HaveLetGo, LetGo, MayMerge, said_in_shares}
+use Rattle.flow_workers.specs.inner.Merges.{AreInPlace, AreJudges, AreMerged, AreTold, HaveLetGo, LetGo, MayMerge, said_in_shares}
 use Rattle.flow_workers.specs.inner.Shares.{AreSplit}
 use Rattle.flow_workers.specs.inner.Work.{RunFacts}
 use Rattle.acl_policy.specs.Policies.{PolicyFacts}
 use Rattle.std.proofs.lemmas.List.{get_or-map}
 use Rattle.flow_workers.specs.inner.Together.{HaveNoted}
 use Rattle.flow_workers.specs.inner.Turns.{HaveWorked}
-use Rattle.flow_workers.proofs.MergeLemmas.{batch_judges, in_place_before, more_than_one}
+use Rattle.flow_workers.proofs.MergeLemmas.{batch_judges, in_place, in_place_before, more_than_one}
 use Rattle.flow_workers.proofs.RestLemmas.{rest_begun, rest_judged, rest_silent}
 use Rattle.flow_workers.proofs.WorkSteps.{no_numbers}
 use Rattle.flow_workers.proofs.WorkerResultLemmas.{get_or_at, shares_told}
@@ -50,17 +47,14 @@ nothing_in_place run verdicts none said = record {
 
 pub all_begun : {A B R G K L : Type 0} (ga : Ghosts A K) (gb : Ghosts B L) (all : Workers A B R G K L ga gb)
     → IsSoundSetup ga gb all.setup → AreSplit all.setup.tables.now all.setup.workers all.shares.items
-    → all.verdicts.merged.items ≡ [] → all.verdicts.last ≡ None → all.count ≡ 0 → AreAtRest [] all
-all_begun ga gb all sound split none no_last count = record {
+    → all.verdicts.items ≡ [] → all.count ≡ 0 → AreAtRest [] all
+all_begun ga gb all sound split none count = record {
   sound = sound;
   count = count;
   shares = split.count;
   gone = λ w. [];
   each = λ i d inside. rest_begun ga gb all.setup i _ (split.each i d inside);
-  gathered = λ several. record {
-    in_place = λ _. nothing_in_place _ all.verdicts.merged.items refl none;
-    to_merge = λ last is. absurd (let f : ⊥ = cc in f);
-  };
+  merged = λ several. nothing_in_place _ all.verdicts.items refl none;
   kept = λ one. refl;
 }
 
@@ -101,7 +95,7 @@ module _ {A B R G K L : Type 0} (ga : Ghosts A K) (gb : Ghosts B L) (old : Worke
       gone = rest.gone;
       each = λ i d inside. subst (λ ss. IsAtRestAfter ga gb (rest.gone i) old.setup (packets ++ remaining batch.packets) i
           (get_or ss i d)) (sym is) (each_after i d inside);
-      gathered = λ several. absurd (omega arith);
+      merged = λ several. absurd (omega arith);
       kept = λ alone. rest.kept alone;
     }
 
@@ -110,89 +104,72 @@ module _ {A B R G K L : Type 0} (ga : Ghosts A K) (gb : Ghosts B L) (old : Worke
     told = shares_told ga gb old.setup (packets ++ remaining batch.packets) rest.gone rest.sound shares
         (worked.count ∙ rest.shares) each_after
 
-    -- what several said may be merged, after the verdicts that are in place
-    may_merge : (judges : List ℕ)
+    -- what several said may be merged
+    pub may_merge : (judges : List ℕ)
         → (1 < batch.setup.workers → HaveNoted ga gb (dealer_of batch.setup) batch.first (remaining batch.packets) [] judges)
-        → 1 < old.setup.workers → (merged : Vec Verdict)
-        → AreInPlace (run_facts ga gb old.setup packets) rest.gone merged.items
-        → MayMerge (run_facts ga gb old.setup (packets ++ remaining batch.packets)) told.0 rest.gone (said_in_shares shares)
-        judges merged
-    may_merge judges all_noted several merged place =
+        → 1 < old.setup.workers
+        → (run : RunFacts) × (traces : List (List Item)) × (gone : LetGo)
+        × MayMerge run traces gone (said_in_shares shares) judges old.verdicts
+    may_merge judges all_noted several =
         let noted = all_noted (subst (λ (s : Setup A B R G K L). 1 < s.workers) (sym same) several) in
+        let place = rest.merged several in
         let many = place.count in
         let long = noted.many in
-        let joined = length-append packets (remaining batch.packets) in record {
-          may = record {
-            told = told.1;
-            judges = subst (λ ws. AreJudges (run_facts ga gb old.setup (packets ++ remaining batch.packets))
-                (length merged.items) ws) (sym noted.noted)
-                (subst (λ n. AreJudges (run_facts ga gb old.setup (packets ++ remaining batch.packets)) n noted.workers) (sym many)
-                (batch_judges ga gb (run_facts ga gb old.setup (packets ++ remaining batch.packets)) refl packets
-                (remaining batch.packets) refl noted.workers noted.many
-                (subst (λ n. AreWorkers ga gb (dealer_of old.setup) n noted.workers (remaining batch.packets))
-                (first ∙ rest.count)
-                (subst (λ (s : Setup A B R G K L). AreWorkers ga gb (dealer_of s) batch.first noted.workers (remaining batch.packets))
-                same noted.are))));
-            before = in_place_before (run_facts ga gb old.setup packets) (remaining batch.packets) told.0 rest.gone
-                (said_in_shares shares) merged told.1 place;
-          };
-          last = let ws = ap length noted.noted in omega arith;
-        }
+        let joined = length-append packets (remaining batch.packets) in (
+          run_facts ga gb old.setup (packets ++ remaining batch.packets),
+          told.0,
+          rest.gone,
+          record {
+            may = record {
+              told = told.1;
+              judges = subst (λ ws. AreJudges (run_facts ga gb old.setup (packets ++ remaining batch.packets))
+                  (length old.verdicts.items) ws) (sym noted.noted)
+                  (subst (λ n. AreJudges (run_facts ga gb old.setup (packets ++ remaining batch.packets)) n noted.workers) (sym many)
+                  (batch_judges ga gb (run_facts ga gb old.setup (packets ++ remaining batch.packets)) refl packets
+                  (remaining batch.packets) refl noted.workers noted.many
+                  (subst (λ n. AreWorkers ga gb (dealer_of old.setup) n noted.workers (remaining batch.packets))
+                  (first ∙ rest.count)
+                  (subst (λ (s : Setup A B R G K L). AreWorkers ga gb (dealer_of s) batch.first noted.workers (remaining batch.packets))
+                  same noted.are))));
+              before = in_place_before (run_facts ga gb old.setup packets) (remaining batch.packets) told.0 rest.gone
+                  (said_in_shares shares) old.verdicts told.1 place;
+            };
+            last = let ws = ap length noted.noted in omega arith;
+          },
+        )
 
-    -- what was said of a batch is all that is in the shares
-    to_merge : (last : LastBatch) → last.said.items ≡ said_in_shares shares
-        → (1 < batch.setup.workers
-        → HaveNoted ga gb (dealer_of batch.setup) batch.first (remaining batch.packets) [] last.judges.items)
-        → 1 < old.setup.workers → (merged : Vec Verdict)
-        → AreInPlace (run_facts ga gb old.setup packets) rest.gone merged.items
-        → IsToMerge (run_facts ga gb old.setup (packets ++ remaining batch.packets)) (with_shares rest.gone shares) merged last
-    to_merge last is noted several merged place = record {
-      traces = told.0;
-      before = rest.gone;
-      may = subst (λ all. MayMerge (run_facts ga gb old.setup (packets ++ remaining batch.packets)) told.0 rest.gone all
-          last.judges.items merged) (sym is) (may_merge last.judges.items noted several merged place);
-      all = λ w said at.
-          let s = before_map (λ (s : Share A B K L ga gb). s.said) shares w said (sym (ap (λ all. get_elem? all w) is) ∙ at) in
-          ap (λ vs. rest.gone w ++ vs)
-          (get_or_at (map (λ (x : Share A B K L ga gb). x.said.items) shares) w s.0.said.items []
-          (after_map (λ (x : Share A B K L ga gb). x.said.items) shares w s.0 s.1)
-          ∙ ap (λ (v : Vec Verdict). v.items) s.2);
-    }
-
-    -- the shares of several keep no longer what they said, which is to be merged
-    pub rest_of_several : (last : LastBatch) → last.said.items ≡ said_in_shares shares
-        → (1 < batch.setup.workers
-        → HaveNoted ga gb (dealer_of batch.setup) batch.first (remaining batch.packets) [] last.judges.items)
-        → 1 < old.setup.workers → (merged : Vec Verdict)
-        → AreInPlace (run_facts ga gb old.setup packets) rest.gone merged.items
+    -- what several said is merged, and their shares keep it no longer
+    pub rest_of_several : (judges : List ℕ)
+        → (1 < batch.setup.workers → HaveNoted ga gb (dealer_of batch.setup) batch.first (remaining batch.packets) [] judges)
+        → 1 < old.setup.workers → (merged : Vec Verdict) → AreMerged (said_in_shares shares) judges old.verdicts merged.items
         → (kept : Vec (Share A B K L ga gb)) → HaveLetGo shares kept.items
         → (count : ℕ) (rooms : Vec DealtRoom) → count ≡ old.count + length (remaining batch.packets)
         → AreAtRest (packets ++ remaining batch.packets)
-        (record {
-          setup = old.setup;
-          shares = kept;
-          verdicts = record { merged = merged; last = Some last };
-          count = count;
-          rooms = rooms;
-        })
-    rest_of_several last is noted several merged place kept let_go count rooms counted = record {
-      sound = rest.sound;
-      count = longer count counted;
-      shares = let_go.count ∙ (worked.count ∙ rest.shares);
-      gone = with_shares rest.gone shares;
-      each = λ i d inside.
-          let there : i < length shares = let n = worked.count in let m = rest.shares in omega arith in
-          subst (λ vs. IsAtRestAfter ga gb (rest.gone i ++ vs) old.setup (packets ++ remaining batch.packets) i
-          (get_or kept.items i d))
-          (sym (get_or-map (λ (s : Share A B K L ga gb). s.said.items) shares i d [] there))
-          (rest_silent ga gb old.setup (rest.gone i) (packets ++ remaining batch.packets) i (get_or shares i d)
-          (get_or kept.items i d) (let_go.callers i d d there) (let_go.silent i d there) (each_after i d inside));
-      gathered = λ _. record {
-        in_place = λ none. absurd (let f : ⊥ = cc in f);
-        to_merge = λ other some.
-            let same_last : last ≡ other = cc in
-            subst (IsToMerge (run_facts ga gb old.setup (packets ++ remaining batch.packets)) (with_shares rest.gone shares) merged)
-            same_last (to_merge last is noted several merged place);
-      };
-      kept = λ one. absurd (omega arith);
-    }
+        (record { setup = old.setup; shares = kept; verdicts = merged; count = count; rooms = rooms })
+    unfolding may_merge told
+    rest_of_several judges noted several merged are kept let_go count rooms counted =
+        let may = may_merge judges noted several in
+        let placed = are may.0 may.1 may.2 may.3 in
+        record {
+          sound = rest.sound;
+          count = longer count counted;
+          shares = let_go.count ∙ (worked.count ∙ rest.shares);
+          gone = with_shares rest.gone shares;
+          each = λ i d inside.
+              let there : i < length shares = let n = worked.count in let m = rest.shares in omega arith in
+              subst (λ vs. IsAtRestAfter ga gb (rest.gone i ++ vs) old.setup (packets ++ remaining batch.packets) i
+              (get_or kept.items i d))
+              (sym (get_or-map (λ (s : Share A B K L ga gb). s.said.items) shares i d [] there))
+              (rest_silent ga gb old.setup (rest.gone i) (packets ++ remaining batch.packets) i (get_or shares i d)
+              (get_or kept.items i d) (let_go.callers i d d there) (let_go.silent i d there) (each_after i d inside));
+          merged = λ _. in_place (run_facts ga gb old.setup (packets ++ remaining batch.packets)) told.0 rest.gone (said_in_shares shares) told.1
+              (with_shares rest.gone shares)
+              (λ w said at.
+              let s = before_map (λ (s : Share A B K L ga gb). s.said) shares w said at in
+              ap (λ vs. rest.gone w ++ vs)
+              (get_or_at (map (λ (x : Share A B K L ga gb). x.said.items) shares) w s.0.said.items []
+              (after_map (λ (x : Share A B K L ga gb). x.said.items) shares w s.0 s.1)
+              ∙ ap (λ (v : Vec Verdict). v.items) s.2))
+              merged.items placed;
+          kept = λ one. absurd (omega arith);
+        }

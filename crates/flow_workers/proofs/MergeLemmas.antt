@@ -28,7 +28,8 @@ use Rattle.flow_dealing.proofs.TraceMerges.{all_views, worker_few}
 use Rattle.flow_dealing.proofs.Places.{after_map, at_front, before_map, zip_count}
 use Rattle.flow_workers.specs.declared.verdict_merge.VerdictMerge.{VerdictMerge}
 use Rattle.flow_workers.specs.inner.Work.{AreSaid, RunFacts, numbers_of, verdict_in}
-use Rattle.flow_workers.specs.inner.Merges.{AreAllVerdicts, AreInPlace, AreJudges, ArePlacedBefore, AreTold, IsNext, LetGo, MayPlace, before_batch, numbers_behind}
+use Rattle.flow_workers.specs.inner.Merges.{AreAllVerdicts, AreInPlace, AreJudges, ArePlacedBefore, AreTold, IsNext, LetGo, MayPlace, before_batch, numbers_behind, said_in_shares}
+use Rattle.flow_workers.specs.declared.worker_share.Share.{Share}
 use Rattle.flow_workers.proofs.WorkSteps.{IsAt, no_numbers, numbers_at, numbers_cons}
 
 -- ---- Lists
@@ -108,24 +109,33 @@ one_placed run trace verdicts alone is said =
 
 -- ---- What workers of one run said
 
+-- the share of the next packet's worker is there
+pub next_inside : {A B K L : Type 0} {ga : Ghosts A K} {gb : Ghosts B L} (run : RunFacts) (traces : List (List Item)) (gone : LetGo)
+    (shares : List (Share A B K L ga gb)) (placed : VerdictMerge) (w : ℕ) → IsNext run traces gone (said_in_shares shares) placed w
+    → w < length shares
+next_inside {A} {B} {K} {L} {ga} {gb} run traces gone shares placed w is =
+    let inside = within (said_in_shares shares) w is.said is.here in
+    let many = length-map shares (λ (s : Share A B K L ga gb). s.said) in omega arith
+
+-- what is in the share of a worker
+pub said_of : {A B K L : Type 0} {ga : Ghosts A K} {gb : Ghosts B L} (shares : List (Share A B K L ga gb)) (w : ℕ)
+    (d : Share A B K L ga gb) → w < length shares → (get_or shares w d).said ≡ get_or (said_in_shares shares) w (get_or shares w d).said
+said_of {A} {B} {K} {L} {ga} {gb} shares w d inside =
+    sym (get_or-map (λ (s : Share A B K L ga gb). s.said) shares w d (get_or shares w d).said inside)
+
 module _ (run : RunFacts) (traces : List (List Item)) (gone : LetGo) (all : List (Vec Verdict)) where
-  -- the next packet's worker has a place
-  pub next_inside : (placed : VerdictMerge) (w : ℕ) → IsNext run traces gone all placed w → w < length all
-  next_inside placed w is = within all w is.said is.here
+  -- what the next packet's worker said stands at its place
+  pub said_is : (placed : VerdictMerge) (w : ℕ) (is : IsNext run traces gone all placed w) (said : Vec Verdict) → said ≡ get_or all w said
+      → is.said ≡ said
+  said_is placed w is said at = some-injective is.said said
+      (sym is.here ∙ (at_or all w said (within all w is.said is.here) ∙ ap some (sym at)))
 
-  -- what it said stands there
-  pub said_is : (placed : VerdictMerge) (w : ℕ) (is : IsNext run traces gone all placed w) (d : Vec Verdict)
-      → is.said ≡ get_or all w d
-  said_is placed w is d = some-injective is.said (get_or all w d)
-      (sym is.here ∙ at_or all w d (within all w is.said is.here))
-
-  pub told_next : (placed : VerdictMerge) (w : ℕ) (is : IsNext run traces gone all placed w) (d : Vec Verdict) (x : Verdict)
-      → x ≡ get_or (get_or all w d).items (slice_index placed.next w) x
+  pub told_next : (placed : VerdictMerge) (w : ℕ) (is : IsNext run traces gone all placed w) (said : Vec Verdict) (x : Verdict)
+      → said ≡ get_or all w said → x ≡ get_or said.items (slice_index placed.next w) x
       → get_elem? is.said.items (slice_index placed.next w) ≡ some x
-  told_next placed w is d x told =
+  told_next placed w is said x at told =
       let n = slice_index placed.next w in
-      let said = get_or all w d in
-      let same = said_is placed w is d in
+      let same = said_is placed w is said at in
       let inside = within said.items n _ (subst (λ s. get_elem? s.items n ≡ some (verdict_in run.times is.item)) same is.verdict) in
       ap (λ s. get_elem? s.items n) same ∙ (at_or said.items n x inside ∙ ap some (sym told))
 

@@ -15,9 +15,8 @@ use Rattle.flow_workers.specs.declared.session_tables.Callers.{Callers}
 use Rattle.flow_workers.specs.declared.workers.Workers.{Workers}
 use Rattle.flow_workers.specs.Callers.{AreIdle, AreShapes, views_of}
 use Rattle.flow_workers.specs.inner.Fresh.{IsFreshView}
-use Rattle.flow_workers.specs.inner.Gathered.{AreGathered}
 use Rattle.flow_workers.specs.inner.Jobs.{HasDoneAfter, policy_of, run_facts}
-use Rattle.flow_workers.specs.inner.Merges.{LetGo}
+use Rattle.flow_workers.specs.inner.Merges.{AreInPlace, LetGo}
 use Rattle.flow_workers.specs.inner.Shares.{AreFresh}
 
 -- from 1 to 16 workers, over tables whose keys are those of flows
@@ -43,8 +42,8 @@ pub record IsAtRestAfter {A B R G K L : Type 0} (ga : Ghosts A K) (gb : Ghosts B
   pub work : (more : List PacketFacts)
       → HasDoneAfter ga gb said setup (packets ++ more) worker (length packets) began share
 
--- All workers after these packets. Where they are several, they let go what they said; what the only one said is in its
--- share.
+-- All workers after these packets. Where they are several, what they said is merged, and they let it go; what the only one
+-- said is in its share.
 pub record AreAtRest {A B R G K L : Type 0} {ga : Ghosts A K} {gb : Ghosts B L} (packets : List PacketFacts)
     (all : Workers A B R G K L ga gb) : Type 0 where
   pub sound : IsSoundSetup ga gb all.setup
@@ -53,7 +52,7 @@ pub record AreAtRest {A B R G K L : Type 0} {ga : Ghosts A K} {gb : Ghosts B L} 
   pub gone : LetGo
   pub each : (i : ℕ) (d : Share A B K L ga gb) → i < all.setup.workers
       → IsAtRestAfter ga gb (gone i) all.setup packets i (slice_index_or all.shares.items i d)
-  pub gathered : 1 < all.setup.workers → AreGathered (run_facts ga gb all.setup packets) gone all.verdicts
+  pub merged : 1 < all.setup.workers → AreInPlace (run_facts ga gb all.setup packets) gone all.verdicts.items
   pub kept : all.setup.workers ≡ 1 → gone 0 ≡ []
 
 -- workers of this setup that judged no packet

@@ -2,7 +2,6 @@
 pub mod Alone
 pub mod CallerSplits
 pub mod Fresh
-pub mod Gathered
 pub mod Jobs
 pub mod Merges
 pub mod PacketPlans

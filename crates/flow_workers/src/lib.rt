@@ -3,9 +3,9 @@
 
 mod gate;
 mod judge_alone;
-mod judge_by_several;
 mod judge_dealt_packets;
 mod judge_in_one_thread;
+mod judge_in_threads;
 mod lone_caller;
 mod packet_plan;
 mod packet_verdict;
@@ -19,7 +19,6 @@ mod table_update;
 mod turns_in_threads;
 mod update_tries;
 mod verdict_merge;
-mod verdicts_so_far;
 mod viewed_packet;
 mod worker_callers;
 mod worker_packet_verdict;

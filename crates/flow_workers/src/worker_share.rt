@@ -71,29 +71,3 @@ pub struct JudgedBatch<A: Shape, B: Shape> {
     /// The worker of each packet, where there are several.
     pub judges: Vec<u8>,
 }
-
-/// What several workers said of the packets of a batch, which isn't merged.
-#[derive(Drop)]
-pub struct LastBatch {
-    /// What each of them said, in the workers' order.
-    pub said: Vec<Vec<Verdict>>,
-    /// The worker of each packet.
-    pub judges: Vec<u8>,
-}
-
-/// The verdicts of several workers on the packets that they judged so far. Those on the last batch are merged while the
-/// next one is dealt.
-#[derive(Drop)]
-pub struct VerdictsSoFar {
-    /// Those on the first packets, in the packets' order.
-    pub merged: Vec<Verdict>,
-    /// Those on the others.
-    pub last: Option<LastBatch>,
-}
-
-/// Verdicts in the order of the packets, and empty lists for what workers say next.
-#[derive(Drop)]
-pub struct Merged {
-    pub verdicts: Vec<Verdict>,
-    pub spare: Vec<Vec<Verdict>>,
-}

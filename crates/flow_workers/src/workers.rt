@@ -1,18 +1,15 @@
 //! Workers that judge packets in batches.
 use crate::gate::Gate;
-use crate::judge_by_several::judge_by_several;
 use crate::judge_in_one_thread::judge_together;
+use crate::judge_in_threads::judge_in_threads;
 use crate::run_fault::RunFault;
 use crate::session_tables::Callers;
 use crate::share_splitting::split_shares;
-use crate::verdict_merge::all_verdicts;
-use crate::verdicts_so_far::{merge_several, take_said};
+use crate::verdict_merge::{all_verdicts, let_go_merged, place_verdicts};
 use crate::worker_callers::join_worker_callers;
 use crate::worker_results::results_of;
 use crate::worker_setup::Setup;
-use crate::worker_share::{
-    Batch, JudgedBatch, LastBatch, Merged, Share, VerdictsSoFar, WorkerResults,
-};
+use crate::worker_share::{Batch, JudgedBatch, Share, WorkerResults};
 use bihash_words::Shape;
 use flow_filter::Verdict;
 use packet_dealing::DealtRoom;
@@ -27,9 +24,9 @@ pub struct Workers<'t, 'f, A: Shape, B: Shape, R: Wait, G: Gate> {
     pub setup: Setup<'t, 'f, A, B, R, G>,
     /// What each worker has, in their order.
     pub shares: Vec<Share<A, B>>,
-    /// The verdicts on the packets that they judged, where there are several workers. Those of one are in its share, but for
-    /// those that `judge_alone` gave out.
-    pub verdicts: VerdictsSoFar,
+    /// The verdicts on the packets that they judged, in the packets' order, where there are several workers. Those of one
+    /// are in its share, but for those that `judge_alone` gave out.
+    pub verdicts: Vec<Verdict>,
     /// How many packets they judged.
     pub count: usize,
     /// The lists in which packets were dealt, for the next ones.
@@ -54,10 +51,7 @@ impl<'t, 'f, A: Shape, B: Shape, R: Wait, G: Gate> Workers<'t, 'f, A, B, R, G> {
         Ok(Workers {
             setup,
             shares,
-            verdicts: VerdictsSoFar {
-                merged: Vec::new(alloc),
-                last: None,
-            },
+            verdicts: Vec::new(alloc),
             count: 0,
             rooms: Vec::new(alloc),
         })
@@ -74,13 +68,12 @@ impl<'t, 'f, A: Shape, B: Shape, R: Wait, G: Gate> Workers<'t, 'f, A, B, R, G> {
             verdicts,
             ..
         } = self;
-        let merged = merge_several(alloc, setup.workers, verdicts)?;
         let WorkerResults { four, six, said } = results_of(alloc, shares)?;
         let callers = Callers {
             four: join_worker_callers(setup.rt, &setup.tables.four, four),
             six: join_worker_callers(setup.rt, &setup.tables.six, six),
         };
-        Ok((all_verdicts(merged, said), callers))
+        Ok((all_verdicts(verdicts, said), callers))
     }
 }
 
@@ -112,7 +105,7 @@ where
         let Workers {
             setup,
             shares,
-            verdicts,
+            mut verdicts,
             count,
             mut rooms,
         } = self;
@@ -122,27 +115,20 @@ where
             first: count,
             packets,
         };
-        if setup.is_alone() {
-            let JudgedBatch { shares, .. } = judge_together(alloc, batch, shares)?;
-            return Ok(Workers {
-                setup,
-                shares,
-                verdicts,
-                count: next,
-                rooms,
-            });
+        let judged = if setup.is_alone() || batch.packets.count() < setup.many {
+            judge_together(alloc, batch, shares)
+        } else {
+            judge_in_threads(alloc, batch, shares, &mut rooms)
+        };
+        let JudgedBatch { mut shares, judges } = judged?;
+        if !setup.is_alone() {
+            verdicts = place_verdicts(verdicts, judges.as_slice(), shares.as_slice())?;
+            let_go_merged(&mut shares);
         }
-        let (judged, merged) = judge_by_several(alloc, batch, shares, verdicts, &mut rooms)?;
-        let JudgedBatch { mut shares, judges } = judged;
-        let Merged { verdicts, spare } = merged;
-        let said = take_said(alloc, &mut shares, spare)?;
         Ok(Workers {
             setup,
             shares,
-            verdicts: VerdictsSoFar {
-                merged: verdicts,
-                last: Some(LastBatch { said, judges }),
-            },
+            verdicts,
             count: next,
             rooms,
         })

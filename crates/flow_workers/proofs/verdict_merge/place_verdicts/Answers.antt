@@ -1,11 +1,12 @@
 use Rattle.std.proofs.Common.{arith}
+use Rattle.flow_workers.specs.inner.Merges.{said_in_shares}
 use Rattle.flow_workers.proofs.MergeLemmas.{all_placed}
 use Rattle.flow_workers.proofs.verdict_merge.place_verdicts.Goals as goal
 
 pub place-requires : goal.place-requires
-place-requires c = (c.requires.0, c.requires.1, c.requires.2, c.requires.3.may)
+place-requires g c = (c.requires.0, c.requires.1, c.requires.2, c.requires.3.may)
 
 pub returns : goal.returns
-returns c run traces gone may = all_placed run traces gone c.args.said.now may.may.told c.place.new.self
+returns g c run traces gone may = all_placed run traces gone (said_in_shares c.args.shares.now) may.may.told c.place.new.self
     (c.in_ok-place.ensures.placed run traces gone may.may)
     (let long = c.in_ok-place.ensures.count in let last = may.last in omega arith)

@@ -1,6 +1,5 @@
 use Rattle.std.proofs.Common.{arith}
 use Rattle.packet_view.specs.declared.tuple.Family.TheVariants.{V4, V6}
-use Rattle.flow_workers.specs.inner.Jobs.{run_facts}
 use Rattle.flow_workers.proofs.MergeLemmas.{all_verdicts_placed}
 use Rattle.flow_workers.proofs.WorkerResultLemmas.{results_are, results_count, run_judged}
 use Rattle.flow_workers.proofs.workers.Workers.end.Goals as goal
@@ -42,14 +41,6 @@ returns g c = record {
       (c.join_worker_callers.ensures.whole, c.join_worker_callers-2.ensures.whole)
       (c.join_worker_callers.ensures.traces _ _ V4 p.traces p.four) (c.join_worker_callers-2.ensures.traces _ _ V6 p.traces p.six)
       c.all_verdicts.result.items
-      (all_verdicts_placed _ p.traces rest.gone c.in_ok-four.field-0.said.items c.in_ok-merged.merged p.told
-      (λ several. c.in_ok-merged.ensures _ rest.gone several (rest.gathered several)) rest.kept
+      (all_verdicts_placed _ p.traces rest.gone c.in_ok-four.field-0.said.items c.args.self.verdicts p.told rest.merged rest.kept
       c.all_verdicts.result.items c.all_verdicts.ensures);
 }
-
-pub merge_several-requires : goal.merge_several-requires
-merge_several-requires g c several = let rest = c.requires.1 in (
-  run_facts g.A.Shape g.B.Shape c.args.self.setup c.requires.0,
-  rest.gone,
-  rest.gathered several,
-)

@@ -1,34 +1,61 @@
-use Rattle.std.proofs.Common.{arith, refl, sym}
+use Rattle.std.proofs.Common.{arith, refl, subst, sym}
 use Rattle.std.proofs.lemmas.Bool.{eqb-true}
-use Rattle.flow_workers.specs.inner.Gathered.{CanGather}
-use Rattle.flow_workers.specs.inner.Jobs.{run_facts}
-use Rattle.flow_workers.proofs.BatchMerges.{rest_of_one, rest_of_several, several_by}
+use Rattle.std.specs.Prelude.{IfOk}
+use Rattle.flow_workers.specs.inner.Merges.{AreMerged, MayMerge, said_in_shares}
+use Rattle.flow_workers.specs.inner.Together.{HaveJudgedBatch}
+use Rattle.flow_workers.proofs.BatchMerges.{may_merge, rest_of_one, rest_of_several, several_by}
 use Rattle.flow_workers.proofs.workers.Workers.judge.Goals as goal
+use Rattle.flow_workers.proofs.workers.Workers.judge.Goals.{then-count-setup, else-count-setup, then-not-is_alone+in_ok-verdicts, else-not-is_alone}
 
-pub judge_by_several-requires-clause-gather : goal.judge_by_several-requires-clause-gather
-judge_by_several-requires-clause-gather g c κs lives =
-    let several = several_by _ c.requires.rest.sound.some c.if-is_alone.ensures in
-    let these : CanGather c.args.self.verdicts = (
-      run_facts g.A.Shape g.B.Shape c.args.self.setup c.requires.packets,
-      c.requires.rest.gone,
-      c.requires.rest.gathered several,
-    ) in these
-
-pub returns-then-is_alone : goal.returns-then-is_alone
-returns-then-is_alone g c = record {
-  by = refl;
-  rest = λ packets rest.
-      rest_of_one g.A.Shape g.B.Shape c.args.self _ c.again.ensures refl _ c.in_ok-shares.ensures.worked packets rest
-      (eqb-true _ 1 (sym c.if-is_alone.ensures)) c.in_ok-shares.field-0.shares refl _ _ (let n = c.count.ensures in omega arith);
-}
+pub place_verdicts-requires : goal.place_verdicts-requires
+place_verdicts-requires g c =
+    let ran : IfOk c.if-count-setup.judged (HaveJudgedBatch
+    (record { setup = c.again.result; first = c.args.self.count; packets = c.args.packets }) c.args.self.shares.items) =
+    elim c.if-count-setup.branch [
+      | then-count-setup w ↦ rw w.judged-is w.judge_together-judged.ensures
+      | else-count-setup w ↦ rw w.judged-is w.judge_in_threads-judged.ensures
+    ] in
+    let batch = rw c.in_ok-shares.was at ran in
+    let judged = c.in_ok-shares.field-0 in
+    let several = several_by _ c.requires.rest.sound.some c.if-not-is_alone.ensures in
+    let may = may_merge g.A.Shape g.B.Shape c.args.self _ c.again.ensures refl judged.shares.items batch.worked
+    c.requires.packets c.requires.rest judged.judges.items
+    batch.noted several in (
+      may.0,
+      may.1,
+      may.2,
+      subst (λ ss. MayMerge may.0 may.1 may.2 (said_in_shares ss) c.as_slice.result.now c.args.self.verdicts)
+          (sym c.as_slice-then-not-is_alone.ensures.value)
+          (subst (λ ws. MayMerge may.0 may.1 may.2 (said_in_shares judged.shares.items) ws c.args.self.verdicts)
+          (sym c.as_slice.ensures.value) may.3),
+    )
 
 pub returns : goal.returns
-returns g c = record {
-  by = refl;
-  rest = λ packets rest.
-      let several = several_by _ rest.sound.some c.if-is_alone.ensures in
-      rest_of_several g.A.Shape g.B.Shape c.args.self _ c.again.ensures refl _ c.in_ok-judged.ensures.judged.worked packets rest
-      _ c.in_ok-said.ensures.said c.in_ok-judged.ensures.judged.noted several _
-      (c.in_ok-judged.ensures.merged.in_place _ rest.gone (rest.gathered several))
-      c.take_said.new.shares c.in_ok-said.ensures.gone _ _ (let n = c.count.ensures in omega arith);
-}
+returns g c =
+    let ran : IfOk c.if-count-setup.judged (HaveJudgedBatch
+    (record { setup = c.again.result; first = c.args.self.count; packets = c.args.packets }) c.args.self.shares.items) =
+    elim c.if-count-setup.branch [
+      | then-count-setup w ↦ rw w.judged-is w.judge_together-judged.ensures
+      | else-count-setup w ↦ rw w.judged-is w.judge_in_threads-judged.ensures
+    ] in
+    let batch = rw c.in_ok-shares.was at ran in
+    let judged = c.in_ok-shares.field-0 in
+    record {
+      by = refl;
+      rest = λ packets rest. elim c.if-not-is_alone.branch [
+        | then-not-is_alone+in_ok-verdicts w ↦
+            let several = several_by _ rest.sound.some w.if-not-is_alone.ensures in
+            rw (w.shares-is, w.verdicts-is) (rest_of_several g.A.Shape g.B.Shape c.args.self _ c.again.ensures refl
+            judged.shares.items batch.worked packets rest judged.judges.items
+            batch.noted several w.in_ok-verdicts.verdicts
+            (subst (λ ss. AreMerged (said_in_shares ss) judged.judges.items c.args.self.verdicts w.in_ok-verdicts.verdicts.items)
+            w.as_slice-then-not-is_alone.ensures.value
+            (subst (λ ws. AreMerged (said_in_shares w.as_slice-then-not-is_alone.result.now) ws c.args.self.verdicts
+            w.in_ok-verdicts.verdicts.items) w.as_slice.ensures.value w.in_ok-verdicts.ensures))
+            w.let_go_merged.new.shares w.let_go_merged.ensures _ _ (let n = c.count.ensures in omega arith))
+        | else-not-is_alone w ↦
+            rw (w.shares-is, w.verdicts-is) (rest_of_one g.A.Shape g.B.Shape c.args.self _ c.again.ensures refl
+            judged.shares.items batch.worked packets rest (eqb-true _ 1 (sym w.if-not-is_alone.ensures))
+            judged.shares refl _ _ (let n = c.count.ensures in omega arith))
+      ];
+    }

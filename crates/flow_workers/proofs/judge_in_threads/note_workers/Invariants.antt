@@ -1,6 +1,6 @@
 use Rattle.std.proofs.Common.{◌≡◌, ◌++◌, drop}
 use Rattle.flow_workers.specs.inner.Shares.{workers_in}
-use Rattle.flow_workers.proofs.judge_by_several.note_workers.Given as goal
+use Rattle.flow_workers.proofs.judge_in_threads.note_workers.Given as goal
 
 abbrev pub invariant-loop-chunk : goal.invariant-loop-chunk
 invariant-loop-chunk l =

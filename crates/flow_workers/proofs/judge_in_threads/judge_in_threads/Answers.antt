@@ -2,16 +2,17 @@ use Rattle.std.proofs.Common.{[], ◌∙◌, ap, subst}
 use Rattle.packet_view.specs.CheckedCaptures.{remaining}
 use Rattle.packet_dealing.specs.Dealt.{AreDealt}
 use Rattle.flow_workers.specs.inner.Shares.{workers_in}
+use Rattle.flow_workers.specs.inner.Turns.{HaveWorked}
 use Rattle.flow_workers.proofs.RestLemmas.{dealt_noted}
-use Rattle.flow_workers.proofs.judge_by_several.judge_by_several.Goals as goal
+use Rattle.flow_workers.proofs.judge_in_threads.judge_in_threads.Goals as goal
 
-pub returns-clause-judged : goal.returns-clause-judged
-returns-clause-judged g c =
+pub returns : goal.returns
+returns g c =
     let batch = c.args.batch in
     record {
-      worked = c.in_ok-shares.ensures;
+      worked = subst (λ r. HaveWorked r c.args.shares.items c.in_ok-shares.shares.items) c.again.ensures c.in_ok-shares.ensures;
       noted = λ _. dealt_noted g.A.Shape g.B.Shape _ batch.first c.in_ok-dealt.dealt.items (remaining batch.packets) [] _
           (subst (λ d. AreDealt g.A.Shape g.B.Shape d batch.first c.in_ok-dealt.dealt.items (remaining batch.packets))
-          c.dealer-dealer.ensures (rw c.in_ok-dealt.was at c.join-merged.ensures.second))
+          c.dealer.ensures c.in_ok-dealt.ensures)
           (c.in_ok-judges.ensures ∙ ap workers_in c.as_slice.ensures.value);
     }

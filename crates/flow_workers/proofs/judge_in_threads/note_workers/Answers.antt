@@ -1,7 +1,7 @@
 use Rattle.std.proofs.Common.{◌∙◌, ◌++◌, ◌+◌, ap, append-nil, append_assoc, drop, sym}
 use Rattle.std.proofs.lemmas.List.{drop_all, drop_more}
 use Rattle.flow_workers.specs.inner.Shares.{workers_in}
-use Rattle.flow_workers.proofs.judge_by_several.note_workers.Goals as goal
+use Rattle.flow_workers.proofs.judge_in_threads.note_workers.Goals as goal
 
 pub loop-chunk-preserved : goal.loop-chunk-preserved
 loop-chunk-preserved c =
