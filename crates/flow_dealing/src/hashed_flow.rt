@@ -6,8 +6,8 @@ ghost use Rattle.flow_dealing.specs.Dealings.{hash_in};
 use bihash_words::Shape;
 use session_state::{Flow, FlowKey};
 
-/// A packet's flow, and the hash of the flow's key in the table of its family. It is made once: packets are dealt by it, and
-/// judged by it.
+/// A packet's flow, and the hash of the flow's key in the table of its family. Packets are dealt by it, and judged by it. Of a
+/// plain frame it is made once; of another one where it is dealt, and once more where it is judged by a thread of its own.
 #[derive(Clone, Copy)]
 pub struct HashedFlow {
     /// `None`: the packet takes no part in sessions.
