@@ -26,7 +26,7 @@ use Rattle.capture_stream.specs.Lives.{HasToldAll, HasToldPart, HasToldSome, IsL
 use Rattle.capture_stream.specs.Telling.{AreTold, CanTell, HaveTold}
 use Rattle.capture_stream.specs.declared.live_telling.Live.{Live}
 use Rattle.capture_stream.specs.declared.windows_of_records.Found.{Found}
-use Rattle.capture_stream.specs.inner.Found.{HaveFound, behind_of}
+use Rattle.capture_stream.specs.Found.{HaveFound, behind_of}
 use Rattle.capture_stream.specs.inner.Tellings.{HasCutWindow, HasGot, HasJudgedWindow, HasToldWindow, IsCutAt, IsLive, IsPartFault, IsTold, IsWindowFault, MayTell, end_text, totals_with}
 
 -- ---- The records in a window

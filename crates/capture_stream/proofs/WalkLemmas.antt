@@ -20,7 +20,7 @@ use Rattle.racl_io.proofs.TransferLemmas.{gave_more}
 use Rattle.racl_io.specs.Inputs.{most_bytes}
 use Rattle.capture_stream.specs.Judging.{CanFollow, HaveFollowed}
 use Rattle.capture_stream.specs.Streams.{AreAllRead, HasLongRecord, HasStreamed, IsStreamFault, MayStream, records_in}
-use Rattle.capture_stream.specs.inner.Found.{HaveFound}
+use Rattle.capture_stream.specs.Found.{HaveFound}
 use Rattle.capture_stream.specs.declared.stream_judging.Opening.{Opening}
 use Rattle.capture_stream.specs.declared.stream_judging.Streamed.{Streamed}
 use Rattle.capture_stream.specs.declared.stream_judging.Walk.{Walk}

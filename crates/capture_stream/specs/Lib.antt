@@ -1,3 +1,4 @@
+pub mod Found
 pub mod HexDigits
 pub mod Judging
 pub mod Lives

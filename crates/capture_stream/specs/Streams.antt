@@ -5,6 +5,7 @@ use Rattle.packet_view.specs.Captures.{AreRecords, IsEnd, IsTooLong, PacketFacts
 use Rattle.racl_io.specs.declared.fault.Fault.{Fault}
 use Rattle.racl_io.specs.declared.fault.Fault.TheVariants.{LongRecord, Memory, Read, TooLarge}
 use Rattle.racl_io.specs.Inputs.{most_bytes}
+use Rattle.capture_stream.specs.Found.{HaveFound}
 use Rattle.capture_stream.specs.Judging.{HaveFollowed}
 use Rattle.capture_stream.specs.declared.stream_judging.Opening.{Opening}
 use Rattle.capture_stream.specs.declared.stream_judging.Streamed.{Streamed}
@@ -53,7 +54,7 @@ IsStreamFault opening before after (LongRecord number) = HasLongRecord opening b
 IsStreamFault opening before after fault = ⊥
 
 -- where a capture may be judged from: as whom those who judge began, and whatever packets they judged so far, there is room for those of an input; its records
--- begin within what was read, which isn't too much, and is all where the source has no more
+-- begin within what was read, which isn't too much, and is all where the source has no more, and those among it are found
 pub record MayStream {J : Type 0} (Became : J → List PacketFacts → J → Type 0) (judges : J) (opening : Opening) (before : Option (List ℕ)) : Type 0 where
   pub begun : J
   pub others : List PacketFacts
@@ -62,6 +63,7 @@ pub record MayStream {J : Type 0} (Became : J → List PacketFacts → J → Typ
   pub within : opening.from ≤ length opening.bytes.items
   pub few : length opening.bytes.items ≤ most_bytes
   pub ended : opening.ended ≡ true → IsAtEnd before
+  pub found : HaveFound opening.order (drop opening.from opening.bytes.items) opening.found
 
 -- windows get some bytes, and up to 16 MiB
 pub record IsSize (size : WindowSize) : Type 0 where

@@ -13,4 +13,4 @@ pub use live_telling::tell_live;
 pub use packet_judges::Judges;
 pub use stream_judging::{Opening, Streamed, judge_stream};
 pub use telling_judges::Tellers;
-pub use windows_of_records::WindowSize;
+pub use windows_of_records::{Found, WindowSize};

@@ -26,6 +26,30 @@ pub struct Opening {
     pub interface: u8,
     /// Whether the source has no more.
     pub ended: bool,
+    /// The records among the bytes.
+    pub found: Found,
+}
+
+impl Opening {
+    ghost use Rattle.std.specs.Prelude.{◌≡◌, ◌≤◌, drop, length};
+    ghost use Rattle.capture_stream.specs.Found.{HaveFound};
+
+    /// What was read, in which the capture's records are found.
+    pub fn new(bytes: Vec<u8>, from: usize, order: Order, interface: u8, ended: bool) -> Opening
+        requires { from ≤ length bytes.items }
+        ensures opening { result ≡ record { bytes = bytes; from = from; order = order; interface = interface; ended = ended; found = result.found } }
+        ensures found { HaveFound order (drop from bytes.items) result.found }
+    {
+        let found = find_records(&bytes[from..], order);
+        Opening {
+            bytes,
+            from,
+            order,
+            interface,
+            ended,
+            found,
+        }
+    }
 }
 
 /// What came of a capture.
@@ -182,9 +206,9 @@ pub fn judge_stream<J: Judges + Drop, T: Threads, R: Source + Send>(
         order,
         interface,
         ended,
+        found,
     } = opening;
     let read = bytes.len();
-    let found = find_records(&bytes[from..], order);
     let mut walk = Walk {
         judges,
         order,

@@ -6,7 +6,7 @@ ghost use Rattle.packet_view.specs.RecordLists.{records_from};
 ghost use Rattle.packet_view.specs.declared.packets.Packets.TheVariants as kind;
 ghost use Rattle.racl_io.specs.Buffers.{held_by};
 ghost use Rattle.capture_stream.specs.Judging.{CanFollow, HaveFollowed};
-ghost use Rattle.capture_stream.specs.inner.Found.{HaveFound};
+ghost use Rattle.capture_stream.specs.Found.{HaveFound};
 ghost use Rattle.capture_stream.specs.inner.Windows.{CanJudge, HasReadMore, HaveJudged, MayRead};
 
 use crate::packet_judges::Judges;

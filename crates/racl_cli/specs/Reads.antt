@@ -15,6 +15,7 @@ use Rattle.racl_io.specs.declared.marker_line.Form.TheVariants.{Binary}
 use Rattle.racl_io.specs.declared.totals_and_truncation.Captured.{Captured}
 use Rattle.racl_io.specs.Faults.{IsFaultOfBytes, Refuses}
 use Rattle.racl_io.specs.Inputs.{IsInput, InputFacts, most_bytes}
+use Rattle.capture_stream.specs.Found.{HaveFound}
 use Rattle.capture_stream.specs.Streams.{AreAllRead, records_in}
 use Rattle.capture_stream.specs.declared.stream_judging.Opening.{Opening}
 use Rattle.racl_cli.specs.declared.input_front.Headed.{Headed}
@@ -143,13 +144,15 @@ pub record HasFront (options : Options) (before after : Option (List ℕ)) (fron
 
 -- ---- the records
 
--- by the lifetimes that the words ask for the records of an opening within the bytes of an input may be judged, which were seen at interface 0
+-- by the lifetimes that the words ask for the records of an opening within the bytes of an input may be judged, which were seen at interface 0, and of
+-- which those in the opening are found
 pub record MayJudge (times : Timeouts) (options : Options) (opening : Opening) (before : Option (List ℕ)) : Type 0 where
   pub same : times ≡ options.times
   pub within : opening.from ≤ length opening.bytes.items
   pub few : length opening.bytes.items ≤ most_bytes
   pub ended : opening.ended ≡ true → IsAtEnd before
   pub unnamed : opening.interface ≡ 0
+  pub found : HaveFound opening.order (drop opening.from opening.bytes.items) opening.found
 
 -- the source gave all its bytes, and these are the verdicts on the packets of all records
 pub record HasJudged (options : Options) (policy : PolicyFacts) (opening : Opening) (before after : Option (List ℕ)) (judged : JudgedFacts) : Type 0 where

@@ -91,13 +91,7 @@ fn judge_digits<'t, 'f, T: Threads + Wait + Sync>(
         Ok(order) => order,
         Err(fault) => return Err(fault),
     };
-    let opening = Opening {
-        bytes: Vec::new(alloc),
-        from: 0,
-        order,
-        interface,
-        ended: false,
-    };
+    let opening = Opening::new(Vec::new(alloc), 0, order, interface, false);
     let size = window_size(beside.is_some());
     judge_stream(beside, alloc, &mut source, crew, opening, size)
 }

@@ -17,7 +17,6 @@ use crate::stored_sessions::with_stored;
 use crate::workers_as_judges::Crew;
 use capture_stream::{Opening, Streamed, judge_stream};
 use flow_workers::Filter;
-use packet_view::front_records;
 use racl_io::{Captured, Fault, Source};
 use racl_options::Options;
 use racl_report::Judged;
@@ -107,9 +106,7 @@ pub fn judge_records<R: Source + Send, T: Threads + Wait + Sync>(
     ensures fault { IfErr result (IsStreamFault opening (R.bytes reader.old) (R.bytes reader.new)) }
     ensures within { HasReadWithin R.bytes R.failures (most_bytes + 1 - length opening.bytes.items) reader.old reader.new result }
 {
-    let front = front_records(&opening.bytes[opening.from..], opening.order, 0);
-    let count = front.records.count;
-    let (expected, workers) = plan_for(options, opening.ended, count);
+    let (expected, workers) = plan_for(options, opening.ended, opening.found.count);
     let Ok(prepared) = filter.prepare(alloc, expected) else {
         return Err(Fault::Memory);
     };

@@ -47,13 +47,7 @@ fn judge_source<R: Source + Send, T: Threads + Wait + Sync>(
                 order,
                 from,
             } = headed;
-            let opening = Opening {
-                bytes,
-                from,
-                order,
-                interface: 0,
-                ended,
-            };
+            let opening = Opening::new(bytes, from, order, 0, ended);
             judge_records(rt, alloc, options, reader, &filter, opening)
         }
         Opened::Digits(marked) => judge_digit_captures(rt, alloc, options, &bytes, marked),

@@ -9,7 +9,7 @@ use Rattle.racl_io.specs.Buffers.{held_by}
 use Rattle.racl_io.specs.Inputs.{most_bytes}
 use Rattle.capture_stream.specs.Judging.{HaveFollowed}
 use Rattle.capture_stream.specs.Streams.{records_in}
-use Rattle.capture_stream.specs.inner.Found.{HaveFound, behind_of}
+use Rattle.capture_stream.specs.Found.{HaveFound, behind_of}
 use Rattle.capture_stream.specs.declared.stream_judging.Opening.{Opening}
 use Rattle.capture_stream.specs.declared.stream_judging.Streamed.{Streamed}
 use Rattle.capture_stream.specs.declared.stream_judging.Walk.{Walk}

@@ -8,7 +8,7 @@ use Rattle.racl_io.specs.declared.fault.Fault.TheVariants.{Memory, Read}
 use Rattle.racl_io.specs.Inputs.{most_bytes}
 use Rattle.racl_io.specs.Transfers.{HasRead, HasReadWithin}
 use Rattle.capture_stream.specs.Judging.{CanFollow, HaveFollowed}
-use Rattle.capture_stream.specs.inner.Found.{HaveFound}
+use Rattle.capture_stream.specs.Found.{HaveFound}
 use Rattle.capture_stream.specs.declared.windows_of_records.NextWindow.{NextWindow}
 use Rattle.capture_stream.specs.declared.windows_of_records.WindowJudges.{WindowJudges}
 use Rattle.capture_stream.specs.declared.windows_of_records.WindowJudges.TheVariants.{Ahead, Over, Under}

@@ -1,6 +1,7 @@
 //! Captures that are read in parts, and packets that are counted.
-ghost use Rattle.std.specs.Prelude.{◌≡◌, ◌≤◌, ◌<◌, ◌-◌, ◌^◌, None, IfSome, false, length};
+ghost use Rattle.std.specs.Prelude.{◌≡◌, ◌≤◌, ◌<◌, ◌-◌, ◌^◌, None, IfSome, drop, false, length};
 ghost use Rattle.racl_io.specs.Inputs.{most_bytes};
+ghost use Rattle.capture_stream.specs.Found.{HaveFound};
 ghost use Rattle.capture_stream.specs.Streams.{IsSize};
 
 use capture_stream::{Judges, Opening, Streamed, WindowSize, judge_stream};
@@ -92,18 +93,13 @@ fn windows_test_opening(alloc: Global, front: &[u8]) -> Option<Opening>
     ensures within { IfSome result (λ opening. opening.from ≤ length opening.bytes.items) }
     ensures few { IfSome result (λ opening. length opening.bytes.items ≤ most_bytes) }
     ensures more { IfSome result (λ opening. opening.ended ≡ false) }
+    ensures found { IfSome result (λ opening. HaveFound opening.order (drop opening.from opening.bytes.items) opening.found) }
 {
     let mut bytes = Vec::new(alloc);
     let Ok(()) = bytes.extend_from_slice(front) else {
         return None;
     };
-    Some(Opening {
-        bytes,
-        from: 24,
-        order: Order::Little,
-        interface: 0,
-        ended: false,
-    })
+    Some(Opening::new(bytes, 24, Order::Little, 0, false))
 }
 
 /// For tests of windows: what comes of a capture of which this was read, and the other bytes come from a source.

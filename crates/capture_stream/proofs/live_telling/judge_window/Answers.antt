@@ -2,7 +2,7 @@ use Rattle.std.proofs.Common.{◌≡◌, ◌∙◌, ◌-◌, ◌++◌, ap, arith
 use Rattle.packet_view.specs.Captures.{packets_at}
 use Rattle.packet_view.specs.RecordLists.{records_from}
 use Rattle.capture_stream.specs.Telling.{HaveTold}
-use Rattle.capture_stream.specs.inner.Found.{HaveFound, behind_of}
+use Rattle.capture_stream.specs.Found.{HaveFound, behind_of}
 use Rattle.capture_stream.proofs.TellLemmas.{found_few, window_follow, window_judged}
 use Rattle.capture_stream.proofs.WalkLemmas.{part_from}
 use Rattle.capture_stream.proofs.live_telling.judge_window.Goals as goal

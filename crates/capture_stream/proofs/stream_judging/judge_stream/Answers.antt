@@ -1,16 +1,15 @@
 use Rattle.std.proofs.Common.{Err, ◌≡◌, ◌∙◌, ap, drop, length, refl, subst, sym}
 use Rattle.std.proofs.lemmas.Result.{MatchResult-weaker, err_from_is_err_and}
-use Rattle.capture_stream.specs.inner.Found.{HaveFound}
+use Rattle.capture_stream.specs.Found.{HaveFound}
 use Rattle.racl_io.proofs.TransferLemmas.{within_of_err}
-use Rattle.capture_stream.proofs.WalkLemmas.{amid_advanced, amid_begun, amid_ended, amid_fault, amid_gave, amid_last_fault, amid_may, part_from}
+use Rattle.capture_stream.proofs.WalkLemmas.{amid_advanced, amid_begun, amid_ended, amid_fault, amid_gave, amid_last_fault, amid_may}
 use Rattle.capture_stream.proofs.stream_judging.judge_stream.Goals as goal
 
 pub windows-init : goal.windows-init
 windows-init g c =
     let len : c.len-read.result ≡ length c.args.opening.bytes.items = c.len-read.ensures ∙ c.args.opening.bytes.ok.0 in
     let opening = c.args.opening in
-    let ahead = part_from c.deref.result.now opening.bytes.items opening.from c.deref.ensures.value ∙ ap (drop opening.from) (sym c.new.ensures) in
-    let found = subst (λ b. HaveFound opening.order b c.find_records-found.result) ahead c.find_records-found.ensures in
+    let found = subst (λ b. HaveFound opening.order b opening.found) (ap (drop opening.from) (sym c.new.ensures)) c.requires.may.found in
     record { amid = amid_begun _ opening _ _ c.requires.may found refl refl c.new.ensures refl refl len refl; sound = refl }
 
 pub next_window-requires-clause-may : goal.next_window-requires-clause-may

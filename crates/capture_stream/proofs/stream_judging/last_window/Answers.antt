@@ -4,7 +4,7 @@ use Rattle.packet_view.specs.Fronts.{Stops}
 use Rattle.packet_view.specs.RecordLists.{records_from}
 use Rattle.racl_io.specs.Buffers.{held_by}
 use Rattle.capture_stream.specs.Judging.{HaveFollowed}
-use Rattle.capture_stream.specs.inner.Found.{HaveFound}
+use Rattle.capture_stream.specs.Found.{HaveFound}
 use Rattle.capture_stream.specs.inner.Walks.{rest_of}
 use Rattle.capture_stream.proofs.WalkLemmas.{front_ended, front_few, front_follow, front_long, part_from}
 use Rattle.capture_stream.proofs.stream_judging.last_window.Goals.{in-End, in-Truncated}

@@ -8,7 +8,7 @@ use Rattle.racl_io.specs.Inputs.{most_bytes}
 use Rattle.racl_io.specs.Transfers.{HasRead, failures_after_reads}
 use Rattle.racl_io.proofs.TransferLemmas.{gave_fewer, within_of_err}
 use Rattle.capture_stream.specs.Judging.{HaveFollowed}
-use Rattle.capture_stream.specs.inner.Found.{HaveFound}
+use Rattle.capture_stream.specs.Found.{HaveFound}
 use Rattle.capture_stream.proofs.WalkLemmas.{behind_taken, front_advanced, front_few, front_follow, front_long, has_rest, part_from}
 use Rattle.capture_stream.proofs.stream_judging.next_window.Goals as goal
 

@@ -16,7 +16,8 @@ pub judge_stream-requires-clause-may : goal.judge_stream-requires-clause-may
 judge_stream-requires-clause-may g c κs lives =
     let few = c.requires.few in
     let empty = ap length c.new.ensures.items in
-    record {
+    rw c.new-opening.ensures.opening
+    (record {
       begun = c.args.crew;
       others = c.requires.packets;
       stand = (search rules, record { given = refl; rest = c.requires.rest });
@@ -24,7 +25,8 @@ judge_stream-requires-clause-may g c κs lives =
       within = omega arith;
       few = omega arith;
       ended = λ ended. absurd (true≢false (sym ended));
-    }
+      found = c.new-opening.ensures.found;
+    })
 
 pub returns-clause-ok : goal.returns-clause-ok
 returns-clause-ok g c =
@@ -33,7 +35,7 @@ returns-clause-ok g c =
     let crew = c.args.crew in
     let known = known_capture digits (sym c.are_digits.ensures ∙ c.if-not-are_digits.false) in
     let head = c.in-Ok.ensures.header in
-    on_ok _ _ _ c.judge_stream.result c.judge_stream.ensures.streamed (λ streamed s. record {
+    on_ok _ _ _ c.judge_stream.result (rw c.new-opening.ensures.opening at c.judge_stream.ensures.streamed) (λ streamed s. record {
       capture = known.0;
       spelt = known.1;
       packets = packets_at interface s.packets;
@@ -59,4 +61,4 @@ returns-clause-fault g c =
     let known = known_capture digits (sym c.are_digits.ensures ∙ c.if-not-are_digits.false) in
     let few = c.requires.few in
     unstreamed_result digits known.0 known.1 _ _ _ c.new.ensures.items refl c.in-Ok.ensures.header _ c.judge_stream.result (omega arith)
-    c.judge_stream.ensures.streamed c.judge_stream.ensures.within.failed
+    (rw c.new-opening.ensures.opening at c.judge_stream.ensures.streamed) c.judge_stream.ensures.within.failed

@@ -17,6 +17,7 @@ judge_stream-requires-clause-may g c κs lives =
       within = may.within;
       few = may.few;
       ended = may.ended;
+      found = may.found;
     }
 
 pub end_capture_by_plan-requires : goal.end_capture_by_plan-requires
