@@ -10,4 +10,5 @@ judge_stream-requires-clause-may g c κs within = record {
   within = c.in-Some.ensures.within;
   few = c.in-Some.ensures.few;
   ended = λ all. absurd (true≢false (sym all ∙ c.in-Some.ensures.more));
+  found = c.in-Some.ensures.found;
 }
