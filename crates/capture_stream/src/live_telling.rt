@@ -6,12 +6,12 @@ ghost use Rattle.capture_stream.specs.inner.Tellings.{HasGot, HasJudgedWindow, H
 
 use crate::telling_judges::Tellers;
 use crate::windows_of_records::{Found, find_records};
-use flow_filter::Verdict;
 use packet_view::{Order, Packets, Records, Stop};
 use racl_io::{
     Captured, Fault, Piece, Place, Sink, Source, Totals, write_lines_whole, write_totals,
     write_truncation,
 };
+use session_state::Verdict;
 use std::alloc::{AllocError, Global};
 
 /// How many bytes are read at once, at most: what a pipe holds.

@@ -2,11 +2,11 @@
 ghost use Rattle.std.specs.Prelude.{IfOk, List};
 ghost use Rattle.packet_view.specs.Captures.{PacketFacts};
 ghost use Rattle.packet_view.specs.CheckedCaptures.{remaining};
-ghost use Rattle.flow_filter.specs.declared.verdict.Verdict.{Verdict};
+ghost use Rattle.session_state.specs.declared.verdict.Verdict.{Verdict};
 ghost use Rattle.capture_stream.specs.Telling.{CanTell, HaveTold};
 
-use flow_filter::Verdict;
 use packet_view::Packets;
+use session_state::Verdict;
 use std::alloc::AllocError;
 
 /// Those who judge packets one part after the other, and keep no verdict.

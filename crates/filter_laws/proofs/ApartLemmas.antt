@@ -14,7 +14,7 @@ use Rattle.bihash_words.proofs.MapLemmas.{stays_bounded}
 use Rattle.bihash_words.specs.Refusals.{IsTaken}
 use Rattle.bihash_words.specs.Runs.{writes_of}
 use Rattle.session_state.specs.declared.timeouts.Timeouts.{Timeouts}
-use Rattle.flow_filter.specs.declared.verdict.Verdict.{Verdict}
+use Rattle.session_state.specs.declared.verdict.Verdict.{Verdict}
 use Rattle.filter_laws.specs.Apart.{HasKeyNumber, TookNoPlaceOf, WasTaken, packets_of, those_of}
 use Rattle.flow_filter.specs.Judged.{IsAsked, Judged, expired_for, readings_of, verdict_by_event, verdict_on, verdict_with, verdicts_on}
 use Rattle.flow_filter.specs.OneThread.{AreVerdicts, HasPages, Home, Layout, bounds_in, home_of, nothing, same_home}

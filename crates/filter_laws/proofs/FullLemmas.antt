@@ -15,7 +15,7 @@ use Rattle.bihash_words.proofs.MapLemmas.{found_is_told}
 use Rattle.session_state.specs.declared.timeouts.Timeouts.{Timeouts}
 use Rattle.session_state.specs.Decisions.{decision_of, is_live_for, started_session}
 use Rattle.session_state.specs.Sessions.{session_word}
-use Rattle.flow_filter.specs.declared.verdict.Verdict.TheVariants as verdict
+use Rattle.session_state.specs.declared.verdict.Verdict.TheVariants as verdict
 use Rattle.flow_filter.specs.Judged.{IsEventOf, expired_for, verdict_by_event, verdict_with}
 use Rattle.flow_filter.specs.Passing.{FindsNoRoom}
 use Rattle.flow_filter.specs.Readings.{Ruled, Ruling}

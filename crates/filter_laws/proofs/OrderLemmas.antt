@@ -7,13 +7,13 @@ use Rattle.bihash_words.specs.Maps.{Event, Pairs, IsEvent}
 use Rattle.bihash_words.specs.Runs.{IsRun, writes_of}
 use Rattle.bihash_words.proofs.RunLemmas.{run_parts, run_push}
 use Rattle.session_state.specs.declared.timeouts.Timeouts.{Timeouts}
-use Rattle.flow_filter.specs.declared.verdict.Verdict.TheVariants.{Full}
+use Rattle.session_state.specs.declared.verdict.Verdict.TheVariants.{Full}
 use Rattle.flow_filter.specs.Readings.{Ruled, Ruling}
 use Rattle.flow_filter.specs.Updates.{Update, update_of}
 use Rattle.flow_filter.specs.Judged.{IsAsked, IsAskedBy, IsEventOf, Judged, verdict_on, verdict_with}
 use Rattle.flow_filter.specs.OneThread.{Home, IsOneThread, Layout, add_event, bounds_in, events_at, home_of, same_home}
 use Rattle.flow_filter.specs.Passing.{FindsNoRoom, HoldsLive, Leave, LetsThrough}
-use Rattle.flow_filter.specs.Verdicts.{passes}
+use Rattle.session_state.specs.Passes.{passes}
 use Rattle.flow_filter.proofs.HomeLemmas.{is_home, same_as_itself}
 use Rattle.flow_filter.proofs.OneThreadLemmas.{Runs, events_are}
 use Rattle.filter_laws.proofs.FullLemmas.{full_by_reading}

@@ -7,15 +7,15 @@ ghost use Rattle.packet_view.specs.Tuples.{TupleFacts};
 ghost use Rattle.acl_policy.specs.Policies.{PolicyFacts};
 ghost use Rattle.bihash_words.specs.Maps.{Bounds, Event, Pairs, IsEvent};
 ghost use Rattle.session_state.specs.declared.timeouts.Timeouts.{Timeouts};
-ghost use Rattle.flow_filter.specs.declared.verdict.Verdict.{Verdict};
-ghost use Rattle.flow_filter.specs.declared.verdict.Verdict.TheVariants.{Full};
+ghost use Rattle.session_state.specs.declared.verdict.Verdict.{Verdict};
+ghost use Rattle.session_state.specs.declared.verdict.Verdict.TheVariants.{Full};
 ghost use Rattle.filter_laws.specs.Apart.{HasKeyNumber, TookNoPlaceOf, WasTaken, packets_of, those_of};
 ghost use Rattle.flow_filter.specs.Judged.{IsEventOf, Judged, readings_of, verdict_on, verdict_with};
 ghost use Rattle.flow_filter.specs.OneThread.{AreVerdicts, Home, IsOneThread, Layout, bounds_in, home_of};
 ghost use Rattle.flow_filter.specs.Passing.{FindsNoRoom, HoldsLive, IsPermitting, Leave, LetsThrough, MakesRoom};
 ghost use Rattle.flow_filter.specs.Readings.{AreReadings, IsReading, Reading, Ruled, Ruling};
 ghost use Rattle.flow_filter.specs.Updates.{Update, update_of};
-ghost use Rattle.flow_filter.specs.Verdicts.{passes};
+ghost use Rattle.session_state.specs.Passes.{passes};
 
 /// A policy reads each packet, and in one way.
 pub fn each_packet_has_one_reading()

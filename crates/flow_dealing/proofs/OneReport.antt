@@ -13,8 +13,8 @@ use Rattle.bihash_steps.specs.BucketSteps.{map_now}
 use Rattle.bihash_rule.specs.Histories.{bounds_of}
 use Rattle.session_state.specs.declared.flow.Flow.{Flow}
 use Rattle.session_state.specs.declared.timeouts.Timeouts.{Timeouts}
-use Rattle.flow_filter.specs.declared.verdict.Verdict.{Verdict}
-use Rattle.flow_filter.specs.declared.verdict.Verdict.TheVariants as verdict
+use Rattle.session_state.specs.declared.verdict.Verdict.{Verdict}
+use Rattle.session_state.specs.declared.verdict.Verdict.TheVariants as verdict
 use Rattle.flow_filter.specs.Judged.{IsAsked, Judged, verdict_on}
 use Rattle.flow_filter.specs.OneThread.{AreVerdicts, HasPages, Home, IsHome, IsOneThread, bounds_in, events_at, family_of, nothing, sizes_in}
 use Rattle.flow_dealing.specs.declared.dealing.Dealing.TheVariants.{Bucket}

@@ -15,13 +15,13 @@ use Rattle.bihash_rule.specs.declared.view.Call.{Call}
 use Rattle.bihash_rule.specs.declared.view.Record.{Record}
 use Rattle.bihash_rule.specs.declared.view.View.{View}
 use Rattle.session_state.specs.declared.timeouts.Timeouts.{Timeouts}
-use Rattle.flow_filter.specs.declared.verdict.Verdict.{Verdict}
+use Rattle.session_state.specs.declared.verdict.Verdict.{Verdict}
 use Rattle.flow_filter.specs.Readings.{Reading, Ruled, Ruling}
 use Rattle.flow_filter.specs.Updates.{Update, update_of}
 use Rattle.flow_filter.specs.Judged.{IsAsked, IsAskedBy, IsEventOf, Judged, verdict_with}
 use Rattle.flow_filter.specs.OneThread.{family_of, sizes_in}
 use Rattle.flow_filter.specs.Passing.{HoldsLive, LetsThrough}
-use Rattle.flow_filter.specs.Verdicts.{passes}
+use Rattle.session_state.specs.Passes.{passes}
 use Rattle.flow_filter.proofs.HomeLemmas.{family_as_itself}
 use Rattle.flow_filter.proofs.PassingLemmas.{pass_by_reading}
 use Rattle.flow_dealing.specs.Views.{view_in}

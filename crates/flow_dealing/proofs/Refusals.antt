@@ -27,7 +27,7 @@ use Rattle.session_state.specs.Decisions.{PatchFacts, decision_of, is_live_for}
 use Rattle.session_state.specs.declared.flow.Flow.{Flow}
 use Rattle.session_state.specs.declared.timeouts.Timeouts.{Timeouts}
 use Rattle.session_state.specs.Flows.{flow_of}
-use Rattle.flow_filter.specs.declared.verdict.Verdict.TheVariants as verdict
+use Rattle.session_state.specs.declared.verdict.Verdict.TheVariants as verdict
 use Rattle.flow_filter.specs.Readings.{Framed, IsReading, IsReadingOf, Reading, Ruled, Ruling}
 use Rattle.flow_filter.specs.Updates.{Update, reflects, update_in, update_of}
 use Rattle.flow_filter.specs.Judged.{IsAskedBy, Judged, verdict_by_event, verdict_on, verdict_with}

@@ -6,7 +6,7 @@ ghost use Rattle.packet_view.specs.Captures.{PacketFacts};
 ghost use Rattle.packet_view.specs.declared.tuple.Family.{Family};
 ghost use Rattle.acl_policy.specs.Policies.{PolicyFacts};
 ghost use Rattle.session_state.specs.declared.timeouts.Timeouts.{Timeouts};
-ghost use Rattle.flow_filter.specs.declared.verdict.Verdict.{Verdict};
+ghost use Rattle.session_state.specs.declared.verdict.Verdict.{Verdict};
 ghost use Rattle.flow_filter.specs.OneThread.{AreVerdicts};
 ghost use Rattle.flow_dealing.specs.declared.dealing.Dealing.TheVariants.{Bucket};
 ghost use Rattle.flow_dealing.specs.Views.{Views, view_in};

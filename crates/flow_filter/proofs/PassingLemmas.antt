@@ -18,13 +18,14 @@ use Rattle.session_state.proofs.DecisionLemmas.{without_live}
 use Rattle.session_state.proofs.LiveLemmas.{live_told}
 use Rattle.session_state.specs.declared.flow.Flow.{Flow}
 use Rattle.session_state.specs.Flows.{flow_of}
-use Rattle.flow_filter.specs.declared.verdict.Verdict.{Verdict}
-use Rattle.flow_filter.specs.declared.verdict.Verdict.TheVariants as verdict
+use Rattle.session_state.specs.declared.verdict.Verdict.{Verdict}
+use Rattle.session_state.specs.declared.verdict.Verdict.TheVariants as verdict
 use Rattle.flow_filter.specs.Judged.{IsEventOf, verdict_by_event, verdict_with}
 use Rattle.flow_filter.specs.Passing.{HoldsLive, HoldsStarted, IsPermitting, LetsThrough}
 use Rattle.flow_filter.specs.Readings.{Ruled, Ruling}
 use Rattle.flow_filter.specs.Updates.{Update, reflects, update_in, update_of, words_of}
-use Rattle.flow_filter.specs.Verdicts.{passes, verdict_entered, verdict_of, verdict_of_rules, verdict_reflected}
+use Rattle.session_state.specs.Passes.{passes}
+use Rattle.flow_filter.specs.Verdicts.{verdict_entered, verdict_of, verdict_of_rules, verdict_reflected}
 
 -- the rules alone let a packet through exactly where they permit
 rules_pass : (ruling : Ruling) → (passes (verdict_of_rules ruling) ≡ true) ↔ IsPermitting ruling

@@ -10,7 +10,7 @@ use Rattle.packet_view.proofs.FrameLemmas.{view_only, view_shown}
 use Rattle.acl_policy.specs.Policies.{PolicyFacts, SectionFacts, rules_of, section_of}
 use Rattle.acl_policy.proofs.RulingLaws.{some_ruling_of}
 use Rattle.acl_policy.proofs.RulingLemmas.{one_ruling}
-use Rattle.flow_filter.specs.declared.verdict.Verdict.TheVariants as verdict
+use Rattle.session_state.specs.declared.verdict.Verdict.TheVariants as verdict
 use Rattle.flow_filter.specs.Readings.{AreReadings, Framed, IsReading, IsReadingOf, Reading, Ruled}
 
 some_reading_of : (section : SectionFacts) (moment : ℕ) (view : FrameFacts)

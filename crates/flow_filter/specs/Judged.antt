@@ -5,7 +5,7 @@ use Rattle.bihash_words.specs.Maps.{Event, HasExpiry}
 use Rattle.session_state.specs.declared.timeouts.Timeouts.{Timeouts}
 use Rattle.session_state.specs.Decisions.{PatchFacts, decision_of}
 use Rattle.session_state.specs.Sessions.{is_expired_at}
-use Rattle.flow_filter.specs.declared.verdict.Verdict.{Verdict}
+use Rattle.session_state.specs.declared.verdict.Verdict.{Verdict}
 use Rattle.flow_filter.specs.Readings.{Framed, Reading, Ruled, Ruling}
 use Rattle.flow_filter.specs.Updates.{Update, update_of, words_of}
 use Rattle.flow_filter.specs.Verdicts.{verdict_of, verdict_of_rules}

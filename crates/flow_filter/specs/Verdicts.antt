@@ -1,12 +1,12 @@
 -- The verdict on a packet, from its reading and what its one update found and was answered (this project's profile).
-use Rattle.std.specs.Prelude.{ℕ, ◌+◌, Bool, true, false, if◌then◌else◌, Option, Some, None}
+use Rattle.std.specs.Prelude.{ℕ, ◌+◌, if◌then◌else◌, Option, Some, None}
 use Rattle.acl_policy.specs.declared.rule.Action.{Action}
 use Rattle.acl_policy.specs.declared.rule.Action.TheVariants as action
 use Rattle.bihash_words.specs.declared.patch.Reply.{Reply}
 use Rattle.bihash_words.specs.declared.patch.Reply.TheVariants as reply
 use Rattle.session_state.specs.Decisions.{PatchFacts, is_live_for}
-use Rattle.flow_filter.specs.declared.verdict.Verdict.{Verdict}
-use Rattle.flow_filter.specs.declared.verdict.Verdict.TheVariants as verdict
+use Rattle.session_state.specs.declared.verdict.Verdict.{Verdict}
+use Rattle.session_state.specs.declared.verdict.Verdict.TheVariants as verdict
 use Rattle.flow_filter.specs.Readings.{Ruling}
 
 -- what the rules alone say: a reflecting rule that enters no session permits
@@ -37,17 +37,3 @@ abbrev pub verdict_of : PatchFacts → Ruling → Option ℕ → Reply → Verdi
 verdict_of patch ruling found reply =
     if is_live_for patch found then verdict.Session
     else (if patch.reflects then verdict_reflected ruling reply else verdict_of_rules ruling)
-
--- whether the packet goes through
-abbrev pub passes : Verdict → Bool
-passes verdict.Session = true
-passes (verdict.Reflect n) = true
-passes (verdict.Permit n) = true
-passes (verdict.Deny n) = false
-passes verdict.ByDefault = false
-passes verdict.Worn = false
-passes verdict.Full = false
-passes verdict.NoPages = false
-passes verdict.NotIp = true
-passes verdict.Malformed = false
-passes verdict.Short = false

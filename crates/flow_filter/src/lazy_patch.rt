@@ -15,12 +15,11 @@ use crate::packet_flow::{PacketFlow, tuple_copy};
 use crate::ruleset::Ruleset;
 use crate::session_or_rules::Decider;
 use crate::session_update::patch_of;
-use crate::verdict::Verdict;
 use crate::verdict_by_rules::{found_for_verdict, verdict_without_session};
 use acl_policy::Action;
 use bihash_words::{Change, Patch, Reply};
 use packet_view::Tuple;
-use session_state::PacketPatch;
+use session_state::{PacketPatch, Verdict};
 use std::cell::Cell;
 use std::marker::{Brand, PhantomData};
 

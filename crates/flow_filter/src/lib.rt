@@ -12,7 +12,6 @@ mod rule_search;
 mod ruleset;
 mod session_or_rules;
 mod session_update;
-mod verdict;
 mod verdict_by_rules;
 
 pub use filter::Filter;
@@ -22,5 +21,4 @@ pub use packet_flow::{PacketFlow, tuple_copy};
 pub use rule_indexes::RuleIndexes;
 pub use rule_search::RuleSearch;
 pub use ruleset::Ruleset;
-pub use verdict::Verdict;
 pub use verdict_by_rules::verdict_of_rules;

@@ -6,10 +6,9 @@ ghost use Rattle.bihash_words.specs.Maps.{found_by};
 ghost use Rattle.session_state.specs.Decisions.{is_live_for, patch_facts};
 ghost use Rattle.flow_filter.specs.Verdicts;
 
-use crate::verdict::Verdict;
 use acl_policy::Action;
 use bihash_words::Reply;
-use session_state::PacketPatch;
+use session_state::{PacketPatch, Verdict};
 
 /// The number that a verdict names, of the rule at a place.
 fn number_of(place: usize) -> u16

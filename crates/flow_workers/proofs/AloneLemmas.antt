@@ -13,7 +13,7 @@ use Rattle.bihash_steps.specs.Seats.{CallerState}
 use Rattle.bihash_rule.specs.declared.view.Call.{Call}
 use Rattle.bihash_rule.specs.declared.view.Known.{Known}
 use Rattle.bihash_rule.specs.declared.view.View.{View}
-use Rattle.flow_filter.specs.declared.verdict.Verdict.{Verdict}
+use Rattle.session_state.specs.declared.verdict.Verdict.{Verdict}
 use Rattle.flow_dealing.specs.Traces.{IsTrace}
 use Rattle.flow_dealing.specs.Wanted.{HasWanted, HaveWanted}
 use Rattle.flow_dealing.proofs.TraceMerges.{judge_each_packet}

@@ -6,7 +6,7 @@ use Rattle.packet_view.specs.Captures.{PacketFacts}
 use Rattle.packet_view.specs.Frames as frames
 use Rattle.packet_view.specs.CheckedCaptures.{remaining}
 use Rattle.bihash_words.specs.declared.shape.Shape.{Ghosts}
-use Rattle.flow_filter.specs.declared.verdict.Verdict.{Verdict}
+use Rattle.session_state.specs.declared.verdict.Verdict.{Verdict}
 use Rattle.flow_dealing.specs.Traces.{AreFrames, Item, numbers_from}
 use Rattle.flow_dealing.proofs.Places.{after_map, before_map}
 use Rattle.packet_dealing.specs.Dealt.{AreWorkers}

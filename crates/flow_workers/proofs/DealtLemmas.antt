@@ -16,7 +16,7 @@ use Rattle.bihash_words.specs.declared.shape.Shape.{Ghosts}
 use Rattle.flow_filter.specs.Readings.{IsSeenAt}
 use Rattle.flow_filter.specs.InterfaceFilters.{IsReadyAt}
 use Rattle.flow_filter.specs.declared.interface_filters.InterfaceFilter.{InterfaceFilter}
-use Rattle.flow_filter.specs.declared.verdict.Verdict.{Verdict}
+use Rattle.session_state.specs.declared.verdict.Verdict.{Verdict}
 use Rattle.flow_filter.specs.OneThread.{layout_of}
 use Rattle.flow_dealing.specs.HashedFlows.{IsHashed}
 use Rattle.packet_dealing.proofs.DealtLists.{front_only, next_there, some_left, stands_at, there_behind}

@@ -17,7 +17,7 @@ use Rattle.session_state.specs.Decisions.{decision_of}
 use Rattle.session_state.specs.Flows.{flow_of}
 use Rattle.session_state.specs.Sessions.{is_expired_at}
 use Rattle.flow_filter.specs.declared.interface_filters.InterfaceFilter.{InterfaceFilter}
-use Rattle.flow_filter.specs.declared.verdict.Verdict.{Verdict}
+use Rattle.session_state.specs.declared.verdict.Verdict.{Verdict}
 use Rattle.flow_filter.specs.Filters.{section_in}
 use Rattle.flow_filter.specs.Readings.{IsReading, IsReadingOf, Reading, Ruling}
 use Rattle.flow_filter.specs.Updates.{Update, update_in, update_of, words_of}

@@ -20,7 +20,7 @@ use Rattle.std.proofs.Math.Seq.{drop-append_seam}
 use Rattle.packet_dealing.specs.Dealt.{AreWorkers}
 use Rattle.packet_dealing.specs.declared.packet_worker.Dealer.{Dealer}
 use Rattle.acl_policy.specs.Policies.{PolicyFacts, section_of}
-use Rattle.flow_filter.specs.declared.verdict.Verdict.{Verdict}
+use Rattle.session_state.specs.declared.verdict.Verdict.{Verdict}
 use Rattle.flow_filter.specs.OneThread.{layout_of}
 use Rattle.flow_dealing.specs.Dealings.{Deal, flow_of_frame, worker_of}
 use Rattle.flow_dealing.specs.Traces.{AreFrames, ArePlaced, IsTrace, Item, numbers_from}

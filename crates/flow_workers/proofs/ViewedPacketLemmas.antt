@@ -8,7 +8,7 @@ use Rattle.bihash_rule.specs.declared.view.View.{View}
 use Rattle.session_state.specs.Decisions.{decision_of}
 use Rattle.session_state.specs.Sessions.{is_expired_at}
 use Rattle.flow_filter.specs.declared.interface_filters.InterfaceFilter.{InterfaceFilter}
-use Rattle.flow_filter.specs.declared.verdict.Verdict.{Verdict}
+use Rattle.session_state.specs.declared.verdict.Verdict.{Verdict}
 use Rattle.flow_filter.specs.Filters.{section_in}
 use Rattle.flow_filter.specs.Judged.{verdict_with}
 use Rattle.flow_filter.specs.Readings.{Ruling}

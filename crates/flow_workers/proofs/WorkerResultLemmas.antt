@@ -13,7 +13,7 @@ use Rattle.bihash_rule.specs.Callers.{IsLawfulCaller}
 use Rattle.bihash_steps.specs.Steps.{IsToldWhole}
 use Rattle.bihash_rule.specs.Views.{nothing_held}
 use Rattle.bihash_steps.proofs.Lists.{within}
-use Rattle.flow_filter.specs.declared.verdict.Verdict.{Verdict}
+use Rattle.session_state.specs.declared.verdict.Verdict.{Verdict}
 use Rattle.flow_dealing.specs.WorkerRecords.{AreJudgedBy}
 use Rattle.flow_dealing.specs.Traces.{AreGathered, ArePlaced, HaveTraces, IsTrace, Item}
 use Rattle.flow_dealing.specs.Views.{Views, view_in}

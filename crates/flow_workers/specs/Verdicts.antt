@@ -7,8 +7,8 @@ use Rattle.bihash_words.specs.declared.patch.Reply.{Reply}
 use Rattle.bihash_words.specs.declared.shape.Shape.{Ghosts}
 use Rattle.bihash_rule.specs.declared.view.View.{View}
 use Rattle.session_state.specs.declared.timeouts.Timeouts.{Timeouts}
-use Rattle.flow_filter.specs.declared.verdict.Verdict.{Verdict}
-use Rattle.flow_filter.specs.declared.verdict.Verdict.TheVariants.{NoPages}
+use Rattle.session_state.specs.declared.verdict.Verdict.{Verdict}
+use Rattle.session_state.specs.declared.verdict.Verdict.TheVariants.{NoPages}
 use Rattle.flow_filter.specs.OneThread.{layout_of}
 use Rattle.flow_filter.specs.Readings.{IsSeen}
 use Rattle.flow_dealing.specs.Dealings.{flow_of_frame}

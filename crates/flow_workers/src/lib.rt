@@ -29,11 +29,12 @@ mod worker_turn;
 mod workers;
 
 pub use flow_dealing::Dealing;
-pub use flow_filter::{Filter, Verdict};
+pub use flow_filter::Filter;
 pub use gate::Gate;
 pub use packet_verdict::{judge, try_judge};
 pub use run_at_once::run_workers;
 pub use run_fault::RunFault;
+pub use session_state::Verdict;
 pub use session_tables::{Callers, Tables, create_tables};
 pub use table_closing::close_tables;
 pub use table_renewal::renew_tables;

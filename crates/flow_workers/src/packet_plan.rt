@@ -2,10 +2,10 @@
 
 use crate::viewed_packet::ViewedPacket;
 use flow_filter::{
-    HasReading, InterfaceFilter, LazyPatch, PacketFlow, Verdict, tuple_copy, verdict_of_rules,
+    HasReading, InterfaceFilter, LazyPatch, PacketFlow, tuple_copy, verdict_of_rules,
 };
 use packet_view::Frame;
-use session_state::FlowKey;
+use session_state::{FlowKey, Verdict};
 
 /// What a packet comes to before it asks a table.
 #[derive(Drop)]

@@ -20,10 +20,10 @@ use crate::viewed_packet::ViewedPacket;
 use bihash_table::Contended;
 use bihash_words::Shape;
 use flow_dealing::HashedFlow;
-use flow_filter::{Filter, HasReading, InterfaceFilter, Verdict};
+use flow_filter::{Filter, HasReading, InterfaceFilter};
 use packet_dealing::flow_of_frame;
 use packet_view::{Packet, view};
-use session_state::SessionExpiry;
+use session_state::{SessionExpiry, Verdict};
 use std::marker::Brand;
 use std::sync::Wait;
 

@@ -4,7 +4,7 @@ ghost use Rattle.flow_workers.specs.inner.Merges.{AreAllVerdicts, AreMerged, Can
 
 use crate::worker_share::Share;
 use bihash_words::Shape;
-use flow_filter::Verdict;
+use session_state::Verdict;
 use std::alloc::AllocError;
 
 /// The most workers.

@@ -4,9 +4,9 @@ use crate::session_tables::Callers;
 use crate::worker_setup::Setup;
 use bihash_table::Caller;
 use bihash_words::Shape;
-use flow_filter::Verdict;
 use packet_dealing::DealtChunk;
 use packet_view::Packets;
+use session_state::Verdict;
 use std::sync::Wait;
 
 /// Packets that follow each other, which all workers judge.

@@ -11,7 +11,7 @@ use Rattle.acl_policy.specs.declared.policy.PolicyFault.{PolicyFault}
 use Rattle.acl_policy.specs.declared.policy.PolicyFault.TheVariants as policy
 use Rattle.session_state.specs.declared.timeouts.Timeouts.{Timeouts}
 use Rattle.flow_filter.specs.declared.interface_filters.InterfaceFilters.{InterfaceFilters}
-use Rattle.flow_filter.specs.declared.verdict.Verdict.{Verdict}
+use Rattle.session_state.specs.declared.verdict.Verdict.{Verdict}
 use Rattle.flow_filter.proofs.OneThreadLemmas.{one_verdicts}
 use Rattle.flow_filter.specs.Judged.{readings_of, verdict_on}
 use Rattle.flow_filter.specs.Readings.{IsReading}

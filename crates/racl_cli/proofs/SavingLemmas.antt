@@ -1,6 +1,6 @@
 -- Packets that are saved behind the report of a run.
 use Rattle.std.proofs.Common.{◌≡◌, ◌∙◌, ℕ, List, Option, ap, subst, sym}
-use Rattle.flow_filter.specs.declared.verdict.Verdict.{Verdict}
+use Rattle.session_state.specs.declared.verdict.Verdict.{Verdict}
 use Rattle.racl_io.specs.declared.totals_and_truncation.Totals.{Totals}
 use Rattle.racl_options.specs.declared.settings.Options.{Options}
 use Rattle.racl_report.specs.RunReports.{Outcome}

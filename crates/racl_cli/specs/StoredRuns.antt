@@ -6,7 +6,7 @@ use Rattle.packet_view.specs.declared.tuple.Family.TheVariants.{V4, V6}
 use Rattle.acl_policy.specs.Policies.{PolicyFacts}
 use Rattle.session_state.specs.declared.timeouts.Timeouts.{Timeouts}
 use Rattle.flow_filter.specs.OneThread.{AreVerdicts, Home, IsHome, Layout}
-use Rattle.flow_filter.specs.declared.verdict.Verdict.{Verdict}
+use Rattle.session_state.specs.declared.verdict.Verdict.{Verdict}
 use Rattle.flow_workers.specs.Stored.{AreLeft}
 use Rattle.racl_views.specs.Stored.{StoredFacts}
 

@@ -8,12 +8,13 @@ ghost use Rattle.racl_cli.specs.Runs.{AreStoredOf, layout_for};
 
 use crate::open_gate::OpenGate;
 use bihash_words::{Shape, ShapeV4, ShapeV6, flow_shapes_are_sound};
-use flow_filter::{InterfaceFilters, Verdict};
+use flow_filter::InterfaceFilters;
 use flow_workers::{Callers, Dealing, Setup, Tables, Workers, close_tables, create_tables};
 use large_shapes::{LargeV4, LargeV6, large_shapes_are_sound};
 use packet_view::Packets;
 use racl_options::TableSize;
 use racl_views::StoredPairs;
+use session_state::Verdict;
 use std::alloc::{AllocError, Global};
 use std::sync::Wait;
 

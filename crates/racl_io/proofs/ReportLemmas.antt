@@ -3,8 +3,8 @@ use Rattle.std.proofs.Common.{◌≡◌, ◌∙◌, ◌+◌, ◌-◌, ◌++◌, 
 use Rattle.std.proofs.KnownBytes.{Appends-trans}
 use Rattle.std.specs.Io.KnownBytes.{Appends}
 use Rattle.std.proofs.lemmas.List.Sums.{sum_by-append, sum_by-cons}
-use Rattle.flow_filter.specs.Verdicts.{passes}
-use Rattle.flow_filter.specs.declared.verdict.Verdict.{Verdict}
+use Rattle.session_state.specs.Passes.{passes}
+use Rattle.session_state.specs.declared.verdict.Verdict.{Verdict}
 use Rattle.racl_io.specs.Reports.{captures_from, dropped, is_truncated, line_of, lines_from, packets_in, passed, totals_of, truncation_line}
 use Rattle.racl_io.specs.Sinks.{GotFront}
 use Rattle.racl_io.specs.declared.totals_and_truncation.Captured.{Captured}

@@ -1,9 +1,9 @@
 -- The report with the lines of some packets is that on the first of them, and after it that on the others.
 use Rattle.std.proofs.Common.{◌≡◌, ◌∙◌, ◌+◌, ◌++◌, ℕ, List, [], ◌∷◌, Option, length, take, drop, arith, append_assoc, refl, sym, ap, ap₂}
-use Rattle.flow_filter.specs.declared.verdict.Verdict.{Verdict}
+use Rattle.session_state.specs.declared.verdict.Verdict.{Verdict}
 use Rattle.racl_io.specs.declared.totals_and_truncation.Captured.{Captured}
-use Rattle.racl_io.specs.declared.shown_lines_report.Shown.{Shown}
-use Rattle.racl_io.specs.declared.shown_lines_report.Shown.TheVariants.{Every}
+use Rattle.session_state.specs.declared.shown_verdicts.Shown.{Shown}
+use Rattle.session_state.specs.declared.shown_verdicts.Shown.TheVariants.{Every}
 use Rattle.racl_io.specs.Reports.{captures_from, line_of, lines_from, report_of, totals_line, totals_of, truncation_line}
 use Rattle.racl_io.specs.ShownReports.{captures_shown, line_shown, lines_shown, report_shown}
 

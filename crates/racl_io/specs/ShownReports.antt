@@ -1,19 +1,11 @@
 -- The report with the lines of some packets alone: their numbers, what is told of truncations, and the totals are those of
 -- all packets (this project's profile).
-use Rattle.std.specs.Prelude.{ℕ, ◌+◌, Bool, true, false, not, List, [], ◌∷◌, ◌++◌, Option, take, drop, if◌then◌else◌}
-use Rattle.flow_filter.specs.Verdicts.{passes}
-use Rattle.flow_filter.specs.declared.verdict.Verdict.{Verdict}
+use Rattle.std.specs.Prelude.{ℕ, ◌+◌, List, [], ◌∷◌, ◌++◌, Option, take, drop, if◌then◌else◌}
+use Rattle.session_state.specs.Passes.{is_shown}
+use Rattle.session_state.specs.declared.verdict.Verdict.{Verdict}
 use Rattle.racl_io.specs.declared.totals_and_truncation.Captured.{Captured}
-use Rattle.racl_io.specs.declared.shown_lines_report.Shown.{Shown}
-use Rattle.racl_io.specs.declared.shown_lines_report.Shown.TheVariants.{Every, Passing, Dropped, Nothing}
+use Rattle.session_state.specs.declared.shown_verdicts.Shown.{Shown}
 use Rattle.racl_io.specs.Reports.{line_of, totals_line, totals_of, truncation_line}
-
--- whether a packet with this verdict has a line
-abbrev pub is_shown : Shown → Verdict → Bool
-is_shown Every verdict = true
-is_shown Passing verdict = passes verdict
-is_shown Dropped verdict = not (passes verdict)
-is_shown Nothing verdict = false
 
 -- the line of the packet with this number, where it has one
 abbrev pub line_shown : Shown → Option ℕ → ℕ → Verdict → List ℕ

@@ -11,7 +11,7 @@ use crate::packet_lines::{LINES, push_lines};
 use crate::reading_and_writing::write_all;
 use crate::report_piece::Piece;
 use crate::whole_report::{Place, write_lines_whole};
-use flow_filter::Verdict;
+use session_state::Verdict;
 use std::alloc::{AllocError, Global};
 use std::thread::{Threads, join_mut};
 

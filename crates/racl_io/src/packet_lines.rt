@@ -6,7 +6,7 @@ ghost use Rattle.racl_io.specs.Reports.{line_of, lines_from, text_of};
 use crate::interface_name::Name;
 use crate::number_printing::Counter;
 use crate::report_piece::Piece;
-use flow_filter::Verdict;
+use session_state::Verdict;
 
 /// How many packets have their lines in one piece. A line has at most 72 bytes.
 pub const LINES: usize = 3600;

@@ -2,7 +2,7 @@
 ghost use Rattle.std.specs.Prelude.{◌≡◌, ◌+◌, ◌-◌, ◌<◌, ◌≤◌, ◌^◌, ◌++◌, [], length};
 ghost use Rattle.racl_io.specs.Reports;
 ghost use Rattle.racl_io.specs.Reports.{packets_in, totals_of};
-ghost use Rattle.racl_io.specs.ShownReports.{captures_shown, is_shown, line_shown, lines_shown, report_shown};
+ghost use Rattle.racl_io.specs.ShownReports.{captures_shown, line_shown, lines_shown, report_shown};
 ghost use Rattle.racl_io.specs.Sinks.{Writes};
 ghost use Rattle.racl_io.specs.inner.Lines.{HasTold};
 
@@ -15,32 +15,9 @@ use crate::reading_and_writing::write_all;
 use crate::report_piece::Piece;
 use crate::totals_and_truncation::{Captured, Totals, totals_on, write_totals, write_truncation};
 use crate::whole_report::{Place, write_report};
-use flow_filter::Verdict;
+use session_state::{Shown, Verdict, has_line};
 use std::alloc::Global;
 use std::thread::Threads;
-
-/// Which packets have a line in the report.
-#[derive(Clone, Copy, Debug, PartialEq, Eq)]
-pub enum Shown {
-    Every,
-    /// Those that pass.
-    Passing,
-    /// Those that are dropped.
-    Dropped,
-    Nothing,
-}
-
-/// Whether a packet with this verdict has a line in a report of shown lines.
-pub fn has_line(shown: Shown, verdict: Verdict) -> bool
-    ensures { result ≡ is_shown shown verdict }
-{
-    match shown {
-        Shown::Every => true,
-        Shown::Passing => verdict.passes(),
-        Shown::Dropped => !verdict.passes(),
-        Shown::Nothing => false,
-    }
-}
 
 // The line of the packet that was counted last, where it has one.
 fn push_shown_line(piece: &mut Piece, number: &Counter, name: &Name, shown: Shown, verdict: Verdict)

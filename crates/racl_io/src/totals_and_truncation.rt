@@ -10,7 +10,7 @@ use crate::interface_name::push_name;
 use crate::number_printing::Numeral;
 use crate::reading_and_writing::write_all;
 use crate::report_piece::Piece;
-use flow_filter::Verdict;
+use session_state::Verdict;
 
 /// A capture of an input, as the report tells it.
 #[derive(Clone, Copy)]

@@ -16,7 +16,7 @@ use crate::packet_lines::{LINES, push_lines};
 use crate::reading_and_writing::write_all;
 use crate::report_piece::Piece;
 use crate::totals_and_truncation::{Captured, Totals, totals_on, write_totals, write_truncation};
-use flow_filter::Verdict;
+use session_state::Verdict;
 use std::alloc::Global;
 use std::thread::Threads;
 

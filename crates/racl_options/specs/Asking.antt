@@ -2,8 +2,8 @@
 use Rattle.std.specs.Prelude.{◌≡◌, ◌&&◌, ◌||◌, ◌==◌, Bool, true, false, not, is_some, List, [], Option, None, Some, option_map, codes}
 use Rattle.std.specs.Str.{bytes_eq}
 use Rattle.clap.specs.Words.{Text, fault_of}
-use Rattle.racl_io.specs.declared.shown_lines_report.Shown.{Shown}
-use Rattle.racl_io.specs.declared.shown_lines_report.Shown.TheVariants.{Every, Passing, Dropped, Nothing}
+use Rattle.session_state.specs.declared.shown_verdicts.Shown.{Shown}
+use Rattle.session_state.specs.declared.shown_verdicts.Shown.TheVariants.{Every, Passing, Dropped, Nothing}
 use Rattle.racl_options.specs.CommandLine.{OptionFacts, SetOptions, Values, option_facts, racl, values_at}
 use Rattle.racl_options.specs.Origins.{Name, OriginFacts, FromStandard, FromFiles, FromInterfaces, origin_facts}
 use Rattle.racl_options.specs.declared.settings.Asked.{Asked}

@@ -10,7 +10,7 @@ use Rattle.clap.specs.declared.builder.action.ArgAction.TheVariants.{Append, Set
 use Rattle.clap.specs.declared.builder.value_parser.ValueParser.TheVariants.{Signed}
 use Rattle.clap.specs.declared.error.kind.ErrorKind.{ErrorKind}
 use Rattle.clap.specs.declared.error.kind.ErrorKind.TheVariants.{DisplayHelp, DisplayVersion}
-use Rattle.racl_io.specs.declared.shown_lines_report.Shown.{Shown}
+use Rattle.session_state.specs.declared.shown_verdicts.Shown.{Shown}
 use Rattle.racl_options.specs.declared.settings.Options.{Options}
 use Rattle.racl_options.specs.declared.settings.TableSize.{TableSize}
 use Rattle.racl_options.specs.declared.settings.Lines.{Lines}

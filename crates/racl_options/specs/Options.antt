@@ -7,7 +7,7 @@ use Rattle.clap.specs.Words.{Text}
 use Rattle.racl_options.specs.CommandLine.{IsInRange}
 use Rattle.racl_options.specs.CommandLine.{OptionName, Workers, Established, Transient, Udp}
 use Rattle.racl_options.specs.CommandLine.{default_of, name_of, number_of}
-use Rattle.racl_io.specs.declared.shown_lines_report.Shown.TheVariants.{Every}
+use Rattle.session_state.specs.declared.shown_verdicts.Shown.TheVariants.{Every}
 use Rattle.racl_options.specs.declared.settings.Lines.TheVariants.{Plain}
 use Rattle.racl_options.specs.declared.settings.TableSize.TheVariants.{Standard}
 use Rattle.racl_options.specs.Asking.{AskedFacts}

@@ -3,8 +3,8 @@
 use Rattle.std.specs.Prelude.{Bool, false, Option, None, Some, codes, option_map, if◌then◌else◌}
 use Rattle.std.specs.Str.{bytes_eq}
 use Rattle.clap.specs.Words.{Text}
-use Rattle.racl_io.specs.declared.shown_lines_report.Shown.{Shown}
-use Rattle.racl_io.specs.declared.shown_lines_report.Shown.TheVariants.{Every, Passing, Dropped, Nothing}
+use Rattle.session_state.specs.declared.shown_verdicts.Shown.{Shown}
+use Rattle.session_state.specs.declared.shown_verdicts.Shown.TheVariants.{Every, Passing, Dropped, Nothing}
 use Rattle.racl_options.specs.declared.settings.Lines.{Lines}
 use Rattle.racl_options.specs.declared.settings.Lines.TheVariants.{Plain, Explained, Json}
 

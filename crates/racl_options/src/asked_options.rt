@@ -15,8 +15,7 @@ use crate::selected_output::{is_given, lines_named, saved_named, shown_named};
 use crate::settings::{Asked, Lines, Options, Origin, Saved, TableSize};
 use crate::table_size::size_named;
 use clap::ArgMatches;
-use racl_io::Shown;
-use session_state::Timeouts;
+use session_state::{Shown, Timeouts};
 use std::alloc::Global;
 
 const NO_SIZE: &str = "--tables takes standard or large";

@@ -11,7 +11,7 @@ ghost use Rattle.racl_options.specs.inner.Naming.{values_in};
 
 use crate::settings::{Lines, Saved};
 use clap::ArgMatches;
-use racl_io::Shown;
+use session_state::Shown;
 
 /// Whether the matches have the flag that selects an output.
 pub fn is_given(matches: &ArgMatches<'_>, flag: &str) -> bool

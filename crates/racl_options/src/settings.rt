@@ -1,8 +1,7 @@
 //! What the command line asks for.
 ghost use Rattle.std.specs.Prelude.{◌≤◌};
 
-use racl_io::Shown;
-use session_state::Timeouts;
+use session_state::{Shown, Timeouts};
 
 /// How many places the session tables have. Four stand in a page, and a bucket has at most 256.
 #[derive(Clone, Copy, Debug, PartialEq, Eq)]

@@ -3,7 +3,7 @@ use Rattle.std.proofs.Common.{◌≡◌, ℕ, List, Option, Some, Result, Ok, Er
 use Rattle.std.specs.Bool.{⊤}
 use Rattle.packet_view.specs.Captures.{PacketFacts, RecordFacts, end_of}
 use Rattle.acl_policy.specs.Policies.{PolicyFacts}
-use Rattle.flow_filter.specs.declared.verdict.Verdict.{Verdict}
+use Rattle.session_state.specs.declared.verdict.Verdict.{Verdict}
 use Rattle.racl_io.specs.declared.fault.Fault.{Fault}
 use Rattle.racl_io.specs.declared.marker_line.Form.TheVariants.{Binary}
 use Rattle.racl_io.specs.declared.totals_and_truncation.Captured.{Captured}

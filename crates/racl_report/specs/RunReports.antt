@@ -2,11 +2,11 @@
 use Rattle.std.specs.Prelude.{◌≡◌, ◌++◌, ℕ, List, [], if◌then◌else◌}
 use Rattle.packet_view.specs.Captures.{PacketFacts}
 use Rattle.acl_policy.specs.Policies.{PolicyFacts}
-use Rattle.flow_filter.specs.declared.verdict.Verdict.{Verdict}
+use Rattle.session_state.specs.declared.verdict.Verdict.{Verdict}
 use Rattle.racl_options.specs.declared.settings.Lines.{Lines}
 use Rattle.racl_options.specs.declared.settings.Lines.TheVariants.{Plain, Explained, Json}
 use Rattle.racl_options.specs.declared.settings.Options.{Options}
-use Rattle.racl_io.specs.declared.shown_lines_report.Shown.{Shown}
+use Rattle.session_state.specs.declared.shown_verdicts.Shown.{Shown}
 use Rattle.racl_io.specs.declared.totals_and_truncation.Captured.{Captured}
 use Rattle.racl_io.specs.Inputs.{IsInput, InputFacts}
 use Rattle.racl_io.specs.ShownReports.{report_shown}

@@ -18,13 +18,13 @@ ghost use Rattle.racl_report.specs.inner.InputsAgain.{HasLines, IsAgain};
 use crate::input_read_again::{Again, read_again};
 use crate::judged_packets::Judged;
 use acl_policy::Policy;
-use flow_filter::Verdict;
 use packet_view::Packets;
-use racl_io::{Captured, Fault, Shown, Sink, Totals, write_all, write_shown};
+use racl_io::{Captured, Fault, Sink, Totals, write_all, write_shown};
 use racl_options::{Lines, Options};
 use racl_views::{
     Run, StoredPairs, View, hits_text, packets_in, sessions_text, write_explained, write_objects,
 };
+use session_state::{Shown, Verdict};
 use std::alloc::{AllocError, Global};
 use std::thread::Threads;
 

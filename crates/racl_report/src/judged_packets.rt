@@ -4,9 +4,9 @@ ghost use Rattle.racl_io.specs.Reports.{packets_in};
 ghost use Rattle.racl_views.specs.Stored.{stored_facts};
 ghost use Rattle.racl_report.specs.RunReports.{JudgedFacts};
 
-use flow_filter::Verdict;
 use racl_io::Captured;
 use racl_views::StoredPairs;
+use session_state::Verdict;
 use std::marker::Model;
 
 /// The verdicts on the packets of all captures in their order, what the report tells of each capture, and the sessions that

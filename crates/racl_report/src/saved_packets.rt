@@ -9,9 +9,9 @@ ghost use Rattle.racl_views.specs.declared.chosen_packets.Chosen.TheVariants.{Dr
 ghost use Rattle.racl_report.specs.ReadInputs.{IsRead};
 ghost use Rattle.racl_report.specs.Saves.{HasSaved};
 
-use flow_filter::Verdict;
 use racl_io::{Fault, Form, Input, Sink, split_input};
 use racl_views::{Chosen, write_chosen};
+use session_state::Verdict;
 
 /// Where packets of an input are saved: those that were dropped, and those that passed.
 #[derive(Drop)]

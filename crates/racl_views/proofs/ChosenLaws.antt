@@ -6,7 +6,7 @@ use Rattle.packet_view.proofs.FrontLemmas.{HaveOneHead, head_appended, header_to
 use Rattle.packet_view.specs.Captures.{AreRecords, End, HasFileHeader, IsCapture, IsCaptureAt, RecordFacts, Truncated, Whole, packet_at, packets_at}
 use Rattle.packet_view.specs.declared.capture.Order.{Order}
 use Rattle.packet_view.specs.declared.records_at_front.Stop.TheVariants as stop
-use Rattle.flow_filter.specs.declared.verdict.Verdict.{Verdict}
+use Rattle.session_state.specs.declared.verdict.Verdict.{Verdict}
 use Rattle.racl_views.specs.ChosenRecords.{AreRecordsOf, HasRecords, IsChosen, IsRecordOf, chosen_among, is_chosen, kept_before}
 use Rattle.racl_views.specs.declared.chosen_packets.Chosen.{Chosen}
 

@@ -9,7 +9,7 @@ use Rattle.packet_view.specs.declared.capture.Order.{Order}
 use Rattle.packet_view.specs.declared.records_at_front.Stop.{Stop}
 use Rattle.packet_view.specs.declared.records_at_front.Stop.TheVariants as stop
 use Rattle.packet_view.specs.inner.RecordSteps.{part_of}
-use Rattle.flow_filter.specs.declared.verdict.Verdict.{Verdict}
+use Rattle.session_state.specs.declared.verdict.Verdict.{Verdict}
 use Rattle.racl_views.specs.ChosenRecords.{AreRecordsOf, HasRecords, IsChosen, IsRecordOf, chosen_among, is_chosen, kept_before}
 use Rattle.racl_views.specs.declared.chosen_packets.Chosen.{Chosen}
 use Rattle.racl_views.specs.inner.Batches.{bytes_where}

@@ -4,7 +4,7 @@ use Rattle.std.proofs.Math.Seq.{drop-cons}
 use Rattle.std.proofs.lemmas.List.Sums.{sum_by-append}
 use Rattle.packet_view.specs.Captures.{PacketFacts}
 use Rattle.acl_policy.specs.Policies.{PolicyFacts}
-use Rattle.flow_filter.specs.declared.verdict.Verdict.{Verdict}
+use Rattle.session_state.specs.declared.verdict.Verdict.{Verdict}
 use Rattle.racl_views.specs.Deciding.{AreDecided, IsDecided, decided_by, hits_on}
 use Rattle.racl_views.specs.declared.rule_name.RuleName.{RuleName}
 use Rattle.racl_views.specs.inner.Counts.{Count}

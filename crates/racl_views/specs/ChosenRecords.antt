@@ -5,8 +5,8 @@ use Rattle.packet_view.specs.Captures.{AreRecords, End, HasFileHeader, IsCapture
 use Rattle.packet_view.specs.Fronts.{Stops}
 use Rattle.packet_view.specs.declared.capture.Order.{Order}
 use Rattle.packet_view.specs.declared.records_at_front.Stop.{Stop}
-use Rattle.flow_filter.specs.Verdicts.{passes}
-use Rattle.flow_filter.specs.declared.verdict.Verdict.{Verdict}
+use Rattle.session_state.specs.Passes.{passes}
+use Rattle.session_state.specs.declared.verdict.Verdict.{Verdict}
 use Rattle.racl_views.specs.declared.chosen_packets.Chosen.{Chosen}
 use Rattle.racl_views.specs.declared.chosen_packets.Chosen.TheVariants.{Passing, Dropped}
 

@@ -4,8 +4,8 @@ use Rattle.packet_view.specs.Captures.{PacketFacts}
 use Rattle.packet_view.specs.Frames.{FrameFacts, Ip, Malformed, NotIp, Short}
 use Rattle.acl_policy.specs.Policies.{PolicyFacts}
 use Rattle.flow_filter.specs.Readings.{IsSeen}
-use Rattle.flow_filter.specs.declared.verdict.Verdict.{Verdict}
-use Rattle.flow_filter.specs.declared.verdict.Verdict.TheVariants as verdict
+use Rattle.session_state.specs.declared.verdict.Verdict.{Verdict}
+use Rattle.session_state.specs.declared.verdict.Verdict.TheVariants as verdict
 use Rattle.racl_views.specs.declared.rule_name.RuleName.{RuleName}
 use Rattle.racl_views.specs.RuleLines.{same_way}
 

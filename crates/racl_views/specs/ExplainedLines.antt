@@ -5,10 +5,10 @@ use Rattle.packet_view.specs.Tuples.{TupleFacts}
 use Rattle.packet_view.specs.declared.tuple.Direction.TheVariants.{Inbound, Outbound}
 use Rattle.packet_view.specs.declared.tuple.Fields.{Fields}
 use Rattle.packet_view.specs.declared.tuple.Fields.TheVariants.{Absent, Icmp, Ports, Tcp}
-use Rattle.flow_filter.specs.declared.verdict.Verdict.{Verdict}
-use Rattle.racl_io.specs.declared.shown_lines_report.Shown.{Shown}
+use Rattle.session_state.specs.declared.verdict.Verdict.{Verdict}
+use Rattle.session_state.specs.declared.shown_verdicts.Shown.{Shown}
 use Rattle.racl_io.specs.Reports.{name_of, text_of, totals_line, totals_of, truncation_line}
-use Rattle.racl_io.specs.ShownReports.{is_shown}
+use Rattle.session_state.specs.Passes.{is_shown}
 use Rattle.racl_views.specs.Entries.{EntryFacts}
 use Rattle.racl_views.specs.PacketWords.{address_text, flags_text, numbered, protocol_text}
 use Rattle.racl_views.specs.RuleTexts.{rule_texts}

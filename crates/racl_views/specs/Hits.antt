@@ -8,8 +8,8 @@ use Rattle.packet_view.specs.declared.tuple.Direction.{Direction}
 use Rattle.packet_view.specs.declared.tuple.Direction.TheVariants.{Inbound, Outbound}
 use Rattle.session_state.specs.Sessions.{is_expired_at}
 use Rattle.session_state.specs.declared.timeouts.Timeouts.{Timeouts}
-use Rattle.flow_filter.specs.declared.verdict.Verdict.{Verdict}
-use Rattle.flow_filter.specs.declared.verdict.Verdict.TheVariants as verdict
+use Rattle.session_state.specs.declared.verdict.Verdict.{Verdict}
+use Rattle.session_state.specs.declared.verdict.Verdict.TheVariants as verdict
 use Rattle.racl_views.specs.declared.hit.Hit.{Hit}
 use Rattle.racl_views.specs.declared.hit.Hit.TheVariants as hit
 use Rattle.racl_views.specs.declared.reason_without_rule.Reason.{Reason}

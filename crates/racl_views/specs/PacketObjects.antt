@@ -7,14 +7,14 @@ use Rattle.packet_view.specs.declared.tuple.Direction.{Direction}
 use Rattle.packet_view.specs.declared.tuple.Direction.TheVariants.{Inbound, Outbound}
 use Rattle.packet_view.specs.declared.tuple.Fields.{Fields}
 use Rattle.packet_view.specs.declared.tuple.Fields.TheVariants.{Absent, Icmp, Ports, Tcp}
-use Rattle.flow_filter.specs.Verdicts.{passes}
-use Rattle.flow_filter.specs.declared.verdict.Verdict.{Verdict}
-use Rattle.flow_filter.specs.declared.verdict.Verdict.TheVariants as verdict
+use Rattle.session_state.specs.Passes.{passes}
+use Rattle.session_state.specs.declared.verdict.Verdict.{Verdict}
+use Rattle.session_state.specs.declared.verdict.Verdict.TheVariants as verdict
 use Rattle.racl_io.specs.declared.totals_and_truncation.Captured.{Captured}
 use Rattle.racl_io.specs.declared.totals_and_truncation.Totals.{Totals}
-use Rattle.racl_io.specs.declared.shown_lines_report.Shown.{Shown}
+use Rattle.session_state.specs.declared.shown_verdicts.Shown.{Shown}
 use Rattle.racl_io.specs.Reports.{totals_of}
-use Rattle.racl_io.specs.ShownReports.{is_shown}
+use Rattle.session_state.specs.Passes.{is_shown}
 use Rattle.racl_views.specs.Entries.{EntryFacts}
 use Rattle.racl_views.specs.Objects.{Field, number, object_lines, object_of, string}
 use Rattle.racl_views.specs.PacketWords.{address_text}

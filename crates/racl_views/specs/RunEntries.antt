@@ -3,9 +3,9 @@ use Rattle.std.specs.Prelude.{ℕ, ◌+◌, List, [], ◌∷◌, ◌++◌, drop,
 use Rattle.packet_view.specs.Captures.{PacketFacts}
 use Rattle.packet_view.specs.CheckedCaptures.{remaining}
 use Rattle.acl_policy.specs.Policies.{PolicyFacts, policy_facts}
-use Rattle.flow_filter.specs.declared.verdict.Verdict.{Verdict}
+use Rattle.session_state.specs.declared.verdict.Verdict.{Verdict}
 use Rattle.racl_io.specs.declared.totals_and_truncation.Captured.{Captured}
-use Rattle.racl_io.specs.declared.shown_lines_report.Shown.{Shown}
+use Rattle.session_state.specs.declared.shown_verdicts.Shown.{Shown}
 use Rattle.racl_views.specs.declared.rule_name.RuleLine.{RuleLine}
 use Rattle.racl_views.specs.declared.run_and_verdicts.Run.{Run}
 use Rattle.racl_views.specs.Entries.{AreEntries, EntryFacts}

@@ -2,7 +2,7 @@
 ghost use Rattle.std.specs.Prelude.{◌≡◌, ◌-◌, ◌<◌, ◌≤◌, ◌^◌, ◌++◌, ℕ, List, [], IfErr, IfNone, IfSome, drop, length, take};
 ghost use Rattle.packet_view.specs.Captures.{End, IsCapture, IsCaptureAt, IsHeaderFault, RecordFacts, Whole, packets_at};
 ghost use Rattle.packet_view.specs.declared.capture.CaptureFault.{CaptureFault};
-ghost use Rattle.flow_filter.specs.declared.verdict.Verdict.{Verdict};
+ghost use Rattle.session_state.specs.declared.verdict.Verdict.{Verdict};
 ghost use Rattle.racl_io.specs.declared.fault.Fault.TheVariants.{Write};
 ghost use Rattle.racl_io.specs.Sinks.{HasPut};
 ghost use Rattle.racl_views.specs.ChosenRecords.{HasRecords, IsChosen, IsRecordOf, chosen_among};
@@ -12,9 +12,9 @@ ghost use Rattle.racl_views.specs.inner.ChosenBytes.{HasNoRecord, chosen_in};
 
 use crate::byte_batch::{Batch, put_where};
 use crate::chosen_packets::Chosen;
-use flow_filter::Verdict;
 use packet_view::{Order, Piece, capture_header, next_record};
 use racl_io::{Fault, Sink, write_all};
+use session_state::Verdict;
 
 // The bytes of a capture's record at the front, which are written where its packet is chosen, and those behind it; None
 // where no whole one is there.

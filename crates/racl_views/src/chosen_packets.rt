@@ -2,7 +2,7 @@
 ghost use Rattle.std.specs.Prelude.{◌≡◌};
 ghost use Rattle.racl_views.specs.ChosenRecords;
 
-use flow_filter::Verdict;
+use session_state::Verdict;
 
 /// Packets that are chosen by their verdicts.
 #[derive(Clone, Copy)]

@@ -3,7 +3,7 @@ ghost use Rattle.std.specs.Prelude.{◌≡◌, count_by};
 ghost use Rattle.racl_views.specs.Hits;
 
 use crate::reason_without_rule::Reason;
-use flow_filter::Verdict;
+use session_state::Verdict;
 
 // Whether a packet with this verdict is counted for this reason.
 fn has_reason(reason: Reason, verdict: Verdict) -> bool

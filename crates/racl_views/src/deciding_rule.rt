@@ -10,8 +10,8 @@ ghost use Rattle.racl_views.specs.inner.EntryLists.{view_at};
 
 use crate::rule_name::RuleName;
 use acl_policy::Policy;
-use flow_filter::Verdict;
 use packet_view::{Frame, Mac, Packet, view};
+use session_state::Verdict;
 
 // The number of the rule that decided a packet, where a rule gave its verdict.
 fn rule_number(verdict: Verdict) -> Option<u16>

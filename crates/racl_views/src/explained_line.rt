@@ -10,8 +10,8 @@ use crate::packet_entry::{Entry, Place};
 use crate::packet_text::{push_carried, push_seen};
 use crate::rule_texts_in_policy::text_at;
 use crate::shown_rule_text::RuleText;
-use flow_filter::Verdict;
 use racl_io::{Numeral, Piece, push_name};
+use session_state::Verdict;
 
 // The words of an explained line that say the verdict on its packet.
 fn push_explained_verdict(piece: &mut Piece, verdict: Verdict)

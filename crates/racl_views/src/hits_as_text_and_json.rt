@@ -25,10 +25,9 @@ use crate::run_and_verdicts::Run;
 use crate::session_counts::{SessionCounts, count_sessions};
 use crate::stored_pairs::StoredPairs;
 use crate::text_or_json::View;
-use flow_filter::Verdict;
 use packet_view::Direction;
 use racl_io::Piece;
-use session_state::Timeouts;
+use session_state::{Timeouts, Verdict};
 use std::alloc::{AllocError, Global};
 
 // The words that say the direction of a rule in the line of its hits.

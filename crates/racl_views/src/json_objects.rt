@@ -12,10 +12,10 @@ use crate::json_fields::{
     add_address, add_number, add_string, add_true, add_way, begin_json_object, end_json_object,
 };
 use crate::packet_entry::Entry;
-use flow_filter::Verdict;
 use json::Writer;
 use packet_view::{Fields, Frame, Tuple};
 use racl_io::{Captured, Totals};
+use session_state::Verdict;
 use std::alloc::AllocError;
 
 // The word in a packet's object for whether it passes.

@@ -15,9 +15,9 @@ use crate::packet_telling::Telling;
 use crate::passed_count::passed;
 use crate::rule_lines_by_place::rule_table_by_place;
 use crate::run_and_verdicts::Run;
-use flow_filter::Verdict;
 use packet_view::{Packet, Packets};
-use racl_io::{Captured, Fault, Sink, Totals, has_line, totals_on, write_all};
+use racl_io::{Captured, Fault, Sink, Totals, totals_on, write_all};
+use session_state::{Verdict, has_line};
 use std::alloc::{AllocError, Global};
 
 // The object of a packet behind the text of the report in JSON, where it is shown.

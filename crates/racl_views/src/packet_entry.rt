@@ -9,8 +9,8 @@ ghost use Rattle.racl_views.specs.inner.EntryLists.{AreAtPlaces, entry_on};
 use crate::deciding_rule::{packet_as_seen, rule_on};
 use crate::rule_lines_by_place::line_of;
 use acl_policy::Policy;
-use flow_filter::Verdict;
 use packet_view::{Frame, Packet};
+use session_state::Verdict;
 
 /// What is told of a packet: its verdict, the interface where it was seen, at which second, and what its frame is.
 #[derive(Clone, Copy)]

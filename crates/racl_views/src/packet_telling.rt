@@ -2,7 +2,7 @@
 
 use crate::rule_table::RuleTable;
 use acl_policy::Policy;
-use racl_io::Shown;
+use session_state::Shown;
 
 /// How packets are told: which of them, and under which policy, whose rules stand in the table.
 #[derive(Clone, Copy)]

@@ -2,7 +2,7 @@
 ghost use Rattle.std.specs.Prelude.{◌≡◌};
 ghost use Rattle.racl_io.specs.Reports;
 
-use flow_filter::Verdict;
+use session_state::Verdict;
 
 /// How many packets pass.
 pub fn passed(verdicts: &[Verdict]) -> u64

@@ -11,8 +11,8 @@ use crate::deciding_rule::deciding_rule;
 use crate::place_of_rule::{place, reach_rule_place};
 use crate::rule_name::RuleName;
 use acl_policy::Policy;
-use flow_filter::Verdict;
 use packet_view::Packets;
+use session_state::Verdict;
 use std::alloc::{AllocError, Global};
 
 // Counts one packet more at the place of a rule.

@@ -1,9 +1,9 @@
 //! What a run had, and what came of it.
 
 use acl_policy::Policy;
-use flow_filter::Verdict;
 use packet_view::Packets;
-use racl_io::{Captured, Shown};
+use racl_io::Captured;
+use session_state::{Shown, Verdict};
 
 /// A run: its policy, which the text says, the packets of its captures with their verdicts, and which of them are shown.
 #[derive(Clone, Copy)]

@@ -11,9 +11,8 @@ use crate::counting_reasons::count_reason;
 use crate::reason_without_rule::Reason;
 use crate::run_and_verdicts::Run;
 use crate::stored_pairs::StoredPairs;
-use flow_filter::Verdict;
 use packet_view::Packets;
-use session_state::{Session, Timeouts};
+use session_state::{Session, Timeouts, Verdict};
 
 /// How many sessions a run entered, how many packets they let through, and how many have expired.
 #[derive(Clone, Copy)]

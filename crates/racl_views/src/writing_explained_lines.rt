@@ -15,12 +15,11 @@ use crate::packet_telling::Telling;
 use crate::passed_count::passed;
 use crate::rule_lines_by_place::rule_table_by_place;
 use crate::run_and_verdicts::Run;
-use flow_filter::Verdict;
 use packet_view::{Packet, Packets};
 use racl_io::{
-    Captured, Fault, Piece, Sink, Totals, has_line, totals_on, write_all, write_totals,
-    write_truncation,
+    Captured, Fault, Piece, Sink, Totals, totals_on, write_all, write_totals, write_truncation,
 };
+use session_state::{Verdict, has_line};
 use std::alloc::Global;
 
 /// Up to how many bytes a piece has room for one more line.

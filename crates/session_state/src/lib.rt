@@ -10,7 +10,9 @@ mod session;
 mod session_expiry;
 mod session_flags;
 mod session_laws;
+mod shown_verdicts;
 mod timeouts;
+mod verdict;
 
 pub use flow::{Flow, FlowKey, orient};
 pub use flow_laws::{
@@ -24,4 +26,6 @@ pub use session_laws::{
     computations_meet_definitions, expired_words_are_not_live, last_never_falls,
     last_second_counts, replies_start_nothing, tests_tell_live_sessions, words_tell_sessions,
 };
+pub use shown_verdicts::{Shown, has_line};
 pub use timeouts::Timeouts;
+pub use verdict::Verdict;

@@ -5,8 +5,9 @@ ghost use Rattle.packet_view.specs.declared.tuple.Family.TheVariants as Family;
 
 use super::{TIMES, filter_test_refused};
 use acl_policy::{Action, read_policy};
-use flow_filter::{Filter, Verdict, verdict_of_rules};
+use flow_filter::{Filter, verdict_of_rules};
 use packet_view::{Direction, Family, Fields, Mac, Tuple};
+use session_state::Verdict;
 use std::alloc::{AllocError, Global};
 use std::test::Fail;
 

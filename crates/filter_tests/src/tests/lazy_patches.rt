@@ -7,11 +7,9 @@ use super::matching::{rule, udp};
 use super::{EVERY, TIMES};
 use acl_policy::Action;
 use bihash_words::{Change, Patch, Reply};
-use flow_filter::{
-    HasReading, InterfaceFilter, LazyPatch, PacketFlow, RuleSearch, Ruleset, Verdict,
-};
+use flow_filter::{HasReading, InterfaceFilter, LazyPatch, PacketFlow, RuleSearch, Ruleset};
 use packet_view::Direction;
-use session_state::orient;
+use session_state::{Verdict, orient};
 use std::marker::Brand;
 
 /// The UDP session whose last packet came in second 1000.

@@ -6,7 +6,7 @@ use Rattle.acl_policy.specs.Matching.{IsRuling}
 use Rattle.acl_policy.specs.Policies.{SectionFacts, rules_of}
 use Rattle.session_state.specs.declared.timeouts.Timeouts.{Timeouts}
 use Rattle.flow_filter.specs.declared.lazy_patch.HasReading.{Ghosts}
-use Rattle.flow_filter.specs.declared.verdict.Verdict.TheVariants as verdict
+use Rattle.session_state.specs.declared.verdict.Verdict.TheVariants as verdict
 use Rattle.flow_filter.specs.LazyPatches.{facts_of}
 use Rattle.flow_filter.specs.Readings.{Framed, Reading, Ruled, Ruling}
 use Rattle.flow_filter.specs.Updates.{update_of}

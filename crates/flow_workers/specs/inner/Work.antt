@@ -8,7 +8,7 @@ use Rattle.bihash_rule.specs.declared.view.Call.{Call}
 use Rattle.bihash_rule.specs.declared.view.Record.{Record}
 use Rattle.bihash_rule.specs.declared.view.View.{View}
 use Rattle.session_state.specs.declared.timeouts.Timeouts.{Timeouts}
-use Rattle.flow_filter.specs.declared.verdict.Verdict.{Verdict}
+use Rattle.session_state.specs.declared.verdict.Verdict.{Verdict}
 use Rattle.flow_filter.specs.Judged.{verdict_on}
 use Rattle.flow_dealing.specs.Views.{Views}
 use Rattle.flow_dealing.specs.Dealings.{Deal}

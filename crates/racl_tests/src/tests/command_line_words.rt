@@ -1,11 +1,10 @@
 //! Words of the command line, and what they ask for. `checks/rows/sessions.txt` has what timeouts do.
 use clap::Error;
-use racl_io::Shown;
 use racl_options::{
     CaptureFile, Files, Interfaces, Lines, Options, Origin, Saved, TableSize, check_name, options,
     words_status,
 };
-use session_state::Timeouts;
+use session_state::{Shown, Timeouts};
 use std::alloc::{AllocError, Global};
 
 // For tests of words of the command line: the options that they set.

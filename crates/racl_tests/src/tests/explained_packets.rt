@@ -1,9 +1,9 @@
 //! What is told of packets: what they are, and which rule decided.
 use acl_policy::read_policy;
-use flow_filter::Verdict;
 use packet_view::{Packet, Packets};
-use racl_io::{Captured, Device, Shown};
+use racl_io::{Captured, Device};
 use racl_views::{Run, View, write_explained, write_objects};
+use session_state::{Shown, Verdict};
 use std::alloc::Global;
 use std::test::Fail;
 

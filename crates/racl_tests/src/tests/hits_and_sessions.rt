@@ -1,13 +1,11 @@
 //! What is told of a run's rules and sessions. `checks/run` has what the program writes of them.
 use acl_policy::{Policy, read_policy};
-use flow_filter::Verdict;
 use packet_view::{Direction, Packets};
-use racl_io::Shown;
 use racl_views::{
     CaptureBytes, RuleLine, RuleName, Run, StoredPairs, View, hits_text, numbered_rules,
     packets_in, sessions_text,
 };
-use session_state::Timeouts;
+use session_state::{Shown, Timeouts, Verdict};
 use std::alloc::{AllocError, Global};
 use std::test::Fail;
 

@@ -1,8 +1,8 @@
 //! The lines of a report, and where it is written in several pieces.
 ghost use Rattle.std.specs.Prelude.{None};
 
-use flow_filter::Verdict;
-use racl_io::{Captured, Device, DeviceFault, Fault, Shown, Sink, write_report, write_shown};
+use racl_io::{Captured, Device, DeviceFault, Fault, Sink, write_report, write_shown};
+use session_state::{Shown, Verdict};
 use std::test::Fail;
 
 // For tests of reports: one with a line for each verdict.

@@ -1,7 +1,6 @@
 //! A whole input through the program, with devices that are slow or fail.
 use racl_cli::{Lines, Options, TableSize};
-use racl_io::Shown;
-use session_state::Timeouts;
+use session_state::{Shown, Timeouts};
 
 mod live;
 mod slow_and_failing_devices;

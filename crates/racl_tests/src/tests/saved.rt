@@ -1,7 +1,7 @@
 //! Captures of chosen packets.
-use flow_filter::Verdict;
 use racl_io::Device;
 use racl_views::{Chosen, write_chosen};
+use session_state::Verdict;
 use std::alloc::{AllocError, Global};
 use std::test::Fail;
 

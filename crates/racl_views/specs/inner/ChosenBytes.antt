@@ -3,7 +3,7 @@ use Rattle.std.specs.Prelude.{◌+◌, Bool, ℕ, List, [], ◌∷◌, ◌++◌,
 use Rattle.packet_view.specs.Captures.{Cut, IsPiece, Nothing, PieceFacts, Record, RecordFacts, TooLong}
 use Rattle.packet_view.specs.declared.capture.Order.{Order}
 use Rattle.packet_view.specs.inner.RecordSteps.{part_of}
-use Rattle.flow_filter.specs.declared.verdict.Verdict.{Verdict}
+use Rattle.session_state.specs.declared.verdict.Verdict.{Verdict}
 use Rattle.racl_views.specs.ChosenRecords.{is_chosen}
 use Rattle.racl_views.specs.declared.chosen_packets.Chosen.{Chosen}
 use Rattle.racl_views.specs.inner.Batches.{bytes_where}

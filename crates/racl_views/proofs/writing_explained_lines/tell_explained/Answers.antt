@@ -1,6 +1,6 @@
 use Rattle.std.proofs.Common.{◌≡◌, ◌∙◌, ◌++◌, ℕ, Bool, true, List, [], ap, append-nil, append_assoc, cond, rules, sym}
 use Rattle.packet_view.specs.Captures.{packet_facts}
-use Rattle.racl_io.specs.ShownReports.{is_shown}
+use Rattle.session_state.specs.Passes.{is_shown}
 use Rattle.racl_views.specs.Entries.{entry_facts}
 use Rattle.racl_views.specs.ExplainedLines.{explained_line}
 use Rattle.racl_views.specs.inner.Tellings.{entry_by, texts_by}

@@ -1,6 +1,6 @@
 //! What becomes of a packet.
 ghost use Rattle.std.specs.Prelude.{◌≡◌};
-ghost use Rattle.flow_filter.specs.Verdicts;
+ghost use Rattle.session_state.specs.Passes;
 
 /// What becomes of a packet; rules of a direction are numbered from 1.
 #[derive(Clone, Copy, Debug, PartialEq, Eq)]
@@ -35,7 +35,7 @@ const _: () = prove!(size_of::<Verdict>() == 4);
 impl Verdict {
     /// Whether the packet goes through.
     pub fn passes(self) -> bool
-        ensures { result ≡ Verdicts.passes self }
+        ensures { result ≡ Passes.passes self }
     {
         match self {
             Verdict::Session | Verdict::Reflect(_) | Verdict::Permit(_) | Verdict::NotIp => true,
