@@ -28,9 +28,9 @@ use Rattle.flow_filter.specs.Updates.{words_of}
 use Rattle.flow_filter.specs.Judged.{AreAsked, IsAsked, Judged}
 use Rattle.flow_filter.specs.OneThread.{Home, bounds_in, events_at, family_of, home_of, same_family, sizes_in}
 use Rattle.flow_filter.proofs.HomeLemmas.{families_are_one}
-use Rattle.flow_dealing.specs.declared.dealing.Dealing.{Dealing}
-use Rattle.flow_dealing.specs.declared.dealing.Dealing.TheVariants.{Bucket}
-use Rattle.flow_dealing.specs.Dealings.{Deal, flow_of_reading, worker_of}
+use Rattle.packet_dealing.specs.declared.dealing.Dealing.{Dealing}
+use Rattle.packet_dealing.specs.declared.dealing.Dealing.TheVariants.{Bucket}
+use Rattle.packet_dealing.specs.Dealings.{Deal, flow_of_reading, worker_of}
 use Rattle.flow_dealing.specs.WorkerRecords.{AreRecorded, events_by}
 use Rattle.flow_dealing.proofs.TraceMerges.{events_by-nil, worker_few}
 use Rattle.flow_dealing.proofs.Places.{after_map}

@@ -26,10 +26,10 @@ use Rattle.flow_filter.specs.Readings.{AreReadings, IsReading}
 use Rattle.flow_filter.specs.Updates.{Update, update_of}
 use Rattle.flow_filter.specs.Judged.{IsAsked, Judged, readings_of, verdict_on, verdicts_on}
 use Rattle.flow_filter.specs.OneThread.{family_of, home_of, same_family}
-use Rattle.flow_dealing.specs.declared.dealing.Dealing.{Dealing}
-use Rattle.flow_dealing.specs.declared.dealing.Dealing.TheVariants.{Round, Bucket}
+use Rattle.packet_dealing.specs.declared.dealing.Dealing.{Dealing}
+use Rattle.packet_dealing.specs.declared.dealing.Dealing.TheVariants.{Round, Bucket}
 use Rattle.flow_dealing.specs.Views.{Views, view_in}
-use Rattle.flow_dealing.specs.Dealings.{Deal, flow_of_reading, flow_of_frame, worker_by_dealing, worker_of}
+use Rattle.packet_dealing.specs.Dealings.{Deal, flow_of_reading, flow_of_frame, worker_by_dealing, worker_of}
 use Rattle.flow_dealing.specs.Traces.{AreGathered, ArePlaced, AreTraces, AreFrames, IsItem, IsItemOf, IsTrace, Item, calls_in, judged_of, numbers_from}
 use Rattle.flow_dealing.specs.WorkerRecords.{AreJudgedBy, add_in, events_by}
 use Rattle.flow_dealing.proofs.Places.{all_at, all_from, zip_count}

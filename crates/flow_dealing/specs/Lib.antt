@@ -1,5 +1,3 @@
-pub mod Dealings
-pub mod HashedFlows
 pub mod Places
 pub mod Traces
 pub mod Views
