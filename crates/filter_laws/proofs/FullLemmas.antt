@@ -25,7 +25,7 @@ use Rattle.flow_filter.proofs.PassingLemmas.{reflects_by_rule}
 use Rattle.filter_laws.proofs.RecyclingLemmas.{none_goes, none_while_live}
 
 -- what a refusal for want of room tells of the map before it
-record IsRefusedFull (b : Bounds) (m : Pairs) (w : ℕ) (e : Event) : Type 0 where
+pub record IsRefusedFull (b : Bounds) (m : Pairs) (w : ℕ) (e : Event) : Type 0 where
   pub may_change : nat_lt w b.limit ≡ true
   pub most : nat_lt (len m) (most_pairs b) ≡ false
   pub stays : e.recycling.removed ≡ None
@@ -60,7 +60,7 @@ module _ (b : Bounds) (m n : Pairs) (w : ℕ) (e : Event) (full : e.reply ≡ Fu
   by_effect (Set value) removed h = by_room (nat_lt w b.limit) (nat_lt (len m) (most_pairs b)) refl refl removed h
   by_effect Remove removed h = absurd (not_removed (nat_lt w b.limit) h)
 
-refused_full : (b : Bounds) (m n : Pairs) (w : ℕ) (e : Event) → IsEvent b m w e n → e.reply ≡ Full
+pub refused_full : (b : Bounds) (m n : Pairs) (w : ℕ) (e : Event) → IsEvent b m w e n → e.reply ≡ Full
     → e.found ≡ None → IsRefusedFull b m w e
 refused_full b m n w e step full absent =
     by_effect b m n w e full (effect_of e.change None)

@@ -1,3 +1,5 @@
+pub mod AgeingMaps
+pub mod AgeingLemmas
 pub mod ApartLemmas
 pub mod FullLemmas
 pub mod NumberLemmas

@@ -36,7 +36,7 @@ below test (suc n) v counts =
       | false ↦ λ h. let less = below test n v h in omega arith
     ] counts
 
-counted_below : (test : ℕ → Bool) (v : ℕ) → is_among v (expired_words test) ≡ true → v < 2 ^ 64
+pub counted_below : (test : ℕ → Bool) (v : ℕ) → is_among v (expired_words test) ≡ true → v < 2 ^ 64
 unfolding expired_words
 counted_below test v counts = below test (2 ^ 64) v counts
 

@@ -1,8 +1,13 @@
 //! What follows of the filter's definitions, as laws.
 #![tactic(auto)]
 
+mod ageing_laws;
 mod verdict_laws;
 
+pub use ageing_laws::{
+    ageing_filter_says_the_same, removed_sessions_are_live_for_no_later_packet,
+    removing_ended_sessions_changes_no_verdict,
+};
 pub use verdict_laws::{
     each_capture_has_one_list_of_verdicts, each_list_is_judged_once, each_packet_has_one_reading,
     full_buckets_hold_live_sessions, interfaces_are_apart, only_expired_sessions_make_room,

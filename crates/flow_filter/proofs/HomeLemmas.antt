@@ -1,11 +1,12 @@
 -- Buckets of both families' tables.
-use Rattle.std.proofs.Common.{◌≡◌, true, refl, ap₂}
+use Rattle.std.proofs.Common.{◌≡◌, ℕ, List, true, refl, ap₂}
 use Rattle.std.proofs.Math.Nat.{mod-lt}
 use Rattle.std.proofs.lemmas.Bool.{and_from, and_parts, eq-eqb, eqb-true}
 use Rattle.std.proofs.lemmas.Nat.{pow_pos}
 use Rattle.std.specs.Prelude.{◌==◌}
 use Rattle.packet_view.specs.declared.tuple.Family.{Family}
 use Rattle.packet_view.specs.declared.tuple.Family.TheVariants.{V4, V6}
+use Rattle.bihash_words.specs.Sizes.{bucket_of}
 use Rattle.session_state.specs.declared.flow.FlowKey.{FlowKey}
 use Rattle.flow_filter.specs.Updates.{words_of}
 use Rattle.flow_filter.specs.OneThread.{Home, IsHome, Layout, family_of, home_of, same_family, same_home, sizes_in}
@@ -32,7 +33,9 @@ same_as_itself a =
     (eq-eqb a.bucket a.bucket refl)
 
 -- the bucket of a key is one of its table
+pub holds_key : (l : Layout) (family : Family) (key : List ℕ)
+    → IsHome l (record { family = family; bucket = bucket_of (sizes_in l family) key })
+holds_key l family key = let z = sizes_in l family in mod-lt (z.hash key) (pow_pos z.log2_buckets)
+
 pub is_home : (l : Layout) (key : FlowKey) → IsHome l (home_of l key)
-is_home l key =
-    let z = sizes_in l (family_of key) in
-    mod-lt (z.hash (words_of key)) (pow_pos z.log2_buckets)
+is_home l key = holds_key l (family_of key) (words_of key)

@@ -59,7 +59,7 @@ before_run l home at maps counts n e events step =
     ] refl
 
 -- a run of a bucket with an event that may be of it, after that event
-after_run : (l : Layout) (home at : Home) (maps : Home → Pairs) (counts : Home → ℕ) (n : Pairs) (e : Event)
+pub after_run : (l : Layout) (home at : Home) (maps : Home → Pairs) (counts : Home → ℕ) (n : Pairs) (e : Event)
     (events : Home → List Event) → Runs (bounds_in l at.family) n (counts at + writes_of e.reply) (events at)
     → Runs (bounds_in l home.family) (maps home) (counts home)
     (if same_home home at then e ∷ events home else events home)

@@ -1,3 +1,4 @@
+pub mod Ageing
 pub mod Deciders
 pub mod Filters
 pub mod InterfaceFilters
