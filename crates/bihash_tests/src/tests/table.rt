@@ -1,14 +1,15 @@
 //! The shared table: worked rows with one try a call, searches that take no lock, threads, calls that wait, and
 //! tables that end.
-ghost use Rattle.std.specs.Prelude.{◌≡◌, ◌<◌, IfSome};
+ghost use Rattle.std.specs.Prelude.{◌≡◌, ◌<◌, IfSome, nat_lt};
 ghost use Rattle.bihash_words.specs.Sizes.{sizes_of, IsSound};
 ghost use Rattle.bihash_rule.specs.Views.{nothing_held};
 
 use bihash_table::{Caller, Contended, Sessions, create, stamp};
-use bihash_words::{Add, AddIfAbsent, Delete, Reply, Shape, Tiny, Touch};
+use bihash_words::{Add, AddIfAbsent, Delete, Expiry, Reply, Shape, Tiny, Touch};
 use std::alloc::Global;
 use std::test::Fail;
 
+mod ageing;
 mod block_growth;
 mod closing;
 mod exhaustion;
@@ -21,6 +22,18 @@ mod waiting;
 
 // Eight pages, and 1000 writes to a bucket.
 type Eight = Tiny<8, 1000>;
+
+// Values below 100 are expired.
+struct BelowHundred;
+
+impl Expiry for BelowHundred {
+    ghost is_expired = { λ _ value. nat_lt value 100 };
+
+    // Shared by tests of the table: the small values that keys are added with are expired.
+    fn expired(&self, value: u64) -> bool {
+        value < 100
+    }
+}
 
 // A call, with the value that it sets.
 #[derive(Clone, Copy)]

@@ -1,10 +1,12 @@
 //! A full bucket in which pairs are expired.
-ghost use Rattle.std.specs.Prelude.{◌≡◌, ◌<◌, ◌==◌, ◌||◌, false, nat_lt};
+ghost use Rattle.std.specs.Prelude.{◌≡◌, ◌<◌, ◌==◌, ◌||◌, false};
 ghost use Rattle.std.specs.Thread.{IsSync};
 ghost use Rattle.bihash_rule.specs.Views.{nothing_held};
 
 use super::Call::Search;
-use super::{Eight, Row, add_keys_to_table, block, first_wrong, has, table_refused, two_callers};
+use super::{
+    BelowHundred, Eight, Row, add_keys_to_table, block, first_wrong, has, table_refused, two_callers,
+};
 use bihash_table::{Caller, Contended, KeyWithHash, Sessions, create, stamp};
 use bihash_words::Reply::{Changed, Full, Kept};
 use bihash_words::{Add, Expiry, Reply};
@@ -78,18 +80,6 @@ fn recycled_pair(rt: HostRuntime) -> Result<(), Fail> {
     assert!(rt; stamp(caller) == Some((0, 17)));
     assert!(rt; block(&table, caller, 0) == (4, 2, true));
     Ok(())
-}
-
-// Values below 100 are expired.
-struct BelowHundred;
-
-impl Expiry for BelowHundred {
-    ghost is_expired = { λ _ value. nat_lt value 100 };
-
-    // For the test of recycling by two threads: the values that the bucket is filled with are expired.
-    fn expired(&self, value: u64) -> bool {
-        value < 100
-    }
 }
 
 // Recycling by two threads: each enters six keys in a bucket that is full of expired pairs. Whatever their order, the
