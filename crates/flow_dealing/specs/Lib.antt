@@ -1,3 +1,4 @@
+pub mod AgeingTraces
 pub mod Dealings
 pub mod HashedFlows
 pub mod Places

@@ -10,6 +10,6 @@ pub use dealing::Dealing;
 pub use hashed_flow::{HashedFlow, key_hash};
 pub use worker_of_flow::worker_of;
 pub use worker_record_laws::{
-    few_packets_have_pages, packets_pass_at_their_places, traces_judge_each_packet,
-    workers_give_one_report,
+    ageing_workers_give_one_report, deeds_judge_each_packet, few_packets_have_pages,
+    packets_pass_at_their_places, traces_judge_each_packet, workers_give_one_report,
 };
