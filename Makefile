@@ -1,6 +1,4 @@
-# make install: the program, its manual page, the completions of its words, and what a user reads, under PREFIX.
-# make uninstall: removes them again. With DESTDIR all of it goes below that folder. `./racl` proves and builds the program
-# where that isn't done yet.
+# make: proves and builds the program. `make help` lists the rest.
 
 PREFIX = /usr/local
 BIN = $(DESTDIR)$(PREFIX)/bin
@@ -8,10 +6,22 @@ SHARE = $(DESTDIR)$(PREFIX)/share
 DOC = $(SHARE)/doc/racl
 PAGES = out/install
 
-.PHONY: install uninstall
+.PHONY: build check prove bench install uninstall help
+
+build:
+	@checks/build
+
+check:
+	@checks/quick
+
+prove:
+	@.ci/run
+
+bench: build
+	@bench/measure_filter ./racl quick
 
 install:
-	./racl --version
+	@top=. && . checks/built.sh && is_built || { echo "make install: no program is built of these sources; make proves and builds it" >&2; exit 1; }
 	mkdir -p $(PAGES)
 	install/pages ./racl $(PAGES)
 	install -D -m 755 crates/racl/out/racl $(BIN)/racl
@@ -25,3 +35,12 @@ install:
 uninstall:
 	rm -f $(BIN)/racl $(SHARE)/man/man1/racl.1 $(SHARE)/bash-completion/completions/racl $(SHARE)/zsh/site-functions/_racl
 	rm -rf $(DOC)
+
+help:
+	@echo "make            proves and builds the program"
+	@echo "make check      runs the tests, which need no proof"
+	@echo "make prove      the whole gate: proofs, edits that must be refused, tests, checks"
+	@echo "make bench      times the program beside a filter in plain Rust"
+	@echo "make install    puts the program, its manual page and completions below PREFIX (/usr/local)"
+	@echo "make uninstall  removes them"
+	@echo "make help       lists these"

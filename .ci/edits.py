@@ -1,4 +1,4 @@
-"""Tries the edits that must be refused, crates/NAME/edits/*.edit: usage edits.py [CRATE [EDIT..]]
+"""Tries the edits that must be refused, crates/NAME/edits/*.edit: usage edits.py [--anew] [CRATE [EDIT..]]
 
 An edit turns the meaning of one function. It is refused where the check leaves a goal of that function unproved, or of
 one that calls it. Edits of different functions are tried together, in one check of a copy of the crate: no contract
@@ -10,8 +10,13 @@ crate. So most crates cost a check or two of a few functions, and not one for ea
 Where the toolchain's gate has left the libraries in crates/NAME/out these are used, or those of `rt check`. What an
 edit came to is told in a line; the last one is `N passed, M failed`. One that can't be applied or read has failed, and
 so has one that is refused only because a proof names what it took away, since that says nothing of the contract.
+
+Where all edits of a crate are refused this is kept on the machine, in the user's cache, under the sum of all that was read: the
+crate and those below it, the edits, the toolchain and these scripts. They are tried again by the word --anew.
 """
 import concurrent.futures
+import hashlib
+import json
 import os
 import re
 import shutil
@@ -239,6 +244,7 @@ class Trial:
 
     def __init__(self, rt, crate, wanted):
         self.rt, self.crate, self.sources, self.proved_together = rt, crate, Sources(crate.folder), set()
+        self.is_whole = not wanted
         folder = f"{crate.folder}/{EDITS}"
         names = sorted(os.listdir(folder)) if os.path.isdir(folder) else []
         self.edits = [Edit(f"{folder}/{it}", self.sources) for it in names
@@ -346,6 +352,44 @@ class Trial:
         return [(it.name, *told[it.name]) for it in self.edits]
 
 
+def read_by(trial):
+    """The sum of all that a trial of a crate's edits reads."""
+    crates = [*trial.crate.below(), trial.crate]
+    with open(f"{kit.TOP}/crates.txt", encoding="utf-8") as file:
+        lines = [it for it in file if it.split(":")[0].split(" ")[0] in {crate.name for crate in crates}]
+    digest = hashlib.sha256("".join([kit.of_sources("toolchain"), *lines]).encode())
+    folders = [f"{it.folder}/{part}" for it in crates for part in trial.rt.rtlib.PARTS] + [f"{trial.crate.folder}/{EDITS}"]
+    files = [f"{at}/{name}" for it in folders for at, _, names in os.walk(it) for name in names]
+    for path in [os.path.abspath(__file__), os.path.abspath(kit.__file__), *sorted(files)]:
+        with open(path, "rb") as file:
+            content = file.read()
+        digest.update(f"{os.path.relpath(path, kit.TOP)} {len(content)}\n".encode() + content)
+    return digest.hexdigest()
+
+
+def results_of(trial, anew):
+    """What the edits of a crate come to, as they are tried or as that was kept."""
+    cache = os.environ.get("XDG_CACHE_HOME") or os.path.expanduser("~/.cache")
+    path = f"{cache}/racl/edits/{read_by(trial)}"
+    if not anew:
+        try:
+            with open(path, encoding="utf-8") as file:
+                kept = {name: (is_refused, why) for name, is_refused, why in json.load(file)}
+            return [(it.name, kept[it.name][0], f"{kept[it.name][1]} (kept)") for it in trial.edits]
+        except (OSError, ValueError, KeyError):
+            pass
+    results = trial.run()
+    if trial.is_whole and all(is_refused for _, is_refused, _ in results):
+        try:
+            os.makedirs(os.path.dirname(path), exist_ok=True)
+            with open(f"{path}.{os.getpid()}", "w", encoding="utf-8") as file:
+                json.dump(results, file)
+            os.replace(f"{path}.{os.getpid()}", path)
+        except OSError:
+            pass
+    return results
+
+
 def at_once():
     found = re.search(r"MemAvailable:\s+(\d+)", open("/proc/meminfo").read())
     return max(1, min(len(os.sched_getaffinity(0)), int(found[1]) * 1024 // MEMORY_OF_A_CHECK if found else 1))
@@ -354,12 +398,14 @@ def at_once():
 def main():
     rt = kit.toolchain()
     os.chdir(kit.TOP)
-    trials = [Trial(rt, it, sys.argv[2:]) for it in kit.crates(rt) if not sys.argv[1:] or it.name == sys.argv[1]]
+    words = [it for it in sys.argv[1:] if it != "--anew"]
+    anew = len(words) < len(sys.argv[1:])
+    trials = [Trial(rt, it, words[1:]) for it in kit.crates(rt) if not words or it.name == words[0]]
     length = lambda it: sum(map(os.path.getsize, rt.rtlib.files_of(it.crate.folder)))
     trials = sorted((it for it in trials if it.edits), key=length, reverse=True)
     passed = failed = 0
     with concurrent.futures.ThreadPoolExecutor(at_once()) as pool:
-        for trial, results in zip(trials, pool.map(Trial.run, trials)):
+        for trial, results in zip(trials, pool.map(lambda it: results_of(it, anew), trials)):
             for name, is_refused, why in results:
                 print(f"{trial.crate.name}/{name}: {why[:200]}", flush=True)
                 passed, failed = passed + is_refused, failed + (not is_refused)

@@ -1,5 +1,5 @@
-"""Runs the gate, the edits that must be refused and the checks, says how long each part took, and adds up what passed and
-failed.
+"""Runs the tests that need no proof, the gate, the edits that must be refused and the checks, says how long each part took, and adds
+up what passed and failed. Where one of these tests fails the rest isn't run, so that a broken change is told in minutes.
 
 The gate is `rt ci`, which leaves each library and program that it proved in crates/NAME/out, a program as LLVM builds it
 and as Rattle's own compiler does. Where all of it passed, the launcher takes the first one for the program of these
@@ -12,6 +12,9 @@ import shutil
 import subprocess
 import sys
 import time
+
+sys.dont_write_bytecode = True
+import kit
 
 PROGRAM = "crates/racl/out/racl"
 TABLE_PROGRAM = "crates/table_alloc_probe/out/table_alloc_probe"
@@ -79,17 +82,10 @@ def held_back():
     return lock
 
 
-def of_sources(words, *given):
-    """What a word of checks/built.sh prints."""
-    ran = subprocess.run(["sh", "-c", f'top=. && . checks/built.sh && {words}', "sh", *given], check=True, text=True,
-                         stdout=subprocess.PIPE)
-    return ran.stdout.strip()
-
-
 def programs_after(has_passed, sources):
     """The programs to check: where the gate passed, the launcher takes its program for that of the sources."""
-    if has_passed and of_sources("sources_digest") == sources:
-        of_sources('write_record "$1" "$(toolchain)"', sources)
+    if has_passed and kit.of_sources("sources_digest") == sources:
+        kit.of_sources('write_record "$1" "$(toolchain)"', sources)
         program = "./racl"
     else:
         program = PROGRAM
@@ -103,21 +99,27 @@ def used():
 
 
 def main():
+    start = time.monotonic()
+    quick = counted(*followed([sys.executable, "checks/quick"], lambda _: None))
+    print(f"the tests that need no proof took {time.monotonic() - start:.0f} s and {used() / 60:.1f} processor minutes", flush=True)
+    if quick[1]:
+        print(f"{quick[0]} passed, {quick[1]} failed")
+        sys.exit(1)
     with held_back():
-        times, sources = Times(), of_sources("sources_digest")
+        times, sources, of_quick = Times(), kit.of_sources("sources_digest"), used()
         status, last = followed(["rt", "ci"], times.look)
-        total, of_gate = time.monotonic() - times.start, used()
+        total, of_gate = time.monotonic() - times.start, used() - of_quick
         gate = counted(status, last)
         # where the gate left no program, none is built for the checks: that would only fail again
         is_there = os.path.exists(PROGRAM)
         programs = programs_after(status == 0 and gate[1] == 0, sources) if is_there else []
         start = time.monotonic()
-        counts = [gate, counted(*followed([sys.executable, ".ci/edits.py"], lambda _: None)) if is_there else (0, 1)]
-        of_edits, spent = used() - of_gate, time.monotonic() - start
+        counts = [quick, gate, counted(*followed([sys.executable, ".ci/edits.py"], lambda _: None)) if is_there else (0, 1)]
+        of_edits, spent = used() - of_quick - of_gate, time.monotonic() - start
     start = time.monotonic()
     if is_there:
         built = [it + by for it in (PROGRAM, TABLE_PROGRAM) for by in ("", BY_RATTLE)]
-        checks = (["checks/house"], ["checks/documents"], ["checks/launcher"], ["checks/install"], ["checks/run", *programs],
+        checks = (["checks/house"], ["checks/documents"], ["checks/launcher", "--trial"], ["checks/install"], ["checks/run", *programs],
                   ["checks/refused_memory", *built], ["checks/c_library"])
         counts += [counted(*followed(it, lambda _: None)) for it in checks]
     else:
@@ -125,7 +127,7 @@ def main():
     times.tell(total, of_gate)
     print(f"the edits took {spent:.0f} s and {of_edits / 60:.1f} processor minutes")
     of = "the programs that rt ci built" if is_there else "no program"
-    of_checks = used() - of_gate - of_edits
+    of_checks = used() - of_quick - of_gate - of_edits
     print(f"the checks of {of} took {time.monotonic() - start:.0f} s and {of_checks / 60:.1f} processor minutes")
     passed, failed = (sum(it[part] for it in counts) for part in (0, 1))
     print(f"{passed} passed, {failed} failed")

@@ -1,8 +1,9 @@
-"""The toolchain's own command as a module, for the words that it gives its checker, and the crates as it sees them."""
+"""The toolchain's own command as a module, the crates as it sees them, and what checks/built.sh says of the sources."""
 import importlib.machinery
 import importlib.util
 import os
 import shutil
+import subprocess
 
 TOP = os.path.dirname(os.path.dirname(os.path.abspath(__file__)))
 
@@ -18,3 +19,10 @@ def toolchain():
 def crates(rt):
     known = {}
     return [rt.rtlib.Crate(folder, TOP, known) for folder in rt.rtlib.listed(TOP)]
+
+
+def of_sources(words, *given):
+    """What words of checks/built.sh print."""
+    ran = subprocess.run(["sh", "-c", f'top=$0 && . "$top/checks/built.sh" && {words}', TOP, *given], check=True, text=True,
+                         stdout=subprocess.PIPE)
+    return ran.stdout.strip()

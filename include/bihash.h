@@ -9,8 +9,9 @@
    are answered CONTENDED until it goes on, so a loop may yield after some tries.
 
    What one caller was answered, another finds: the answered calls on a key stand in one order, and a call that begins
-   after another was answered stands behind it. Calls order no other memory: what a value points to is handed on by
-   other means.
+   after another was answered stands behind it. That is proved of what calls ensure and of the table's states between two
+   steps; no contract can name the state in which a call begins. Calls order no other memory: what a value points to is
+   handed on by other means.
 
    A bucket has its pairs in a block of 1, 2, 4 .. or 64 of the table's pages, of 4 places each. With keys spread at
    random a new table of keys of two words took some 28,000 pairs until a bucket's next block wasn't there (7,000 of five

@@ -9,3 +9,4 @@ pub mod LogRuns
 pub mod LoggedCalls
 pub mod MapSteps
 pub mod OneWriter
+pub mod RealTime

@@ -2,5 +2,6 @@ pub mod CallRuns
 pub mod LogLaws
 pub mod LogRuns
 pub mod Orders
+pub mod RealTime
 pub mod Recyclings
 pub mod Serializations

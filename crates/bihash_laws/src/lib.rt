@@ -1,9 +1,14 @@
 //! What the answers of a shared session table mean for those who share it, as laws.
 #![tactic(auto)]
 
+mod call_time_laws;
 mod caller_laws;
 mod row_log_laws;
 
+pub use call_time_laws::{
+    answered_calls_stand_in_real_time, callers_are_yet_to_call, calls_are_answers,
+    calls_are_entered_while_they_run, calls_go_on, steps_go_on,
+};
 pub use caller_laws::{
     agreeing_callers_have_one_order, agreeing_callers_share_a_history, answers_are_the_maps,
     answers_stand_after_what_was_known, calls_have_one_order, changed_alone_writes,

@@ -45,6 +45,8 @@ pub fn calls_stand_in_real_time()
 /// are answers (`answers`), and what had been answered when it began stands before each call that is answered after its
 /// end, in the log of each later state.
 pub fn runs_answer_in_real_time()
+    ensures continues { (z : Sizes) (s : RowState) (ts : List RowState) → WordRule z s → IsStepRun z s ts
+        → Continues s.views (end_of s ts).views }
     ensures grows { (z : Sizes) (s : RowState) (ts : List RowState) (r : WordRule z s) → IsStepRun z s ts
         → (r' : WordRule z (end_of s ts)) → Begins (log_of r) (log_of r') }
     ensures answers { (z : Sizes) (s s' : RowState) (id : ℕ) (v after w : View) (c : Call) → get_elem? s.views id ≡ some v

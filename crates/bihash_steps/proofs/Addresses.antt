@@ -20,7 +20,8 @@ use Rattle.bihash_rule.specs.declared.view.HeldBlock.{HeldBlock}
 use Rattle.bihash_rule.specs.declared.view.OpenBucket.{OpenBucket}
 use Rattle.bihash_rule.specs.declared.view.View.{View}
 use Rattle.bihash_steps.proofs.BucketPlaces.{one_place}
-use Rattle.bihash_steps.proofs.bucket_steps.LoadBucket.{bucket_fits, loads_bucket}
+use Rattle.bihash_steps.proofs.bucket_steps.LoadBucket.{loads_bucket}
+use Rattle.bihash_steps.proofs.bucket_steps.WordFields.{bucket_fits}
 use Rattle.bihash_steps.proofs.bucket_steps.LockFrom.{locks_bucket}
 use Rattle.bihash_steps.proofs.bucket_steps.LockedWords.{held_bucket, loads_locked_word, stores_locked_word}
 use Rattle.bihash_steps.proofs.bucket_steps.Release.{unlocks_bucket, answers_call}

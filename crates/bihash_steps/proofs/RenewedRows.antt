@@ -34,7 +34,8 @@ use Rattle.bihash_steps.proofs.Frames.{store_keeps}
 use Rattle.bihash_steps.proofs.Homes.{after_home}
 use Rattle.bihash_steps.proofs.OwnedWords.{runs_same}
 use Rattle.bihash_steps.proofs.WholeHistories.{whole_known}
-use Rattle.bihash_steps.proofs.bucket_steps.LoadBucket.{bucket_fits, is_found, lone_finds_none}
+use Rattle.bihash_steps.proofs.bucket_steps.LoadBucket.{is_found, lone_finds_none}
+use Rattle.bihash_steps.proofs.bucket_steps.WordFields.{bucket_fits}
 use Rattle.bihash_steps.proofs.caller_steps.LoadCount.{known_sum}
 use Rattle.bihash_steps.proofs.pool_steps.PoolLock.{alone_open}
 

@@ -128,6 +128,7 @@ found_bucket z b found word t t' i i' m m' state row seat stood before told =
       same = λ k. caller_state (row k) (seat k) m'.0;
       seen = told.seen;
       lone = told.lone;
+      again = told.again;
       whole = told.whole;
       lawful = told.lawful;
     })

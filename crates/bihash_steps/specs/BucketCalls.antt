@@ -8,7 +8,7 @@ use Rattle.bihash_words.specs.declared.patch.Change.{Change}
 use Rattle.bihash_words.specs.declared.patch.Reply.{Reply}
 use Rattle.bihash_rule.specs.Callers.{IsLawfulCaller, known_at}
 use Rattle.bihash_rule.specs.Buckets.{open_word}
-use Rattle.bihash_steps.specs.BucketSteps.{Enters, RestsOn, SeesLocked, SeesOpen, TakesLock, without_notes, view_after_validate}
+use Rattle.bihash_steps.specs.BucketSteps.{Enters, RestsOn, RestsOpen, SeesLocked, SeesOpen, TakesLock, without_notes, view_after_validate}
 use Rattle.bihash_steps.specs.Seats.{CallerState, IsSameSeat, with_view}
 use Rattle.bihash_rule.specs.Views.{nothing_held}
 use Rattle.bihash_rule.specs.declared.view.Call.{Call}
@@ -26,11 +26,13 @@ event key found change reply = record {
   recycling = no_recycling;
 }
 
--- A bucket's word was loaded. A lone caller that holds no lock finds it unlocked, and knew the history before.
+-- A bucket's word was loaded. A lone caller that holds no lock finds it unlocked, and knew the history before. Where the
+-- word is the one that was noted, what was read since holds.
 pub record FindsBucket (z : Sizes) (s t : CallerState) (b word : ℕ) : Type 0 where
   pub same : IsSameSeat s t
   pub seen : SeesOpen z s.view b word t.view ⊎ SeesLocked s.view word t.view
   pub lone : s.view.lone ≡ true → s.view.holds.bucket ≡ None → SeesOpen z s.view b word t.view
+  pub again : RestsOpen s.view b word
   pub whole : s.view.lone ≡ true → known_at t.view.known b ≡ known_at s.view.known b
   pub lawful : IsLawfulCaller z t.view
 

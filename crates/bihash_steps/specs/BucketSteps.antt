@@ -77,11 +77,18 @@ pub record SeesLocked (v : View) (word : ℕ) (w : View) : Type 0 where
   pub stood : word ≡ packed (word_of extent true version)
   pub is : w ≡ without_notes v
 
+-- What was noted of bucket b, where its word is found again: the words that were read are those of its block. A lone
+-- caller finds that word.
+pub record RestsOpen (v : View) (b word : ℕ) : Type 0 where
+  pub reads : (o : OpenBucket) → v.notes.open_bucket ≡ Some o → o.bucket ≡ b → word ≡ open_word o → AreReadIn o.reads o.block
+  pub alone : v.lone ≡ true → (o : OpenBucket) → v.notes.open_bucket ≡ Some o → o.bucket ≡ b → word ≡ open_word o
+
 -- a lone caller that has no lock finds none, and knew the history before
 pub record TellsBucket (z : Sizes) (b : ℕ) (m : ViewOfSeat) (found : ℕ) (m' : ViewOfSeat) : Type 0 where
   pub slots : m'.1 ≡ m.1
   pub seen : SeesOpen z m.0 b found m'.0 ⊎ SeesLocked m.0 found m'.0
   pub lone : m.0.lone ≡ true → m.0.holds.bucket ≡ None → SeesOpen z m.0 b found m'.0
+  pub again : RestsOpen m.0 b found
   pub lawful : IsLawfulCaller z m'.0
   pub whole : m.0.lone ≡ true → known_at m'.0.known b ≡ known_at m.0.known b
 

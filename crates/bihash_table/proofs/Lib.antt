@@ -9,11 +9,13 @@ pub mod Copies
 pub mod Count
 pub mod Decisions
 pub mod ExpiredPairs
+mod ExpiredReads
 pub mod HolderWrites
 pub mod LargerBlocks
 pub mod LockCounts
 pub mod LockReleases
 pub mod LocklessCalls
+mod LooksInTurn
 pub mod NewPairs
 pub mod OpenPlaces
 pub mod OpenReadLemmas

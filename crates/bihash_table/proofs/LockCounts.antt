@@ -8,7 +8,7 @@ use Rattle.bihash_rule.specs.declared.view.Record.{Record}
 use Rattle.bihash_rule.specs.declared.view.View.{View}
 use Rattle.bihash_table.specs.Answers.{locks_of}
 use Rattle.bihash_table.specs.inner.Locked.{IsLocked}
-use Rattle.bihash_table.specs.Tries.{TookAtMost, TookByTries, try_locks}
+use Rattle.bihash_table.specs.Tries.{TookAtMost, TookByTries, TookInTries, try_locks}
 
 -- an entry is no lock
 pub pushed_locks : (c : Call) (rs : List Record) → locks_of (push_call c rs) ≡ locks_of rs
@@ -48,14 +48,16 @@ took_after u v w n same t = record {
 }
 
 -- so many tries were contended, and the next was answered
-pub took_by_tries : (u v w : View) (n : ℕ) (reply : Reply) → TookAtMost u v n → (u.lone ≡ true → n ≡ 0)
-    → TookAtMost v w (try_locks (Ok reply)) → TookByTries u w reply
-took_by_tries u v w n reply before first last =
+pub took_in_tries : (u v w : View) (n last : ℕ) → TookAtMost u v n → (u.lone ≡ true → n ≡ 0) → TookAtMost v w last → TookInTries u w last
+took_in_tries u v w n last before first then =
     let same : n ≡ n + 1 - 1 = omega arith in
     record {
       tries = n + 1;
       some = omega arith;
       alone = λ lone. ap (λ (k : ℕ). k + 1) (first lone);
-      took = subst (λ (k : ℕ). TookAtMost u w (k + try_locks (Ok reply))) same
-          (took_then u v w n (try_locks (Ok reply)) before last);
+      took = subst (λ (k : ℕ). TookAtMost u w (k + last)) same (took_then u v w n last before then);
     }
+
+pub took_by_tries : (u v w : View) (n : ℕ) (reply : Reply) → TookAtMost u v n → (u.lone ≡ true → n ≡ 0)
+    → TookAtMost v w (try_locks (Ok reply)) → TookByTries u w reply
+took_by_tries u v w n reply before first then = took_in_tries u v w n (try_locks (Ok reply)) before first then

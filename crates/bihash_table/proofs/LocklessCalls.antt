@@ -40,6 +40,11 @@ module _ (z : Sizes) (v u : View) (b word : ℕ) (inside : b < buckets z) (free 
   map_is : map_now u b ≡ after (opening_at v.known b) s.history (length s.history)
   map_is = λ i. after (opening_is i) (known_is i) (length (known_is i))
 
+  -- nobody wrote since where the word has the version that was known
+  pub map_still : length s.history ≤ length (known_at v.known b) → map_now u b ≡ map_now v b
+  map_still few = let same = prefix_whole (known_at v.known b) s.history s.found.begins few in
+      map_is ∙ (λ i. after (opening_at v.known b) (sym same i) (length (sym same i)))
+
   pub opened : IsOpened z v u b word
   opened = record {
     history = s.history;

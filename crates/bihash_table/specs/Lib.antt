@@ -1,3 +1,4 @@
+pub mod Ageing
 pub mod Answers
 pub mod Calls
 pub mod Closing

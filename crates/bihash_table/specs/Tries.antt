@@ -33,13 +33,17 @@ pub record TookAtMost (v w : View) (most : ℕ) : Type 0 where
   pub rises : locks_of v.records ≤ locks_of w.records
   pub few : locks_of w.records ≤ locks_of v.records + most
 
--- A call tried so often until it was answered so. Each try but the last took one lock at most, and the last what
--- its reply allows. A lone caller tries once.
-pub record TookByTries (v w : View) (reply : Reply) : Type 0 where
+-- A call tried so often until it was answered. Each try but the last took one lock at most, and the last so many. A lone
+-- caller tries once.
+pub record TookInTries (v w : View) (last : ℕ) : Type 0 where
   pub tries : ℕ
   pub some : 1 ≤ tries
   pub alone : v.lone ≡ true → tries ≡ 1
-  pub took : TookAtMost v w (tries - 1 + try_locks (Ok reply))
+  pub took : TookAtMost v w (tries - 1 + last)
+
+-- the same of an update that was answered so, whose last try took what its reply allows
+abbrev pub TookByTries : View → View → Reply → Type 0
+TookByTries v w reply = TookInTries v w (try_locks (Ok reply))
 
 -- One try of an update that finds room, on a value that was found and what was decided on it: it was answered, or
 -- contended. A lone caller is answered.

@@ -1,5 +1,6 @@
 -- Definitions that go as the code goes. No promise is said by them.
 pub mod Copying
+pub mod ExpiredPairs
 pub mod Laid
 pub mod Locked
 pub mod OpenReads

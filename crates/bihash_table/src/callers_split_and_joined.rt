@@ -38,6 +38,7 @@ impl<S: Shape> Sessions<S> {
         ensures agree { IfOk result (λ r. Agrees r.0.seat.view r.1.seat.view) }
         ensures refused { IfErr result (λ r. (r.1.seat ≡ with_view caller.seat r.1.seat.view)
             × IsRefused (sizes_of S.Shape) caller.seat.view r.0 r.1.seat.view) }
+        ensures back { IfErr result (λ r. IsLawfulCaller (sizes_of S.Shape) caller.seat.view → IsLawfulCaller (sizes_of S.Shape) r.1.seat.view) }
     {
         self.row.split(alloc, caller)
     }

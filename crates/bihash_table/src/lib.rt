@@ -2,6 +2,7 @@
 #![tactic(auto)]
 
 mod block_place_count;
+mod bucket_ageing;
 mod bucket_lock;
 mod callers_split_and_joined;
 mod change_in_place;

@@ -112,7 +112,7 @@ fn is_idle(change: Change, found: Option<u64>) -> bool
 }
 
 // Gives a reply that is no write and leaves the block in place, where the bucket still has the word that was seen.
-fn answer_try<S: Shape>(
+pub(crate) fn answer_try<S: Shape>(
     row: &Row<S>,
     seat: &mut CallerSeat<S>,
     seen: &SeenBucket<'_, S>,

@@ -30,9 +30,9 @@ use Rattle.flow_filter.specs.Updates.{words_of}
 use Rattle.flow_filter.specs.Judged.{AreAsked, IsAsked}
 use Rattle.flow_filter.specs.OneThread.{Home, bounds_in, family_of, home_of, same_family, same_home, sizes_in}
 use Rattle.flow_filter.proofs.HomeLemmas.{families_are_one}
-use Rattle.flow_dealing.specs.declared.dealing.Dealing.{Dealing}
-use Rattle.flow_dealing.specs.declared.dealing.Dealing.TheVariants.{Bucket}
-use Rattle.flow_dealing.specs.Dealings.{Deal, flow_of_reading, worker_of}
+use Rattle.packet_dealing.specs.declared.dealing.Dealing.{Dealing}
+use Rattle.packet_dealing.specs.declared.dealing.Dealing.TheVariants.{Bucket}
+use Rattle.packet_dealing.specs.Dealings.{Deal, flow_of_reading, worker_of}
 use Rattle.flow_dealing.specs.WorkerRecords.{AreRecorded, IsByOwner, events_by}
 use Rattle.flow_dealing.proofs.DealtEvents.{events_by-nil, events_by-removes, worker_few}
 use Rattle.flow_dealing.proofs.Places.{after_map}

@@ -23,9 +23,9 @@ use Rattle.flow_filter.specs.Readings.{AreReadings}
 use Rattle.flow_filter.specs.Updates.{update_of}
 use Rattle.flow_filter.proofs.OneThreadLemmas.{some_verdicts}
 use Rattle.filter_laws.proofs.AgeingLemmas.{aged_verdicts}
-use Rattle.flow_dealing.specs.declared.dealing.Dealing.TheVariants.{Bucket}
+use Rattle.packet_dealing.specs.declared.dealing.Dealing.TheVariants.{Bucket}
 use Rattle.flow_dealing.specs.Views.{view_in}
-use Rattle.flow_dealing.specs.Dealings.{Deal, flow_of_reading, worker_of}
+use Rattle.packet_dealing.specs.Dealings.{Deal, flow_of_reading, worker_of}
 use Rattle.flow_dealing.specs.WorkerRecords.{AreJudged, AreJudgedBetween, HavePages, IsByOwner, RemoveInTime}
 use Rattle.flow_dealing.proofs.OneOwner.{owner, runs_at}
 use Rattle.flow_dealing.proofs.PacketCalls.{IsFlowEvent, asked_flow, call_of_packet, some_worker}

@@ -22,7 +22,7 @@ use Rattle.flow_filter.specs.Updates.{update_in, update_of, words_of}
 use Rattle.flow_filter.specs.Judged.{AreAsked, IsAsked, IsAskedBy, Judged}
 use Rattle.flow_filter.specs.OneThread.{Home, Layout, add_event, family_of, home_of, same_family, same_home}
 use Rattle.flow_filter.proofs.HomeLemmas.{families_are_one, family_as_itself}
-use Rattle.flow_dealing.specs.Dealings.{Deal, flow_of_reading, worker_of}
+use Rattle.packet_dealing.specs.Dealings.{Deal, flow_of_reading, worker_of}
 use Rattle.flow_dealing.specs.WorkerRecords.{AreRecorded, IsByOwner, add_in, events_by}
 use Rattle.flow_dealing.proofs.DealtEvents.{events_by-judges, events_by-nil, events_by-removes, worker_few}
 use Rattle.flow_dealing.proofs.Places.{before_map}

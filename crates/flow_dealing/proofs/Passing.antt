@@ -26,7 +26,7 @@ use Rattle.session_state.specs.Passes.{passes}
 use Rattle.flow_filter.proofs.HomeLemmas.{family_as_itself}
 use Rattle.flow_filter.proofs.PassingLemmas.{pass_by_reading}
 use Rattle.flow_dealing.specs.Views.{view_in}
-use Rattle.flow_dealing.specs.Dealings.{Deal, flow_of_reading, worker_of}
+use Rattle.packet_dealing.specs.Dealings.{Deal, flow_of_reading, worker_of}
 use Rattle.flow_dealing.specs.Places.{HasPlace, PassesAtPlace}
 use Rattle.flow_dealing.specs.WorkerRecords.{AreJudgedBetween, is_in}
 use Rattle.flow_dealing.proofs.FewPackets.{flow_inside}

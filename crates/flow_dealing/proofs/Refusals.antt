@@ -33,7 +33,7 @@ use Rattle.flow_filter.specs.Updates.{Update, reflects, update_in, update_of}
 use Rattle.flow_filter.specs.Judged.{IsAskedBy, Judged, verdict_by_event, verdict_on, verdict_with}
 use Rattle.flow_filter.specs.Verdicts.{verdict_by, verdict_entered, verdict_of, verdict_of_rules, verdict_reflected}
 use Rattle.flow_filter.specs.OneThread.{HasPages}
-use Rattle.flow_dealing.specs.Dealings.{flow_of_reading}
+use Rattle.packet_dealing.specs.Dealings.{flow_of_reading}
 
 -- ---- On the map
 

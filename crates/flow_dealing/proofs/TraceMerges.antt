@@ -19,7 +19,7 @@ use Rattle.flow_filter.specs.Readings.{AreReadings, IsReading}
 use Rattle.flow_filter.specs.Updates.{update_of}
 use Rattle.flow_filter.specs.Judged.{IsAsked, readings_of, verdicts_on}
 use Rattle.flow_dealing.specs.Views.{Views, view_in}
-use Rattle.flow_dealing.specs.Dealings.{Deal, flow_of_frame, worker_of}
+use Rattle.packet_dealing.specs.Dealings.{Deal, flow_of_frame, worker_of}
 use Rattle.flow_dealing.specs.Traces.{AreGathered, ArePlaced, AreTraces, AreFrames, Item, calls_in, judged_of, numbers_from}
 use Rattle.flow_dealing.specs.AgeingTraces.{Aged, AreAllAged, AreAllDeeds, AreInOrder, CameOf, Deed, HaveDone, KeepTime, Takes, aged_in, calls_by, items_in, removal_by}
 use Rattle.flow_dealing.specs.WorkerRecords.{AreJudgedBy, IsByOwner, add_in}
@@ -82,16 +82,18 @@ module _ (d : Deal) (times : Timeouts) (policy : PolicyFacts) (packets : List Pa
 
   -- what is known of a removal, as a deed and as a step
   record IsKnownOf (w : ℕ) (a : Aged) : Type 0 where
+    few : w < d.workers
     ended : IsOfExpired times (removal_by w a)
     own : AreByOwner → IsByOwner d (removal_by w a)
     timed : (kt : KeepTime packets all) → a.moment ≡ kt.clock a.behind
 
   record IsKnownIn (r : Removal) : Type 0 where
+    few : r.worker < d.workers
     ended : IsOfExpired times r
     own : AreByOwner → IsByOwner d r
 
   known_in : (w : ℕ) (a : Aged) → IsKnownOf w a → IsKnownIn (removal_by w a)
-  known_in w a known = record { ended = known.ended; own = known.own }
+  known_in w a known = record { few = known.few; ended = known.ended; own = known.own }
 
   module _ (v : Views) (verdicts : List Verdict) (some_worker : 0 < d.workers)
       (are : AreAllDeeds d times policy packets all) (done : (family : Family) → HaveDone d times family all (view_in v family))
@@ -113,6 +115,7 @@ module _ (d : Deal) (times : Timeouts) (policy : PolicyFacts) (packets : List Pa
               (own_items d times policy packets (map items_in all) verdicts placed w (items_in t.0)
               (after_map items_in all w t.0 t.1) is.trace) at);
           aged = all_from (IsKnownOf w) (aged_in t.0) (λ k a at. record {
+            few = few;
             ended = all_at (λ b. IsOfExpired times (removal_by w b)) (aged_in t.0) k a is.ended at;
             own = λ own. all_at (λ b. IsByOwner d (removal_by w b)) (aged_in t.0) k a (own w t.0 t.1) at;
             timed = λ kt. all_at (λ b. b.moment ≡ kt.clock b.behind) (aged_in t.0) k a (kt.removals_keep w t.0 t.1) at;
@@ -140,6 +143,7 @@ module _ (d : Deal) (times : Timeouts) (policy : PolicyFacts) (packets : List Pa
         packets_are = m.packets_are;
         removals_are = refl;
         ended = All-weaker IsKnownIn (IsOfExpired times) (λ r known. known.ended) (removals_in m.steps) m.removed;
+        by = All-weaker IsKnownIn (λ r. r.worker < d.workers) (λ r known. known.few) (removals_in m.steps) m.removed;
         views = v;
         recorded = λ family. let g = done family in record {
           lawful = g.lawful;
@@ -235,6 +239,7 @@ module _ (d : Deal) (times : Timeouts) (policy : PolicyFacts) (packets : List Pa
       packets_are = m.packets_are;
       removals_are = none_left (removals_in m.steps) m.removed;
       ended = All-nil (IsOfExpired times);
+      by = All-nil (λ (r : Removal). r.worker < d.workers);
       views = v;
       recorded = λ family. let g = gathered family in record {
         lawful = g.lawful;

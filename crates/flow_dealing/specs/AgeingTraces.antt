@@ -17,7 +17,7 @@ use Rattle.session_state.specs.declared.verdict.Verdict.{Verdict}
 use Rattle.flow_filter.specs.Ageing.{IsOfExpired, NeverFall, Removal, moment_of}
 use Rattle.flow_filter.specs.OneThread.{same_family, sizes_in}
 use Rattle.flow_filter.specs.Updates.{update_of}
-use Rattle.flow_dealing.specs.Dealings.{Deal}
+use Rattle.packet_dealing.specs.Dealings.{Deal}
 use Rattle.flow_dealing.specs.Traces.{IsTrace, Item}
 use Rattle.flow_dealing.specs.Views.{Views}
 use Rattle.flow_dealing.specs.Wanted.{HaveWanted}

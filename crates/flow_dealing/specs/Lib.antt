@@ -1,6 +1,4 @@
 pub mod AgeingTraces
-pub mod Dealings
-pub mod HashedFlows
 pub mod Places
 pub mod Traces
 pub mod Views

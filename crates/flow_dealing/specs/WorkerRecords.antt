@@ -1,6 +1,6 @@
 -- What many workers leave: one event for each packet of a flow, in the record of the worker that it was dealt to, and one for
 -- each session that they remove.
-use Rattle.std.specs.Prelude.{◌≡◌, ◌≢◌, ◌≤◌, ◌*◌, ◌%◌, ◌^◌, ℕ, ◌+◌, ◌==◌, ◌&&◌, Bool, true, false, count_by, if◌then◌else◌, List, [], ◌∷◌, length, map, Option, Some, None, All}
+use Rattle.std.specs.Prelude.{◌≡◌, ◌≢◌, ◌≤◌, ◌<◌, ◌*◌, ◌%◌, ◌^◌, ℕ, ◌+◌, ◌==◌, ◌&&◌, Bool, true, false, count_by, if◌then◌else◌, List, [], ◌∷◌, length, map, Option, Some, None, All}
 use lib.ListN.{get_elem?}
 use mathlib.Core.Option.{some}
 use Rattle.packet_view.specs.Captures.{PacketFacts}
@@ -22,7 +22,7 @@ use Rattle.flow_filter.specs.Updates.{Update, update_of}
 use Rattle.flow_filter.specs.Judged.{IsAsked, Judged, verdict_on}
 use Rattle.flow_filter.specs.OneThread.{HasPages, Layout, bounds_in, family_of, same_family, sizes_in}
 use Rattle.flow_dealing.specs.Views.{Views, view_in}
-use Rattle.flow_dealing.specs.Dealings.{Deal, flow_of_reading, worker_of}
+use Rattle.packet_dealing.specs.Dealings.{Deal, flow_of_reading, worker_of}
 use Rattle.flow_dealing.specs.Wanted.{HaveWanted}
 
 -- What came of an update of this family, an event or a call, stands before the others. An update of which nothing came can't
@@ -56,8 +56,8 @@ pub record AreRecorded (d : Deal) (times : Timeouts) (family : Family) (steps : 
       → map event_of r.calls ≡ events_by d times family worker 0 steps
   pub wanted : HaveWanted (sizes_in d.layout family) v
 
--- The packets were judged by workers, who between them removed these sessions, each of which had ended. Each packet asked
--- once, what was said of them are the verdicts on what they found and were answered, and the events of all that the workers
+-- The packets were judged by workers, one of whom removed each of these sessions between them, which had ended. Each packet
+-- asked once, what was said of them are the verdicts on what they found and were answered, and the events of all that the workers
 -- did, in one order of steps, stand in whole records.
 pub record AreJudgedBetween (d : Deal) (times : Timeouts) (policy : PolicyFacts) (packets : List PacketFacts)
     (removals : List Removal) (verdicts : List Verdict) : Type 0 where
@@ -69,6 +69,7 @@ pub record AreJudgedBetween (d : Deal) (times : Timeouts) (policy : PolicyFacts)
   pub packets_are : packets_in steps ≡ judged
   pub removals_are : removals_in steps ≡ removals
   pub ended : All (IsOfExpired times) removals
+  pub by : All (λ r. r.worker < d.workers) removals
   pub views : Views
   pub recorded : (family : Family) → AreRecorded d times family steps (view_in views family)
 

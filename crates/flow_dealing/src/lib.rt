@@ -1,14 +1,8 @@
 //! Packets dealt to workers, and what the records of all workers say together.
 #![tactic(auto)]
 
-mod dealing;
-mod hashed_flow;
-mod worker_of_flow;
 mod worker_record_laws;
 
-pub use dealing::Dealing;
-pub use hashed_flow::{HashedFlow, key_hash};
-pub use worker_of_flow::worker_of;
 pub use worker_record_laws::{
     ageing_workers_give_one_report, deeds_judge_each_packet, few_packets_have_pages,
     packets_pass_at_their_places, traces_judge_each_packet, workers_give_one_report,

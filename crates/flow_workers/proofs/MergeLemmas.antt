@@ -22,7 +22,7 @@ use Rattle.packet_dealing.specs.declared.packet_worker.Dealer.{Dealer}
 use Rattle.acl_policy.specs.Policies.{PolicyFacts, section_of}
 use Rattle.session_state.specs.declared.verdict.Verdict.{Verdict}
 use Rattle.flow_filter.specs.OneThread.{layout_of}
-use Rattle.flow_dealing.specs.Dealings.{Deal, flow_of_frame, worker_of}
+use Rattle.packet_dealing.specs.Dealings.{Deal, flow_of_frame, worker_of}
 use Rattle.flow_dealing.specs.Traces.{AreFrames, ArePlaced, IsTrace, Item, numbers_from}
 use Rattle.flow_dealing.proofs.TraceMerges.{all_views, worker_few}
 use Rattle.flow_dealing.proofs.Places.{after_map, at_front, before_map, zip_count}

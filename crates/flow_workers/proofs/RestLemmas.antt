@@ -9,7 +9,7 @@ use Rattle.bihash_words.specs.declared.shape.Shape.{Ghosts}
 use Rattle.acl_policy.specs.Policies.{PolicyFacts}
 use Rattle.session_state.specs.declared.timeouts.Timeouts.{Timeouts}
 use Rattle.session_state.specs.declared.verdict.Verdict.{Verdict}
-use Rattle.flow_dealing.specs.Dealings.{Deal}
+use Rattle.packet_dealing.specs.Dealings.{Deal}
 use Rattle.flow_dealing.specs.WorkerRecords.{AreJudged}
 use Rattle.packet_dealing.proofs.DealtLists.{there_behind}
 use Rattle.packet_dealing.specs.Dealt.{AreDealt, AreWorkers, IsDealtTo}

@@ -28,9 +28,9 @@ mod worker_share;
 mod worker_turn;
 mod workers;
 
-pub use flow_dealing::Dealing;
 pub use flow_filter::Filter;
 pub use gate::Gate;
+pub use packet_dealing::Dealing;
 pub use packet_verdict::{judge, try_judge};
 pub use run_at_once::run_workers;
 pub use run_fault::RunFault;

@@ -7,7 +7,7 @@ use Rattle.packet_view.specs.declared.tuple.Mac.{Mac}
 use Rattle.packet_view.specs.inner.FrameSteps.{direction_of}
 use Rattle.packet_view.proofs.FrameLemmas.{goes_of, view_only}
 use Rattle.flow_filter.specs.Readings.{IsSeenAt}
-use Rattle.flow_dealing.specs.Dealings.{flow_of_frame}
+use Rattle.packet_dealing.specs.Dealings.{flow_of_frame}
 
 module _ (packet : PacketFacts) (own : Option Mac) (view : FrameFacts) (seen : IsSeenAt own packet view) where
   abbrev at : Interface

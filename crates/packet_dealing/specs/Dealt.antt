@@ -16,8 +16,8 @@ use Rattle.session_state.specs.declared.flow.FlowKey.TheVariants.{Four}
 use Rattle.session_state.specs.declared.plain_packet_flow.PlainFlow.{PlainFlow}
 use Rattle.flow_filter.specs.OneThread.{IsFlowLayout, Layout, layout_of}
 use Rattle.flow_filter.specs.Readings.{IsSeenAt}
-use Rattle.flow_dealing.specs.Dealings.{Deal, flow_of_frame, hash_in, worker_of}
-use Rattle.flow_dealing.specs.HashedFlows.{IsHashed}
+use Rattle.packet_dealing.specs.Dealings.{Deal, flow_of_frame, hash_in, worker_of}
+use Rattle.packet_dealing.specs.HashedFlows.{IsHashed}
 use Rattle.packet_dealing.specs.declared.packet_worker.Dealer.{Dealer}
 use Rattle.packet_dealing.specs.declared.plain_sighting.PlainSighting.{PlainSighting}
 use Rattle.packet_dealing.specs.declared.other_sighting.OtherSighting.{OtherSighting}

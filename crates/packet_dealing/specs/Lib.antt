@@ -1,2 +1,4 @@
+pub mod Dealings
 pub mod Dealt
+pub mod HashedFlows
 pub mod inner

@@ -2,7 +2,7 @@
 ghost use Rattle.std.specs.Prelude.{◌≡◌, ◌<◌};
 ghost use Rattle.std.specs.Option.{ForSome};
 ghost use Rattle.packet_view.specs.Frames.{frame_facts};
-ghost use Rattle.flow_dealing.specs.Dealings;
+ghost use Rattle.packet_dealing.specs.Dealings;
 
 use packet_view::Frame;
 use session_state::{Flow, orient};

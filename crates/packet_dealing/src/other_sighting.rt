@@ -4,8 +4,8 @@ ghost use Rattle.flow_filter.specs.OneThread.{IsFlowLayout, layout_of};
 ghost use Rattle.packet_dealing.specs.Dealt.{IsOtherOf};
 
 use crate::frame_flow::flow_of_frame;
+use crate::hashed_flow::HashedFlow;
 use bihash_words::Shape;
-use flow_dealing::HashedFlow;
 use packet_view::{Frame, Packet, view};
 
 /// What a packet is whose frame needn't be plain.

@@ -2,11 +2,13 @@
 ghost use Rattle.std.specs.Prelude.{◌<◌};
 ghost use Rattle.packet_view.specs.Captures.{PacketFacts};
 ghost use Rattle.flow_filter.specs.OneThread.{layout_of};
-ghost use Rattle.flow_dealing.specs.HashedFlows.{IsHashed};
+ghost use Rattle.packet_dealing.specs.HashedFlows.{IsHashed};
 ghost use Rattle.packet_dealing.specs.Dealt.{AreShapes, HasFlow, IsDealtTo};
 
+use crate::dealing::Dealing;
+use crate::hashed_flow::HashedFlow;
+use crate::worker_of_flow::worker_of;
 use bihash_words::Shape;
-use flow_dealing::{Dealing, HashedFlow, worker_of};
 
 /// What packets are dealt by.
 #[derive(Clone, Copy)]

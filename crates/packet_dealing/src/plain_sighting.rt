@@ -4,8 +4,8 @@ ghost use Rattle.packet_view.specs.Captures.{packet_facts};
 ghost use Rattle.flow_filter.specs.OneThread.{IsFlowLayout, layout_of};
 ghost use Rattle.packet_dealing.specs.Dealt.{IsSightingOf};
 
+use crate::hashed_flow::{HashedFlow, key_hash};
 use bihash_words::Shape;
-use flow_dealing::{HashedFlow, key_hash};
 use packet_view::{Packet, PlainFrame, read_plain_frame};
 use session_state::{FlowKey, PlainFlow, plain_flow};
 

@@ -15,7 +15,7 @@ use Rattle.session_state.specs.declared.verdict.Verdict.{Verdict}
 use Rattle.flow_filter.proofs.OneThreadLemmas.{one_verdicts}
 use Rattle.flow_filter.specs.Judged.{readings_of, verdict_on}
 use Rattle.flow_filter.specs.Readings.{IsReading}
-use Rattle.flow_dealing.specs.Dealings.{Deal}
+use Rattle.packet_dealing.specs.Dealings.{Deal}
 use Rattle.flow_dealing.specs.Views.{Views}
 use Rattle.flow_dealing.specs.WorkerRecords.{AreFew, AreJudged, AreJudgedBy, HasPagesIn, HavePages}
 use Rattle.flow_dealing.proofs.FewPackets.{pages_for_few}

@@ -9,7 +9,7 @@ use Rattle.session_state.specs.declared.timeouts.Timeouts.{Timeouts}
 use Rattle.flow_filter.specs.OneThread.{layout_of}
 use Rattle.flow_filter.specs.declared.interface_filters.InterfaceFilters.{InterfaceFilters}
 use Rattle.session_state.specs.declared.verdict.Verdict.{Verdict}
-use Rattle.flow_dealing.specs.Dealings.{Deal}
+use Rattle.packet_dealing.specs.Dealings.{Deal}
 use Rattle.flow_dealing.specs.Views.{Views}
 use Rattle.flow_dealing.specs.WorkerRecords.{AreJudged, AreJudgedBy}
 use Rattle.flow_workers.specs.Callers.{AreIdle, first_views, views_of}

@@ -8,8 +8,8 @@ use Rattle.bihash_words.specs.Hash.{hash_of}
 use Rattle.session_state.specs.declared.timeouts.Timeouts.{Timeouts}
 use Rattle.session_state.specs.declared.verdict.Verdict.{Verdict}
 use Rattle.flow_filter.specs.OneThread.{AreVerdicts, Layout}
-use Rattle.flow_dealing.specs.declared.dealing.Dealing.TheVariants.{Bucket}
-use Rattle.flow_dealing.specs.Dealings.{Deal}
+use Rattle.packet_dealing.specs.declared.dealing.Dealing.TheVariants.{Bucket}
+use Rattle.packet_dealing.specs.Dealings.{Deal}
 use Rattle.flow_dealing.specs.Views.{Views}
 use Rattle.flow_dealing.specs.WorkerRecords.{AreFew, AreJudged, HasPagesIn, HavePages}
 use Rattle.flow_workers.specs.Stored.{AreStored}

@@ -1,6 +1,6 @@
 //! Session tables of the size that the words ask for, and workers over them.
 ghost use Rattle.std.specs.Prelude.{[], ◌≡◌, ◌≤◌, IfOk};
-ghost use Rattle.flow_dealing.specs.declared.dealing.Dealing.TheVariants.{Bucket};
+ghost use Rattle.packet_dealing.specs.declared.dealing.Dealing.TheVariants.{Bucket};
 ghost use Rattle.racl_views.specs.Stored.{stored_facts};
 ghost use Rattle.racl_cli.specs.Crews.{AreAfter, AreFirstOf, AreIdleOf, HasFollowedAlone, HaveEndedOn, HaveJudgedSome, MayFollowAlone};
 ghost use Rattle.racl_cli.specs.Crews.{orders_for, size_of, views_with};

@@ -14,37 +14,28 @@ use Rattle.bihash_rule.specs.Callers.{known_at, opening_in}
 use Rattle.bihash_rule.specs.declared.view.Openings.{Openings}
 use Rattle.bihash_rule.specs.Blocks.{IsBlockOf}
 use Rattle.bihash_rule.specs.Partition.{of_bucket}
-use Rattle.bihash_rule.specs.Buckets.{BucketState, HoldsBucketIf, word_of}
+use Rattle.bihash_rule.specs.Buckets.{AreReadIn, BucketState, HoldsBucketIf, StandsStillIf, open_word, word_of}
 use Rattle.bihash_rule.specs.PageStores.{runs_now}
 use Rattle.bihash_rule.specs.Views.{no_notes}
 use Rattle.bihash_rule.specs.WordRule.{TableState, IsView, WordRule}
 use Rattle.bihash_steps.specs.Steps.{ViewOfSeat}
-use Rattle.bihash_steps.specs.BucketSteps.{without_notes, with_history, open_on, IsFound, SeesOpen, TellsBucket}
+use Rattle.bihash_steps.specs.BucketSteps.{without_notes, with_history, open_on, IsFound, RestsOpen, SeesOpen, TellsBucket}
 use Rattle.bihash_rule.specs.declared.view.Holdings.{Holdings}
 use Rattle.bihash_rule.specs.declared.view.LockedBucket.{LockedBucket}
+use Rattle.bihash_rule.specs.declared.view.OpenBucket.{OpenBucket}
 use Rattle.bihash_rule.specs.declared.view.View.{View}
 use Rattle.bihash_steps.proofs.KnownLists.{lawful_here, logged_at}
 use Rattle.bihash_steps.proofs.Lists.{there, no_row}
 use Rattle.bihash_steps.proofs.CountWord.{held_still, not_lone, others_apart, stays_at, kept_log}
 use Rattle.bihash_steps.proofs.NotedViews.{unnoted_view}
-use Rattle.bihash_steps.proofs.OwnedWords.{extent_near_end}
 use Rattle.bihash_steps.proofs.WholeHistories.{whole_known}
 use Rattle.bihash_steps.proofs.InformedViews.{known_learned, known_else, learned_informed}
+use Rattle.bihash_steps.proofs.bucket_steps.OpenReads.{open_still}
+use Rattle.bihash_steps.proofs.bucket_steps.WordFields.{bucket_fits, near_block}
 
 -- ---- What the word of a bucket says
 
 module _ (z : Sizes) (s : State (Unit {0}) View) (r : WordRule z s) (b : ℕ) (inside : b < buckets z) where
-  pub near_block : (r.table.bucket b).extent.page + 2 ^ (r.table.bucket b).extent.size.log2 ≤ z.pages + 1
-  near_block = extent_near_end z r.table.store.store.used (runs_now r.table.bucket r.table.store.store s.views) r.parted (of_bucket b)
-      (r.table.bucket b).extent refl (r.each_bucket b inside).pairs.absent
-
-  pub bucket_fits : (locked : Bool) → FitsWord (word_of (r.table.bucket b).extent locked (length (r.table.bucket b).history))
-  bucket_fits locked = let sound = r.sound in let ok = r.each_bucket b inside in record {
-    page = let few = sound.few_pages in let near = near_block in let some_page = pow_pos (r.table.bucket b).extent.size.log2 in omega arith;
-    log2 = let few = sound.few_buckets in let small = ok.pairs.rule.small in omega arith;
-    version = let few = sound.few_writes in let short = ok.writes.short in omega arith;
-  }
-
   -- what a caller with a number finds where nobody has the lock
   pub is_found : (id : ℕ) (v : View) → get_elem? s.views id ≡ some v → 1 ≤ length v.records → (r.table.bucket b).lock ≡ None
       → IsFound z v b (slice_index s.words (bucket_at z b)) (r.table.bucket b).history (r.table.bucket b).extent (r.table.bucket b).block
@@ -55,9 +46,9 @@ module _ (z : Sizes) (s : State (Unit {0}) View) (r : WordRule z s) (b : ℕ) (i
       let openings = sym (known.opening acts) in record {
         begins = known.begins b inside;
         writes = subst (λ (o : Openings). IsWriteList z b (opening_in o b) x.history) openings ok.writes;
-        fits = bucket_fits false;
+        fits = bucket_fits z s r b inside false;
         stood = ok.word ∙ ap (λ (lock : Option ℕ). packed (word_of x.extent (is_some lock) (length x.history))) free;
-        near = near_block;
+        near = near_block z s r b inside;
         size = ok.size;
         pairs = subst (λ (o : Openings). IsBlockOf z x.extent x.block (after (opening_in o b) x.history (length x.history))) openings ok.pairs;
         listed = let wide = known.wide in omega arith;
@@ -136,6 +127,15 @@ module _ (z : Sizes) where
       word : ℕ
       word = slice_index s.words (bucket_at z b)
 
+      again : RestsOpen v b word
+      again = record {
+        reads = λ o noted home here.
+            let h = open_still z s r id v o at noted (ap (λ (c : ℕ). slice_index s.words (bucket_at z c)) home ∙ here) in
+            subst (AreReadIn o.reads) (sym h.3) h.4;
+        alone = λ lone o noted home. ap (λ (c : ℕ). slice_index s.words (bucket_at z c)) (sym home)
+            ∙ subst (StandsStillIf z s.words) noted (ok.still lone);
+      }
+
       go : (lock : Option ℕ) → (r.table.bucket b).lock ≡ lock → (w : View) × (a : Act (Unit {0})) × Valid s.homes m.1 a
           × WordRule z (stepped s (bucket_at z b) word id m.1 w a) × TellsBucket z b m word (w, carried_after m.1 a)
       go None free =
@@ -157,6 +157,7 @@ module _ (z : Sizes) where
               slots = refl;
               seen = inl seen;
               lone = λ _ _. seen;
+              again = again;
               whole = λ lone. known_learned v b x.history (let wide = ok.informed.wide in omega arith)
                   ∙ sym (whole_known z s r id b v at lone inside);
               lawful = lawful_here z s r (seeing v b x) acts good.numbers good.informed good.lone (logged_at z s r id v at acts);
@@ -181,6 +182,7 @@ module _ (z : Sizes) where
                 is = refl;
               };
               lone = λ lone none. absurd (lone_finds_none z s r b inside id j v at lone none held);
+              again = again;
               whole = λ _. refl;
               lawful = lawful_here z s r (without_notes v) acts good.numbers good.informed good.lone (logged_at z s r id v at acts);
             },

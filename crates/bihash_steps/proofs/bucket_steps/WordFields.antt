@@ -1,14 +1,16 @@
 -- What the word of a bucket tells: it holds one bucket's fields.
-use Rattle.std.proofs.Common.{◌≡◌, ℕ, ◌+◌, ◌*◌, ◌^◌, ◌<◌, ◌≤◌, Bool, true, false, true≢false, length, refl, sym, ap, ◌∙◌, subst, arith, Option, Some, None}
+use Rattle.std.proofs.Common.{◌≡◌, ℕ, ◌+◌, ◌*◌, ◌^◌, ◌<◌, ◌≤◌, Bool, true, false, true≢false, length, refl, sym, ap, ◌∙◌, subst, arith, pow_pos, Option, Some, None}
 use Rattle.std.specs.Prelude.{slice_index, is_some}
 use Rattle.atomic_table.specs.Table.{State}
 use Rattle.bihash_words.specs.Sizes.{Sizes}
 use Rattle.bihash_words.specs.Words.{Bucket, FitsWord, bit, packed}
 use Rattle.bihash_rule.specs.Words.{buckets, bucket_at}
 use Rattle.bihash_rule.specs.Buckets.{word_of}
+use Rattle.bihash_rule.specs.Partition.{of_bucket}
+use Rattle.bihash_rule.specs.PageStores.{runs_now}
 use Rattle.bihash_rule.specs.WordRule.{WordRule}
 use Rattle.bihash_rule.specs.declared.view.View.{View}
-use Rattle.bihash_steps.proofs.bucket_steps.LoadBucket.{bucket_fits}
+use Rattle.bihash_steps.proofs.OwnedWords.{extent_near_end}
 
 few_bit : (mark : Bool) → bit mark ≤ 1
 few_bit true = omega arith
@@ -42,6 +44,18 @@ packed_once x y fits fits' same =
 none_of : (lock : Option ℕ) → is_some lock ≡ false → lock ≡ None
 none_of None e = refl
 none_of (Some j) e = absurd (true≢false e)
+
+module _ (z : Sizes) (s : State (Unit {0}) View) (r : WordRule z s) (b : ℕ) (inside : b < buckets z) where
+  pub near_block : (r.table.bucket b).extent.page + 2 ^ (r.table.bucket b).extent.size.log2 ≤ z.pages + 1
+  near_block = extent_near_end z r.table.store.store.used (runs_now r.table.bucket r.table.store.store s.views) r.parted (of_bucket b)
+      (r.table.bucket b).extent refl (r.each_bucket b inside).pairs.absent
+
+  pub bucket_fits : (locked : Bool) → FitsWord (word_of (r.table.bucket b).extent locked (length (r.table.bucket b).history))
+  bucket_fits locked = let sound = r.sound in let ok = r.each_bucket b inside in record {
+    page = let few = sound.few_pages in let near = near_block in let some_page = pow_pos (r.table.bucket b).extent.size.log2 in omega arith;
+    log2 = let few = sound.few_buckets in let small = ok.pairs.rule.small in omega arith;
+    version = let few = sound.few_writes in let short = ok.writes.short in omega arith;
+  }
 
 -- a bucket whose word has no lock bit has this extent and version, and nobody has its lock
 pub unlocked_word : (z : Sizes) (s : State (Unit {0}) View) (r : WordRule z s) (b : ℕ) (x : Bucket) → b < buckets z → FitsWord x → x.locked ≡ false

@@ -60,6 +60,14 @@ pub record LocksSeen (z : Sizes) (v w : View) (b word : ℕ) : Type 0 where
   pub block : locked.lock.now ≡ bucket.block
   pub reads : AreReadIn bucket.reads bucket.block
 
+-- The bucket has still the word that it was seen with: nobody wrote since, and the words that were read are those of the
+-- block.
+pub record RestsSeen (v w : View) (b : ℕ) : Type 0 where
+  pub map : map_now w b ≡ map_now v b
+  pub bucket : OpenBucket
+  pub noted : v.notes.open_bucket ≡ Some bucket
+  pub reads : AreReadIn bucket.reads bucket.block
+
 -- a look at bucket b, which a lone caller finds unlocked: its word where it was
 pub record TellsUnlocked (z : Sizes) (s t : CallerState) (b : ℕ) (r : Option ℕ) : Type 0 where
   pub same : t ≡ with_view s t.view
@@ -76,6 +84,15 @@ pub record TellsLockTry (z : Sizes) (s t : CallerState) (b word : ℕ) (won : Bo
   pub contended : won ≡ false → IsContended z s.view t.view b
   pub no_lock : won ≡ false → t.view.records ≡ s.view.records
   pub lone : s.view.lone ≡ true → won ≡ true
+  pub lawful : IsLawfulCaller z t.view
+
+-- a look whether bucket b has still the word that it was seen with, as a lone caller finds it
+pub record TellsUnchanged (z : Sizes) (s t : CallerState) (b : ℕ) (here : Bool) : Type 0 where
+  pub same : t ≡ with_view s t.view
+  pub rests : here ≡ true → RestsSeen s.view t.view b
+  pub learned : IsContended z s.view t.view b
+  pub no_lock : t.view.records ≡ s.view.records
+  pub lone : s.view.lone ≡ true → here ≡ true
   pub lawful : IsLawfulCaller z t.view
 
 -- ---- What a call may do on what was seen

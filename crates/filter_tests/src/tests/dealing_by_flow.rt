@@ -1,6 +1,6 @@
 //! Workers of packets whose buckets were worked out by hand.
 use bihash_words::{ShapeV4, ShapeV6, flow_shapes_are_sound};
-use flow_dealing::{Dealing, HashedFlow, worker_of};
+use packet_dealing::{Dealing, HashedFlow, worker_of};
 use session_state::{Flow, FlowKey};
 
 /// The first step of SplitMix64 from 0, whose mixed value is 0xe220a8397b1dcdaf.

@@ -3,9 +3,8 @@ ghost use Rattle.std.specs.Prelude.{◌≤◌, ◌<◌, ◌+◌, ◌^◌, length
 
 use super::filter_test_refused;
 use bihash_words::{ShapeV4, ShapeV6, flow_shapes_are_sound};
-use flow_dealing::Dealing;
 use packet_dealing::{
-    Dealer, DealtChunk, DealtPacket, DealtRoom, deal_packets, see_other, see_plain,
+    Dealer, Dealing, DealtChunk, DealtPacket, DealtRoom, deal_packets, see_other, see_plain,
     worker_of_packet,
 };
 use packet_view::{Packet, Packets};

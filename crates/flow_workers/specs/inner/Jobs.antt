@@ -10,9 +10,9 @@ use Rattle.flow_filter.specs.Readings.{IsSeenAt}
 use Rattle.flow_filter.specs.InterfaceFilters.{IsReadyAt}
 use Rattle.flow_filter.specs.declared.interface_filters.InterfaceFilter.{InterfaceFilter}
 use Rattle.session_state.specs.declared.verdict.Verdict.{Verdict}
-use Rattle.flow_dealing.specs.Dealings.{flow_of_frame, worker_of}
+use Rattle.packet_dealing.specs.Dealings.{flow_of_frame, worker_of}
 use Rattle.flow_dealing.specs.Views.{Views}
-use Rattle.flow_dealing.specs.HashedFlows.{IsHashed}
+use Rattle.packet_dealing.specs.HashedFlows.{IsHashed}
 use Rattle.packet_dealing.specs.Dealt.{AreDealt, IsDealtChunk, IsDealtTo, IsFoundOf, IsOtherOf, IsSightingOf, deal_of, place_of}
 use Rattle.packet_dealing.specs.declared.packet_worker.Dealer.{Dealer}
 use Rattle.packet_dealing.specs.declared.plain_sighting.PlainSighting.{PlainSighting}

@@ -11,7 +11,7 @@ use Rattle.session_state.specs.declared.timeouts.Timeouts.{Timeouts}
 use Rattle.session_state.specs.declared.verdict.Verdict.{Verdict}
 use Rattle.flow_filter.specs.Judged.{verdict_on}
 use Rattle.flow_dealing.specs.Views.{Views}
-use Rattle.flow_dealing.specs.Dealings.{Deal}
+use Rattle.packet_dealing.specs.Dealings.{Deal}
 use Rattle.flow_dealing.specs.Traces.{AreFrames, IsItem, IsItemOf, IsTrace, Item, calls_in, judged_of, numbers_from}
 use Rattle.flow_workers.specs.inner.Wanted.{KeepWanted}
 

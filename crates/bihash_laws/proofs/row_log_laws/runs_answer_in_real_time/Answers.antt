@@ -1,5 +1,8 @@
-use Rattle.bihash_laws.proofs.LogRuns.{is_answer, run_grows, run_in_order}
+use Rattle.bihash_laws.proofs.LogRuns.{is_answer, run_continues, run_grows, run_in_order}
 use Rattle.bihash_laws.proofs.row_log_laws.runs_answer_in_real_time.Goals as goal
+
+pub returns-clause-continues : goal.returns-clause-continues
+returns-clause-continues c = run_continues
 
 pub returns-clause-grows : goal.returns-clause-grows
 returns-clause-grows c = run_grows

@@ -5,7 +5,7 @@ use Rattle.packet_view.specs.Interfaces.{Interface}
 use Rattle.packet_view.specs.PlainFrames.{IsPlainFrame}
 use Rattle.packet_view.specs.declared.plain_packet.PlainPacket.{PlainPacket}
 use Rattle.packet_view.proofs.FrameLemmas.{view_only}
-use Rattle.flow_dealing.specs.Dealings.{flow_of_frame}
+use Rattle.packet_dealing.specs.Dealings.{flow_of_frame}
 use Rattle.packet_dealing.proofs.plain_sighting.see_plain.Goals as goal
 
 pub returns : goal.returns

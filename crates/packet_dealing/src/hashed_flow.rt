@@ -1,7 +1,7 @@
 //! Flows with the hashes of their keys.
 ghost use Rattle.std.specs.Prelude.{◌≡◌, length};
 ghost use Rattle.flow_filter.specs.OneThread.{IsFlowLayout, layout_of};
-ghost use Rattle.flow_dealing.specs.Dealings.{hash_in};
+ghost use Rattle.packet_dealing.specs.Dealings.{hash_in};
 
 use bihash_words::Shape;
 use session_state::{Flow, FlowKey};
@@ -40,7 +40,7 @@ pub fn key_hash<A: Shape, B: Shape>(key: FlowKey) -> u64
 impl HashedFlow {
     ghost use Rattle.std.specs.Prelude.{◌≡◌};
     ghost use Rattle.flow_filter.specs.OneThread.{IsFlowLayout, layout_of};
-    ghost use Rattle.flow_dealing.specs.HashedFlows.{IsHashed};
+    ghost use Rattle.packet_dealing.specs.HashedFlows.{IsHashed};
 
     /// A packet's flow with its hash.
     #[inline(always)]

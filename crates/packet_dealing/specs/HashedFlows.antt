@@ -2,8 +2,8 @@
 use Rattle.std.specs.Prelude.{◌≡◌}
 use Rattle.std.specs.Option.{ForSome}
 use Rattle.flow_filter.specs.OneThread.{Layout}
-use Rattle.flow_dealing.specs.Dealings.{hash_in}
-use Rattle.flow_dealing.specs.declared.hashed_flow.HashedFlow.{HashedFlow}
+use Rattle.packet_dealing.specs.Dealings.{hash_in}
+use Rattle.packet_dealing.specs.declared.hashed_flow.HashedFlow.{HashedFlow}
 
 -- the hash is that of the flow's key
 abbrev pub IsHashed : Layout → HashedFlow → Type 0

@@ -2,9 +2,9 @@
 ghost use Rattle.std.specs.Prelude.{◌≡◌, ◌<◌, ◌%◌};
 ghost use Rattle.bihash_words.specs.Sizes.{IsSound, sizes_of};
 ghost use Rattle.flow_filter.specs.OneThread.{home_of, layout_of};
-ghost use Rattle.flow_dealing.specs.Dealings;
-ghost use Rattle.flow_dealing.specs.Dealings.{hash_in};
-ghost use Rattle.flow_dealing.specs.HashedFlows.{IsHashed};
+ghost use Rattle.packet_dealing.specs.Dealings;
+ghost use Rattle.packet_dealing.specs.Dealings.{hash_in};
+ghost use Rattle.packet_dealing.specs.HashedFlows.{IsHashed};
 
 use crate::dealing::Dealing;
 use crate::hashed_flow::HashedFlow;

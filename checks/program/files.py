@@ -1,0 +1,103 @@
+"""A policy and a capture in two files, which get what the same input on standard input gets; and files that are wrong."""
+import os
+
+from support.captures import (CAPTURE, DEFAULTS, MOST_BYTES, MOST_KEPT, NAMES, OTHERS, PUT_TOGETHER, REFLECTED, RULES, header,
+                              parts_of, record, udp)
+from support.cases import TOP, Case, bytes_of_file, each, names_in, wanted
+
+SWAPPED = "racl: the file that is named as the policy is a capture; its words are: POLICY CAPTURE\n"
+
+
+def without_reader(program, words):
+    """A run whose report goes to a pipe that nobody reads."""
+    theirs, ours = os.pipe()
+    os.close(theirs)
+    try:
+        return program.run(words, stdout=ours)
+    finally:
+        os.close(ours)
+
+
+class Files(Case):
+    def setUp(self):
+        super().setUp()
+        self.policy, self.capture, self.missing = (f"{self.folder}/{it}" for it in ("policy", "capture", "missing"))
+
+    def run_on(self, policy, capture):
+        """A run on files of these bytes."""
+        return self.program.run([self.hold("policy", policy), self.hold("capture", capture)])
+
+    @each((f"files of {it}", it) for it in names_in("examples", ".racl"))
+    def examples(self, name):
+        whole = bytes_of_file(f"{TOP}/examples/{name}.racl")
+        first, captures = parts_of(whole)
+        if captures[0][0] is not None:
+            self.skipTest("of interfaces")
+        policy, capture = self.hold("policy", first), self.hold("capture", captures[0][1])
+        for words in ([], ["--workers", "4"]):
+            want = self.program.run(words, whole)
+            self.compare(self.program.run([*words, policy, capture]), want, "files", *words)
+            self.compare(self.program.run([policy, *words, capture]), want, "words between files", *words)
+            self.compare(self.program.run([*words, "-", capture], first), want, "policy on standard input", *words)
+            self.compare(self.program.run([policy, "-", *words], captures[0][1]), want, "capture on standard input", *words)
+
+    def test_no_input(self):
+        self.compare(self.run_on(NAMES, CAPTURE), wanted(REFLECTED))
+
+    def test_report_that_nobody_reads(self):
+        files = [self.hold("policy", NAMES), self.hold("capture", CAPTURE)]
+        for words in ([], ["--passes", "/dev/null"]):
+            self.compare(without_reader(self.program, [*words, *files]), {"stderr": b"", "status": 4}, *words)
+
+    def test_report_to_a_full_device(self):
+        files = [self.hold("policy", NAMES), self.hold("capture", CAPTURE)]
+        with open("/dev/full", "wb") as full:
+            self.compare(self.program.run(files, stdout=full), {"stderr": b"racl: write failed\n", "status": 4})
+
+    def test_missing_file_and_folder(self):
+        policy, capture = self.hold("policy", NAMES), self.hold("capture", CAPTURE)
+        for name, told in ((self.missing, "No such file or directory (os error 2)"), (self.folder, "Is a directory (os error 21)")):
+            want = wanted(stderr=f"racl: {name}: {told}\n", status=4)
+            self.compare(self.program.run([name, capture]), want, told, "as the policy")
+            self.compare(self.program.run([policy, name]), want, told, "as the capture")
+
+    def test_cut_capture(self):
+        self.compare(self.run_on(NAMES, CAPTURE[:-1]),
+                     wanted(b"1 pass rule 1 reflect\ntruncated after 1\npackets 1 pass 1 drop 0\n", status=3))
+
+    def test_captures_put_together(self):
+        late = header() + udp(1_700_000_000, True, (1, 1000), (2, 53))
+        self.compare(self.run_on(NAMES, late * 2), wanted(stderr=f"racl: record 3 is too long\n{PUT_TOGETHER}", status=1))
+
+    def test_first_record_that_is_too_long(self):
+        got = self.run_on(NAMES, header() + record(1, b"", MOST_KEPT + 1))
+        self.compare(got, wanted(stderr="racl: record 1 is too long\n", status=1))
+
+    @each((f"{name} as the policy", name, data) for name, data in [("pcap", CAPTURE), *((it[0], it[1]) for it in OTHERS)])
+    def swapped(self, name, data):
+        second = "" if name == "other" else SWAPPED
+        self.compare(self.run_on(data + b"\xff", NAMES), wanted(stderr=f"racl: policy is not UTF-8\n{second}", status=1))
+
+    def test_out_rules_without_an_own_address(self):
+        got = self.run_on(NAMES.partition(b"\n")[2] + b"interface 7\n" + RULES, CAPTURE)
+        unlooked = (f"racl: {self.policy}: interface {it} has no mac line, so none of its out rules is looked at\n" for it in (0, 7))
+        self.compare(got, wanted(DEFAULTS, "".join(unlooked)))
+
+    def test_frames_of_other_stations(self):
+        foreign = f"racl: {self.policy}: none of the first frames of interface 0 is from or to the address of its mac line\n"
+        self.compare(self.run_on(NAMES.replace(b":01", b":09"), CAPTURE), wanted(DEFAULTS, foreign))
+
+    def test_frame_of_another_station_to_all(self):
+        got = self.run_on(NAMES.replace(b":01", b":09"), header() + record(1, b"\xff" * 6 + CAPTURE[24 + 16 + 6:24 + 16 + 60]))
+        self.compare(got, wanted(b"1 drop default\npackets 1 pass 0 drop 1\n"))
+
+    def test_too_many_bytes(self):
+        got = self.run_on(b" " * (MOST_BYTES - len(CAPTURE)), CAPTURE)
+        self.compare(got, wanted(stderr="racl: input over 67108864 bytes\n", status=1))
+
+    @each(OTHERS)
+    def others(self, data, fault, said):
+        """Captures that are refused for what they are, which is said of files alone."""
+        second = f"racl: {self.capture} is {said}\n" if said else ""
+        self.compare(self.run_on(NAMES, data), wanted(stderr=f"racl: {fault}\n{second}", status=1), "files")
+        self.compare(self.program.run([], NAMES + b"pcap\n" + data), wanted(stderr=f"racl: {fault}\n", status=1), "standard input")

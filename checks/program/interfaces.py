@@ -1,0 +1,89 @@
+"""A policy and captures of interfaces in files, which get what an input with their digits gets."""
+from support.captures import CAPTURE, MOST_BYTES, MOST_KEPT, NAMES, OTHERS, PUT_TOGETHER, header, parts_of, record
+from support.cases import FEW_WORKERS, TOP, Case, bytes_of_file, each, names_in, wanted
+
+TWO = [(1, CAPTURE), (2, CAPTURE)]
+LONG = record(1, b"", MOST_KEPT + 1)
+
+# Captures by the numbers of their interfaces; and, where one of them is told as faulty, its place.
+CAPTURES = [
+    ("an interface twice", [*TWO, (1, CAPTURE)]), ("a cut capture first", [(7, CAPTURE[:-1]), *TWO]),
+    ("an empty capture", [(255, b""), *TWO], 0), ("many interfaces", [(it, CAPTURE) for it in range(255, -1, -1)]),
+    ("a wrong capture last", [*TWO, (0, CAPTURE[:20] + bytes(4) + CAPTURE[24:])], 2),
+    ("a long record", [*TWO, (9, header() + LONG), (3, header() + LONG)], 2), ("of one interface", [(1, b"")]),
+    ("many bytes", [(0, CAPTURE + record(1, bytes(200_000)) * 50), (1, CAPTURE)]),
+    ("too many bytes", [(0, header() + bytes(MOST_BYTES // 2)), (1, CAPTURE)]),
+]
+
+
+def glued(first, captures):
+    """One input with the captures' digits."""
+    return first + b"".join(b"\nhex %d\n%s" % (number, data.hex().encode()) for number, data in captures)
+
+
+class Interfaces(Case):
+    def setUp(self):
+        super().setUp()
+        self.policy = self.hold("policy", NAMES)
+
+    def words_of(self, captures, in_one=False):
+        named = [f"{number}={self.hold(str(place), data)}" for place, (number, data) in enumerate(captures)]
+        return [word for it in named for word in ([f"--interface={it}"] if in_one else ["--interface", it])]
+
+    def that_is(self, place, number):
+        return f"racl: that is {self.folder}/{place}, the capture of interface {number}\n"
+
+    def compare_both(self, first, captures, faulty=None):
+        self.hold("policy", first)
+        for number in FEW_WORKERS:
+            want = self.program.run(["--workers", number], glued(first, captures))
+            if faulty is not None:
+                want["stderr"] += self.that_is(faulty, captures[faulty][0]).encode()
+            words = ["--workers", number, *self.words_of(captures), self.policy]
+            self.compare(self.program.run(words), want, "policy last", f"{number} workers")
+            words = [self.policy, *self.words_of(captures, True), "--workers", number]
+            self.compare(self.program.run(words), want, "policy first", f"{number} workers")
+
+    @each((f"interfaces of {it}", it) for it in names_in("examples", ".racl"))
+    def examples(self, name):
+        first, captures = parts_of(bytes_of_file(f"{TOP}/examples/{name}.racl"))
+        self.compare_both(first, [(number or 0, it) for number, it in captures])
+
+    @each(CAPTURES)
+    def captures(self, captures, *faulty):
+        self.compare_both(NAMES, captures, *faulty)
+
+    def test_long_record_far_behind(self):
+        words = self.words_of([*TWO, (9, CAPTURE + record(1, bytes(5000)) + LONG), (3, header() + LONG)])
+        for of_one, named in ([], self.that_is(2, 9)), (["--interface", "1=-"], ""):
+            got = self.program.run([*of_one, *words[len(of_one):], self.policy], CAPTURE)
+            self.compare(got, wanted(stderr=f"racl: record 4 is too long\n{named}{PUT_TOGETHER}", status=1), *of_one)
+
+    def test_standard_input(self):
+        words = self.words_of(TWO)
+        want = self.program.run([], glued(NAMES, TWO))
+        self.compare(self.program.run([*words, "-"], NAMES), want, "the policy")
+        self.compare(self.program.run([*words[:2], "--interface", "2=-", self.policy], CAPTURE), want, "a capture")
+
+    def test_frames_of_other_stations(self):
+        strange = NAMES + b"interface 2\n" + NAMES.replace(b":01", b":09")
+        self.hold("policy", strange)
+        foreign = f"racl: {self.policy}: none of the first frames of interface 2 is from or to the address of its mac line\n"
+        both = [(2, CAPTURE), (0, CAPTURE)]
+        want = {**self.program.run([], glued(strange, both)), "stderr": foreign.encode()}
+        self.compare(self.program.run([*self.words_of(both), self.policy]), want)
+
+    def test_missing_file_and_folder(self):
+        words, missing = self.words_of(TWO), f"{self.folder}/missing"
+        told = wanted(stderr=f"racl: {missing}: No such file or directory (os error 2)\n", status=4)
+        self.compare(self.program.run([*words, missing]), told, "missing policy")
+        self.compare(self.program.run([*words, "--interface", f"3={missing}", self.policy]), told, "missing capture")
+        self.compare(self.program.run([*words, "--interface", f"3={self.folder}", self.policy]),
+                     wanted(stderr=f"racl: {self.folder}: Is a directory (os error 21)\n", status=4), "folder")
+
+    @each(OTHERS)
+    def others(self, data, fault, said):
+        """Captures that are refused for what they are."""
+        words = self.words_of([(1, CAPTURE), (2, data), (3, CAPTURE)])
+        second = f"racl: {self.folder}/1 is {said}\n" if said else self.that_is(1, 2)
+        self.compare(self.program.run([*words, self.policy]), wanted(stderr=f"racl: {fault}\n{second}", status=1))

@@ -1,0 +1,85 @@
+"""Verdicts that are written as packets come."""
+import subprocess
+import threading
+
+from support.captures import (CAPTURE, DEFAULTS, MOST_BYTES, MOST_KEPT, NAMES, OTHERS, PUT_TOGETHER, RULES, header, parts_of, record,
+                              report_of, udp)
+from support.cases import SECONDS, Case, each, wanted
+from support.large_inputs import LARGE
+
+ONE, TWO = udp(100, True, (1, 1000), (2, 53)), udp(105, False, (2, 53), (1, 1000))
+
+
+def told_piece_by_piece(program, words, pieces):
+    """What the program has written after each of these pieces of its standard input, and how it ends."""
+    ran = subprocess.Popen([program.path, *words], stdin=subprocess.PIPE, stdout=subprocess.PIPE, stderr=subprocess.PIPE)
+    got = []
+    with ran.stdin, ran.stdout, ran.stderr:
+        for piece, lines in pieces:
+            ran.stdin.write(piece)
+            ran.stdin.flush()
+            timer = threading.Timer(SECONDS, ran.kill)
+            timer.start()
+            got.append(b"".join(ran.stdout.readline() for _ in range(lines)))
+            timer.cancel()
+        ran.stdin.close()
+        got.append(ran.stdout.read())
+        said = ran.stderr.read()
+    return {"told": got, "stderr": said, "status": ran.wait()}
+
+
+class Live(Case):
+    def run_on(self, policy, capture):
+        """A run on a file of this policy and, from standard input, this capture."""
+        self.policy = self.hold("policy", policy)
+        return self.program.run(["--live", self.policy, "-"], capture)
+
+    def test_lines_as_packets_come(self):
+        live = ["--live", self.hold("policy", NAMES), "-"]
+        pieces = [(header()[:7], 0), (header()[7:] + ONE[:20], 0), (ONE[20:] + TWO[:5], 1), (TWO[5:], 1)]
+        for last, told, status in ((b"", b"packets 2 pass 2 drop 0\n", 0), (ONE[:16], b"truncated after 2\npackets 2 pass 2 drop 0\n", 3)):
+            got = told_piece_by_piece(self.program, live, [*pieces, (last, 0)])
+            lines = [b"", b"", b"1 pass rule 1 reflect\n", b"2 pass session\n", b"", told]
+            self.compare(got, {"told": lines, "stderr": b"", "status": status}, f"status {status}")
+
+    @each(LARGE)
+    def large(self, made):
+        data, verdicts = made()
+        first, captures = parts_of(data)
+        assert captures[0][0] is None
+        got = self.program.run(["--live", self.hold("policy", first), self.hold("capture", captures[0][1])])
+        self.compare(got, wanted(report_of(verdicts)))
+
+    def test_long_record(self):
+        self.compare(self.run_on(NAMES, header() + ONE + record(1, b"", MOST_KEPT + 1)),
+                     wanted(b"1 pass rule 1 reflect\n", f"racl: record 2 is too long\n{PUT_TOGETHER}", 1))
+
+    def test_no_capture(self):
+        self.compare(self.run_on(NAMES, ONE[:30]), wanted(stderr="racl: not a pcap capture\n", status=1))
+
+    def test_pcapng(self):
+        _, data, _, said = OTHERS[0]
+        self.compare(self.run_on(NAMES, data), wanted(stderr=f"racl: not a pcap capture\nracl: - is {said}\n", status=1))
+
+    def test_out_rules_without_an_own_address(self):
+        got = self.run_on(RULES, CAPTURE)
+        unlooked = f"racl: {self.policy}: interface 0 has no mac line, so none of its out rules is looked at\n"
+        self.compare(got, wanted(DEFAULTS, unlooked))
+
+    def test_frames_of_other_stations(self):
+        got = self.run_on(NAMES.replace(b":01", b":09"), CAPTURE)
+        foreign = f"racl: {self.policy}: none of the first frames of interface 0 is from or to the address of its mac line\n"
+        self.compare(got, wanted(DEFAULTS, foreign))
+
+    def test_long_policy(self):
+        got = self.run_on(b" " * (MOST_BYTES + 1), CAPTURE)
+        self.compare(got, wanted(stderr="racl: input over 67108864 bytes\n", status=1))
+
+    def test_wrong_policy(self):
+        self.compare(self.run_on(b"in deny\n", CAPTURE), wanted(stderr="racl: policy line 1 is wrong\n", status=1))
+
+    def test_many_bytes(self):
+        count = 1_250_000
+        got = self.run_on(NAMES, header() + ONE * count)
+        lines = b"1 pass rule 1 reflect\n" + b"".join(b"%d pass session\n" % it for it in range(2, count + 1))
+        self.compare(got, wanted(lines + b"packets %d pass %d drop 0\n" % (count, count)))

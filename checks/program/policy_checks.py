@@ -1,0 +1,45 @@
+"""What the word `check` tells of policies."""
+from program.inputs import WRONG_LINES
+from support.captures import MOST_BYTES
+from support.cases import TOP, Case, each, names_in, wanted
+
+# Runs of the word `check`: name, words, standard input, what is told, what is said, and the status.
+CHECKS = [
+    ("check of a file that isn't there", ["check", "/nowhere"], b"", b"", "racl: /nowhere: No such file or directory (os error 2)\n", 4),
+    ("check of no file", ["check"], b"", b"", None, 2),
+    ("check of two files", ["check", "-", "-"], b"", b"", None, 2),
+    ("check with an option", ["check", "--udp", "5", "-"], b"", b"", None, 2),
+    ("check of a byte too many", ["check", "-"], b" " * (MOST_BYTES + 1), b"", "racl: input over 67108864 bytes\n", 1),
+    ("check of as many bytes as may be", ["check", "-"], b" " * MOST_BYTES,
+     b"remark: there is no rule, so each packet of IP is dropped\npolicy: rules 0 sections 1\n", "", 0),
+    ("help of check", ["check", "--help"], b"", None, "", 0),
+]
+
+# How many remarks there are on a policy of an example, where there are some.
+REMARKS = {}
+
+
+class PolicyChecks(Case):
+    @each(CHECKS)
+    def checks(self, words, data, told, said, status):
+        self.compare(self.program.run(words, data), wanted(told, said, status))
+
+    @each((f"line {it}", it) for it in WRONG_LINES)
+    def wrong_lines(self, line):
+        """Each line that a run refuses is complained of with a reason."""
+        got = self.program.run(["check", "-"], b"mac 02:00:00:00:00:01\n" + line.encode())
+        first, *rest = got["stdout"].decode().split("\n")
+        self.compare({"status": got["status"], "number": first.split(":")[0].split(" ends")[0], "rest": rest,
+                      "unexplained": "is of no form" in first},
+                     {"status": 1, "number": "line 2", "rest": ["no policy: wrong lines 1", ""], "unexplained": False})
+
+    @each((f"policy of {it}", it) for it in names_in("examples", ".policy"))
+    def examples(self, name):
+        """No policy of an example is complained of."""
+        got = self.program.run(["check", f"{TOP}/examples/{name}.policy"])
+        self.compare({**got, "remarks": got["stdout"].count(b"remark: ")},
+                     {"stderr": b"", "status": 0, "remarks": REMARKS.get(name, 0)})
+
+    def test_full_device(self):
+        with open("/dev/full", "wb") as full:
+            self.compare(self.program.run(["check", "-"], b"", stdout=full), {"stderr": b"racl: write failed\n", "status": 4})

@@ -1,0 +1,99 @@
+"""Objects of JSON and explained lines tell the same facts, and with the report's verdicts, on each stored input; and of hits and
+sessions the same as lines do."""
+import ipaddress
+import json
+
+from program.hits import HITS
+from support.captures import parts_of, report_of
+from support.cases import FEWER_LINES, TOP, Case, bytes_of_file, each, kept, names_in, wanted
+from support.large_inputs import many_flows
+
+MORE = ["--hits", "--sessions"]
+
+
+def address_in(text):
+    """An address as text, which Python writes as RFC 5952 has it, but for one with a dotted end."""
+    address = ipaddress.ip_address(text)
+    return text if address.version == 6 and address.ipv4_mapped else str(address)
+
+
+def protocol_of(number, address):
+    return {6: "tcp", 17: "udp", 58 if ":" in address else 1: "icmp"}.get(number, f"protocol {number}")
+
+
+def behind_totals(told):
+    """The line of hits or sessions that an object of JSON stands for, None where it stands for none."""
+    if "until" in told:
+        ends = (address_in(it["address"]) + (f" port {it['port']}" if "port" in it else "")
+                + (f" flags {it['flags']:02x}" if "flags" in it else "") for it in told["ends"])
+        protocol = protocol_of(told["protocol"], told["ends"][0]["address"])
+        return (f"session interface {told['interface']} {protocol} {' and '.join(ends)} "
+                f"last {told['last']} until {told['until']}")
+    if "packet" in told or "pass" in told or "truncated_after" in told:
+        return None
+    if "rule" in told:
+        return (f"interface {told['interface']} {told['direction']} rule {told['rule']} line {told['line']} "
+                f"packets {told['packets']}")
+    if "reason" in told:
+        return f"{told['reason']} packets {told['packets']}"
+    (name, count), = told.items()
+    return f"{name.replace('_', ' ')} {count}"
+
+
+def lines_of(told, policy, is_named):
+    """The line of the report that an object of JSON stands for, and what goes on behind it where lines are explained."""
+    behind = behind_totals(told)
+    if behind:
+        return behind, ""
+    name = f"if {told['interface']} " if is_named and "interface" in told else ""
+    if "truncated_after" in told:
+        return f"{name}truncated after {told['truncated_after']}", ""
+    if "pass" in told:
+        return f"packets {told['packets']} pass {told['pass']} drop {told['drop']}", ""
+    said = f"rule {told['rule']}{' reflect' if told.get('reflect') else ''}" if told["reason"] == "rule" else told["reason"]
+    behind = f" | interface {told['interface']} {told['direction'] + ' ' if 'direction' in told else ''}time {told['time']}"
+    if "protocol" in told:
+        ends = (address_in(told[it]) + (f" port {told[it + '_port']}" if it + "_port" in told else "")
+                for it in ("source", "destination"))
+        behind += f" {protocol_of(told['protocol'], told['source'])} {' to '.join(ends)}"
+        behind += f" flags {told['flags']:02x}" if "flags" in told else ""
+        behind += f" type {told['type']} code {told['code']}" if "type" in told else ""
+    if "line" in told:
+        rule = policy.split(b"\n")[told["line"] - 1].partition(b"#")[0].strip()[:200].decode()
+        behind += f" | line {told['line']} {rule}"
+    return f"{told['packet']} {name}{told['verdict']} {said}", behind
+
+
+class Views(Case):
+    @each((f"{folder}/{name}", f"{TOP}/{folder}/{name}.racl") for folder in ("examples", "checks/corpus")
+          for name in names_in(folder, ".racl"))
+    def stored(self, path):
+        data = bytes_of_file(path)
+        report = self.program.run(MORE, data)
+        if report["status"] not in (0, 3):
+            for view in ("--json", "--explain"):
+                self.compare(self.program.run([view, *MORE], data), report, view)
+            return
+        policy, captures = parts_of(data)
+        for workers in ("1", "4"):
+            got = self.program.run(["--json", *MORE, "--workers", workers], data)
+            lines = [lines_of(json.loads(it), policy, captures[0][0] is not None) for it in got["stdout"].splitlines()]
+            plain, explained = (("".join(f"{''.join(it[:count])}\n" for it in lines)).encode() for count in (1, 2))
+            self.compare({**got, "stdout": plain}, report, "--json", f"{workers} workers")
+            got = self.program.run(["--explain", *MORE, "--workers", workers], data)
+            self.compare(got, {**report, "stdout": explained}, "--explain", f"{workers} workers")
+        for options, word in FEWER_LINES:
+            got = self.program.run(["--explain", *MORE, *options], data)
+            self.compare(got, {**report, "stdout": kept(explained, word)}, "--explain", *options)
+
+    def test_explained_hits(self):
+        data = bytes_of_file(f"{TOP}/examples/router.racl")
+        lines = self.program.run(["--explain", "--summary"], data)["stdout"]
+        self.compare(self.program.run(["--explain", "--summary", "--hits"], data), wanted(lines + HITS))
+
+    def test_many_explained_lines(self):
+        data, verdicts = many_flows()
+        for workers in ("1", "4"):
+            got = self.program.run(["--explain", "--workers", workers], data)
+            plain = b"".join(it.partition(b" | ")[0].rstrip(b"\n") + b"\n" for it in got["stdout"].splitlines(True))
+            self.compare({**got, "stdout": plain}, wanted(report_of(verdicts)), f"{workers} workers")
