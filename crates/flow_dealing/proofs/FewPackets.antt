@@ -1,6 +1,6 @@
 -- So few packets of a family's flows that its pages can't run out.
-use Rattle.std.proofs.Common.{◌≡◌, ◌≢◌, ◌∙◌, ◌+◌, ◌-◌, ◌*◌, ◌^◌, ◌<◌, ◌≤◌, ℕ, zero, suc, Bool, true, false, cond, List, [], ◌∷◌, ◌++◌, length, Option, Some, None, ap, refl, sym, subst, arith, inl, inr, length-append}
-use Rattle.std.specs.Prelude.{if◌then◌else◌, ◌==◌, option_map}
+use Rattle.std.proofs.Common.{◌≡◌, ◌≢◌, ◌∙◌, ◌+◌, ◌-◌, ◌*◌, ◌^◌, ◌<◌, ◌≤◌, ℕ, zero, suc, Bool, true, false, cond, List, [], ◌∷◌, ◌++◌, length, Option, Some, None, ap, ap₂, refl, sym, subst, arith, inl, inr, length-append}
+use Rattle.std.specs.Prelude.{if◌then◌else◌, ◌==◌, ◌&&◌, option_map}
 use Rattle.std.specs.List.{All}
 use Rattle.std.proofs.Math.Nat.{mul-le-mul_right, pow-le-pow_right}
 use Rattle.std.proofs.lemmas.Bool.{cases_lt}
@@ -30,16 +30,17 @@ use Rattle.session_state.specs.declared.timeouts.Timeouts.{Timeouts}
 use Rattle.session_state.specs.Flows.{flow_of}
 use Rattle.session_state.specs.declared.verdict.Verdict.{Verdict}
 use Rattle.session_state.specs.declared.verdict.Verdict.TheVariants.{NoPages}
+use Rattle.flow_filter.specs.Ageing.{Judges, Removal, Removes, Step, packets_in, removals_in}
 use Rattle.flow_filter.specs.Readings.{AreReadings, Framed, IsReading, Reading, Ruled}
 use Rattle.flow_filter.specs.Updates.{Update, update_in, update_of}
 use Rattle.flow_filter.specs.Judged.{IsAsked, Judged, readings_of, verdict_on}
-use Rattle.flow_filter.specs.OneThread.{HasPages, family_of, same_family, sizes_in}
+use Rattle.flow_filter.specs.OneThread.{HasPages, Layout, family_of, same_family, sizes_in}
 use Rattle.flow_filter.proofs.HomeLemmas.{family_as_itself, families_are_one}
 use Rattle.flow_dealing.specs.Views.{view_in}
 use Rattle.packet_dealing.specs.Dealings.{Deal, flow_of_reading, worker_of}
-use Rattle.flow_dealing.specs.WorkerRecords.{AreFew, AreJudged, AreRecorded, HasPagesIn, HavePages, add_in, events_by, is_in, keyed}
+use Rattle.flow_dealing.specs.WorkerRecords.{AreFew, AreFewBetween, AreJudged, AreJudgedBetween, AreRecorded, HasPagesIn, HavePages, add_in, events_by, is_in, keyed, removed_of}
 use Rattle.flow_dealing.proofs.ListCounts.{IsLabelled, at_least, sum_at, sum_one, sum_zero}
-use Rattle.flow_dealing.proofs.TraceMerges.{events_by-cons, events_by-nil}
+use Rattle.flow_dealing.proofs.DealtEvents.{events_by-judges, events_by-nil, events_by-removes}
 use Rattle.flow_dealing.proofs.PacketCalls.{IsFlowEvent, asked_flow, call_of_packet}
 use Rattle.flow_dealing.proofs.Places.{after_map, all_at, all_from, at_front}
 use Rattle.flow_dealing.proofs.Refusals.{paged_is_told, wants}
@@ -128,48 +129,73 @@ module _ (d : Deal) (times : Timeouts) (family : Family) where
       go true = omega arith
       go false = omega arith
 
-  abbrev its_count : ℕ → List Judged → ℕ → ℕ
-  its_count n js w = length (events_by d times family w n js)
+  abbrev its_count : ℕ → List Step → ℕ → ℕ
+  its_count n steps w = length (events_by d times family w n steps)
 
-  one_packet : (n : ℕ) (j : Judged) (js : List Judged) (w : ℕ) → its_count n (j ∷ js) w
+  one_packet : (n : ℕ) (j : Judged) (steps : List Step) (w : ℕ) → its_count n (Judges j ∷ steps) w
       ≤ cond (worker_of d n (flow_of_reading j.reading) == w)
-      (its_count (n + 1) js w + cond (is_in family (update_of times j.reading)) 1 0) (its_count (n + 1) js w)
-  one_packet n j js w =
-      subst (λ es. length es ≤ cond test (its_count (n + 1) js w + cond (is_in family (update_of times j.reading)) 1 0)
-      (its_count (n + 1) js w))
-      (sym (events_by-cons d times family w n j js)) (go test)
+      (its_count (n + 1) steps w + cond (is_in family (update_of times j.reading)) 1 0) (its_count (n + 1) steps w)
+  one_packet n j steps w =
+      subst (λ es. length es ≤ cond test (its_count (n + 1) steps w + cond (is_in family (update_of times j.reading)) 1 0)
+      (its_count (n + 1) steps w))
+      (sym (events_by-judges d times family w n j steps)) (go test)
     where
       test : Bool
       test = worker_of d n (flow_of_reading j.reading) == w
 
       E : List Event
-      E = events_by d times family w (n + 1) js
+      E = events_by d times family w (n + 1) steps
 
       go : (t : Bool) → length (cond t (add_in family (update_of times j.reading) j.event E) E)
           ≤ cond t (length E + cond (is_in family (update_of times j.reading)) 1 0) (length E)
       go true = one_event (update_of times j.reading) j.event E
       go false = omega arith
 
-  no_more_events : (w workers n : ℕ) (js : List Judged) → sum_at w workers (its_count n js) ≤ keyed times family js
+  one_removal : (n : ℕ) (r : Removal) (steps : List Step) (w : ℕ) → its_count n (Removes r ∷ steps) w
+      ≤ cond (r.worker == w) (its_count n steps w + cond (same_family family r.family) 1 0) (its_count n steps w)
+  one_removal n r steps w =
+      subst (λ es. length es ≤ cond (r.worker == w) (its_count n steps w + cond (same_family family r.family) 1 0) (its_count n steps w))
+      (sym (events_by-removes d times family w n r steps)) (go (same_family family r.family) (r.worker == w))
+    where
+      E : List Event
+      E = events_by d times family w n steps
+
+      go : (s t : Bool) → length (cond (s && t) (r.event ∷ E) E) ≤ cond t (length E + cond s 1 0) (length E)
+      go true true = omega arith
+      go true false = omega arith
+      go false true = omega arith
+      go false false = omega arith
+
+  no_more_events : (w workers n : ℕ) (steps : List Step)
+      → sum_at w workers (its_count n steps) ≤ keyed times family (packets_in steps) + removed_of family (removals_in steps)
   no_more_events w workers n [] =
       let none = sum_zero w workers (its_count n []) (λ k. ap length (events_by-nil d times family k n)) in omega arith
-  no_more_events w workers n (j ∷ js) =
+  no_more_events w workers n (Judges j ∷ steps) =
       let x : ℕ = cond (is_in family (update_of times j.reading)) 1 0 in
       let one =
-      sum_one (worker_of d n (flow_of_reading j.reading)) x (its_count (n + 1) js) (its_count n (j ∷ js))
-      (one_packet n j js) w workers in
-      let more = no_more_events w workers (n + 1) js in
+      sum_one (worker_of d n (flow_of_reading j.reading)) x (its_count (n + 1) steps) (its_count n (Judges j ∷ steps))
+      (one_packet n j steps) w workers in
+      let more = no_more_events w workers (n + 1) steps in
+      let js : List Judged = packets_in steps in
       let all : keyed times family (j ∷ js) ≡ x + keyed times family js =
       sum_by-cons (λ (i : Judged). cond (is_in family (update_of times i.reading)) 1 0) j js in
       omega arith
+  no_more_events w workers n (Removes r ∷ steps) =
+      let x : ℕ = cond (same_family family r.family) 1 0 in
+      let one = sum_one r.worker x (its_count n steps) (its_count n (Removes r ∷ steps)) (one_removal n r steps) w workers in
+      let more = no_more_events w workers n steps in
+      let rs : List Removal = removals_in steps in
+      let all : removed_of family (r ∷ rs) ≡ x + removed_of family rs =
+      sum_by-cons (λ (i : Removal). cond (same_family family i.family) 1 0) r rs in
+      omega arith
 
-  no_more_calls : (js : List Judged) (v : View) → AreRecorded d times family js v
-      → length (all_calls v.records) ≤ keyed times family js
-  no_more_calls js v recorded =
-      let all = how_many v.records 0 (its_count 0 js) (λ i r at.
+  no_more_calls : (steps : List Step) (v : View) → AreRecorded d times family steps v
+      → length (all_calls v.records) ≤ keyed times family (packets_in steps) + removed_of family (removals_in steps)
+  no_more_calls steps v recorded =
+      let all = how_many v.records 0 (its_count 0 steps) (λ i r at.
       let e : 0 + i ≡ i = omega arith in
-      sym (length-map r.calls event_of) ∙ (ap length (recorded.each i r at) ∙ ap (its_count 0 js) (sym e))) in
-      let few = no_more_events 0 (length v.records) 0 js in
+      sym (length-map r.calls event_of) ∙ (ap length (recorded.each i r at) ∙ ap (its_count 0 steps) (sym e))) in
+      let few = no_more_events 0 (length v.records) 0 steps in
       omega arith
 
   -- the flow of a packet of the family
@@ -196,14 +222,14 @@ IsPagedIn times family j = is_in family (update_of times j.reading) ≡ true →
 
 events_for_few : (d : Deal) (times : Timeouts) (policy : PolicyFacts) (packets : List PacketFacts)
     (verdicts : List Verdict)
-    (are : AreJudged d times policy packets verdicts) (family : Family) → AreFew d.layout times family are.judged
-    → All (IsPagedIn times family) are.judged
-events_for_few d times policy packets verdicts are family few =
+    (removals : List Removal) (are : AreJudgedBetween d times policy packets removals verdicts) (family : Family)
+    → AreFewBetween d.layout times family removals are.judged → All (IsPagedIn times family) are.judged
+events_for_few d times policy packets verdicts removals are family few =
     all_from (IsPagedIn times family) are.judged (λ k j at is e its log2 left short.
     let recorded = are.recorded family in
     let v : View = view_in are.views family in
     let (flow, has, inside) = flow_inside d times family j.reading is in
-    let c = call_of_packet d times family are.judged v recorded k j flow e at has inside its in
+    let c = call_of_packet d times family are.steps v recorded k j flow e (ap (λ js. get_elem? js k) are.packets_are ∙ at) has inside its in
     let refused : c.call.reply ≡ reply.NoPages log2 left = ap (λ (x : Event). x.reply) c.event ∙ short in
     let want =
     wants (sizes_in d.layout family) v (worker_of d k (Some flow)) c.place c.record_at c.call log2 left recorded.lawful c.stands c.called
@@ -212,21 +238,24 @@ events_for_few d times policy packets verdicts are family few =
     let calls =
     more_calls (sizes_in d.layout family) v (worker_of d k (Some flow)) c.place c.record_at c.call recorded.lawful recorded.told.made
     c.stands c.called (ap is_changed refused) in
-    let packets_few = no_more_calls d times family are.judged v recorded in
+    let steps_few = no_more_calls d times family are.steps v recorded in
+    let all : ℕ = keyed times family are.judged + removed_of family removals in
+    let counted : keyed times family (packets_in are.steps) + removed_of family (removals_in are.steps) ≡ all =
+    ap₂ (λ js rs. keyed times family js + removed_of family rs) are.packets_are are.removals_are in
     let M : ℕ = (sizes_in d.layout family).max_log2 in
     let writes : ℕ = known_writes v.known (buckets (sizes_in d.layout family)) in
     let block : 2 ^ log2 ≤ 2 ^ M = pow-le-pow_right (omega arith) want.small in
     let left_few : left < 2 ^ log2 = want.few in
-    let enough : (writes + 1) * 2 ^ M ≤ keyed times family are.judged * 2 ^ M =
+    let enough : (writes + 1) * 2 ^ M ≤ all * 2 ^ M =
     mul-le-mul_right (2 ^ M) (omega arith) in
     let none = ap (λ (o : Openings). o.used) recorded.openings in
     omega (arith, few, taken, none))
 
 -- a packet that was judged has another verdict where it wasn't refused for want of pages
 told_else : (d : Deal) (times : Timeouts) (policy : PolicyFacts) (packets : List PacketFacts) (verdicts : List Verdict)
-    (are : AreJudged d times policy packets verdicts) (k : ℕ) (j : Judged) → get_elem? are.judged k ≡ some j
-    → HasPages j → verdict_on times j ≢ NoPages
-told_else d times policy packets verdicts are k j at paged =
+    (removals : List Removal) (are : AreJudgedBetween d times policy packets removals verdicts) (k : ℕ) (j : Judged)
+    → get_elem? are.judged k ≡ some j → HasPages j → verdict_on times j ≢ NoPages
+told_else d times policy packets verdicts removals are k j at paged =
     let p =
     packet_of (readings_of are.judged) packets k j.reading are.read
     (after_map (λ (i : Judged). i.reading) are.judged k j at) in
@@ -243,16 +272,30 @@ told_else d times policy packets verdicts are k j at paged =
     packet_of (r ∷ rs) (p ∷ ps) (suc k) reading read at = packet_of rs ps k reading read.1 at
 
 -- with so few packets of a family none of them is refused for want of pages, and no verdict of theirs says so
+pub pages_for_few_between : (d : Deal) (times : Timeouts) (policy : PolicyFacts) (packets : List PacketFacts)
+    (removals : List Removal) (verdicts : List Verdict)
+    (are : AreJudgedBetween d times policy packets removals verdicts) (family : Family)
+    → AreFewBetween d.layout times family removals are.judged → All (HasPagesIn times family) are.judged
+pages_for_few_between d times policy packets removals verdicts are family few =
+    all_from (HasPagesIn times family) are.judged (λ k j at is.
+    let paged =
+    all_at (IsPagedIn times family) are.judged k j
+    (events_for_few d times policy packets verdicts removals are family few) at is in
+    (paged, told_else d times policy packets verdicts removals are k j at paged))
+
+-- so few packets, and no removal
+few_alone : (l : Layout) (times : Timeouts) (family : Family) (js : List Judged) → AreFew l times family js
+    → AreFewBetween l times family [] js
+few_alone l times family js few =
+    let none : keyed times family js ≡ keyed times family js + removed_of family [] = omega arith in
+    subst (λ n. n * 2 ^ (sizes_in l family).max_log2 ≤ (sizes_in l family).pages) none few
+
 pub pages_for_few : (d : Deal) (times : Timeouts) (policy : PolicyFacts) (packets : List PacketFacts)
     (verdicts : List Verdict)
     (are : AreJudged d times policy packets verdicts) (family : Family) → AreFew d.layout times family are.judged
     → All (HasPagesIn times family) are.judged
 pages_for_few d times policy packets verdicts are family few =
-    all_from (HasPagesIn times family) are.judged (λ k j at is.
-    let paged =
-    all_at (IsPagedIn times family) are.judged k j
-    (events_for_few d times policy packets verdicts are family few) at is in
-    (paged, told_else d times policy packets verdicts are k j at paged))
+    pages_for_few_between d times policy packets [] verdicts are family (few_alone d.layout times family are.judged few)
 
 -- with so few packets of both families no verdict says that pages were wanting
 pub verdicts_for_few : (d : Deal) (times : Timeouts) (policy : PolicyFacts) (packets : List PacketFacts)
@@ -262,7 +305,7 @@ pub verdicts_for_few : (d : Deal) (times : Timeouts) (policy : PolicyFacts) (pac
 verdicts_for_few d times policy packets verdicts are few =
     subst HavePages (sym are.said) (All-map (λ v. v ≢ NoPages) (verdict_on times) are.judged
     (all_from (λ j. verdict_on times j ≢ NoPages) are.judged (λ k j at.
-    told_else d times policy packets verdicts are k j at (λ e its. has_pages k j at e its))))
+    told_else d times policy packets verdicts [] are k j at (λ e its. has_pages k j at e its))))
   where
     has_pages : (k : ℕ) (j : Judged) → get_elem? are.judged k ≡ some j → HasPages j
     has_pages k j at e its = go (flow_of_reading j.reading) refl
@@ -275,5 +318,6 @@ verdicts_for_few d times policy packets verdicts are few =
             let clash = sym none ∙ its in let f : ⊥ = cc in absurd f
         go (Some flow) is =
             all_at (IsPagedIn times (family_of flow.key)) are.judged k j
-            (events_for_few d times policy packets verdicts are (family_of flow.key) (few (family_of flow.key))) at
+            (events_for_few d times policy packets verdicts [] are (family_of flow.key)
+            (few_alone d.layout times (family_of flow.key) are.judged (few (family_of flow.key)))) at
             (inside_flow times j.reading flow is) e its

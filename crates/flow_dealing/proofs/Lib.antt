@@ -1,3 +1,5 @@
+pub mod AgeingMerges
+pub mod DealtEvents
 pub mod FewPackets
 pub mod ListCounts
 pub mod OneOwner

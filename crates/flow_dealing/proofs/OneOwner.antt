@@ -1,9 +1,10 @@
--- Where each bucket has one worker, the packets' events on a bucket are a run of its map, in the order of the file.
-use Rattle.std.proofs.Common.{◌≡◌, ◌≢◌, ◌⊎◌, ◌∙◌, ◌+◌, ◌<◌, ◌%◌, ℕ, suc, Bool, true, false, cond, List, [], ◌∷◌, length, map, Option, Some, None, ap, ap₂, refl, sym, subst, arith, inl, inr}
+-- Where each bucket has one worker, the events on a bucket are a run of its map, in the order of the steps.
+use Rattle.std.proofs.Common.{◌≡◌, ◌≢◌, ◌⊎◌, ◌∙◌, ◌+◌, ◌<◌, ◌%◌, ℕ, suc, Bool, true, false, cond, List, [], ◌∷◌, length, map, Option, Some, None, All, ap, ap₂, refl, sym, subst, arith, inl, inr}
 use Rattle.std.specs.Prelude.{if◌then◌else◌, ◌==◌, ◌&&◌}
 use Rattle.std.specs.FinMap.{empty}
 use Rattle.std.specs.List.{filter}
 use Rattle.std.proofs.Math.Nat.{mod-lt}
+use Rattle.std.proofs.lemmas.Bool.{eq-eqb}
 use Rattle.std.proofs.lemmas.Bool.Decides.{eqb_tells}
 use Rattle.std.proofs.lemmas.List.Elements.{All-head, All-tail}
 use lib.ListN.{get_elem?}
@@ -24,17 +25,18 @@ use Rattle.bihash_laws.specs.CallRuns.{IsOneWriter, calls_on}
 use Rattle.bihash_laws.proofs.OneWriter.{one_map}
 use Rattle.session_state.specs.declared.flow.Flow.{Flow}
 use Rattle.session_state.specs.declared.timeouts.Timeouts.{Timeouts}
+use Rattle.flow_filter.specs.Ageing.{Judges, Removal, Removes, Step, packets_in, removals_in, removed_from, steps_at}
 use Rattle.flow_filter.specs.Updates.{words_of}
-use Rattle.flow_filter.specs.Judged.{AreAsked, IsAsked, Judged}
-use Rattle.flow_filter.specs.OneThread.{Home, bounds_in, events_at, family_of, home_of, same_family, sizes_in}
+use Rattle.flow_filter.specs.Judged.{AreAsked, IsAsked}
+use Rattle.flow_filter.specs.OneThread.{Home, bounds_in, family_of, home_of, same_family, same_home, sizes_in}
 use Rattle.flow_filter.proofs.HomeLemmas.{families_are_one}
 use Rattle.packet_dealing.specs.declared.dealing.Dealing.{Dealing}
 use Rattle.packet_dealing.specs.declared.dealing.Dealing.TheVariants.{Bucket}
 use Rattle.packet_dealing.specs.Dealings.{Deal, flow_of_reading, worker_of}
-use Rattle.flow_dealing.specs.WorkerRecords.{AreRecorded, events_by}
-use Rattle.flow_dealing.proofs.TraceMerges.{events_by-nil, worker_few}
+use Rattle.flow_dealing.specs.WorkerRecords.{AreRecorded, IsByOwner, events_by}
+use Rattle.flow_dealing.proofs.DealtEvents.{events_by-nil, events_by-removes, worker_few}
 use Rattle.flow_dealing.proofs.Places.{after_map}
-use Rattle.flow_dealing.proofs.PacketCalls.{IsFlowEvent, add_event-flow, add_flow, add_flow_at, asked_flow, events_by-flow, packet_of_event, some_worker}
+use Rattle.flow_dealing.proofs.PacketCalls.{IsFlowEvent, add_event-flow, add_flow, add_flow_at, asked_flow, events_by-flow, some_worker, step_of_event}
 use Rattle.flow_dealing.proofs.Refusals.{legal_call}
 
 -- ---- The worker of a bucket
@@ -43,6 +45,7 @@ use Rattle.flow_dealing.proofs.Refusals.{legal_call}
 pub record IsOwner (d : Deal) (home : Home) (w : ℕ) : Type 0 where
   pub few : w < d.workers
   pub each : (number : ℕ) (flow : Flow) → home_of d.layout flow.key ≡ home → worker_of d number (Some flow) ≡ w
+  pub number : home.bucket % d.workers ≡ w
 
 pub owner : (d : Deal) (home : Home) → 0 < d.workers → (d.dealing ≡ Bucket) ⊎ (d.workers ≡ 1)
     → (w : ℕ) × IsOwner d home w
@@ -52,6 +55,7 @@ owner d home some_worker (inl by_bucket) = (
     few = mod-lt home.bucket some_worker;
     each = λ number flow is. ap (λ (g : Dealing). worker_of (record d { dealing = g }) number (Some flow)) by_bucket
         ∙ ap (λ (h : Home). h.bucket % d.workers) is;
+    number = refl;
   },
 )
 owner d home some_worker (inr one) = (
@@ -59,6 +63,7 @@ owner d home some_worker (inr one) = (
   record {
     few = some_worker;
     each = λ number flow is. let few = worker_few d number (Some flow) some_worker in omega arith;
+    number = let few = mod-lt home.bucket some_worker in omega arith;
   },
 )
 
@@ -156,27 +161,70 @@ module _ (d : Deal) (times : Timeouts) (family : Family) (b w : ℕ)
           ] in
           skips miss (worker_of d n (Some flow) == w) ∙ ap (λ t. if t then e ∷ R else R) (sym test)
 
-  its_events : (n : ℕ) (js : List Judged) → AreAsked times js
-      → events_on z b (events_by d times family w n js) ≡ events_at d.layout times home js
-  its_events n [] asked = ap (events_on z b) (events_by-nil d times family w n)
-  its_events n (j ∷ js) asked =
-      ap (events_on z b) (events_by-flow d times family w n j js)
-      ∙ (one_more n (flow_of_reading j.reading) j.event (events_by d times family w (n + 1) js)
-      (events_at d.layout times home js)
-      (asked_flow times j (All-head (IsAsked times) j js asked))
-      (its_events (n + 1) js (All-tail (IsAsked times) j js asked))
-      ∙ sym (add_event-flow d.layout home times j.reading j.event (events_at d.layout times home js)))
+  -- a removal by the bucket's worker
+  one_removed : (r : Removal) (E R : List Event) → IsByOwner d r → events_on z b E ≡ R
+      → events_on z b (cond (same_family family r.family && (r.worker == w)) (r.event ∷ E) E)
+      ≡ (if same_home home (removed_from d.layout r) then r.event ∷ R else R)
+  one_removed r E R by same = go (same_family family r.family) refl (eqb_tells b (removed_from d.layout r).bucket)
+    where
+      in_bucket : (t : Bool) → (bucket_of z r.event.key == b) ≡ false → events_on z b (cond t (r.event ∷ E) E) ≡ R
+      in_bucket true test = ap (λ s. cond s (r.event ∷ events_on z b E) (events_on z b E)) test ∙ same
+      in_bucket false test = same
 
-  module _ (js : List Judged) (v : View) (recorded : AreRecorded d times family js v) (asked : AreAsked times js)
-      (inside : b < buckets z) where
+      of_key : r.family ≡ family → bucket_of z r.event.key ≡ (removed_from d.layout r).bucket
+      of_key inside = ap (λ g. bucket_of (sizes_in d.layout g) r.event.key) (sym inside)
+
+      go : (s : Bool) → same_family family r.family ≡ s
+          → (((b == (removed_from d.layout r).bucket) ≡ true) × (b ≡ (removed_from d.layout r).bucket))
+          ⊎ (((b == (removed_from d.layout r).bucket) ≡ false) × (b ≢ (removed_from d.layout r).bucket))
+          → events_on z b (cond (s && (r.worker == w)) (r.event ∷ E) E)
+          ≡ (if s && (b == (removed_from d.layout r).bucket) then r.event ∷ R else R)
+      go false is at = same
+      go true is (inl (test, here)) =
+          let inside : r.family ≡ family = sym (families_are_one family r.family is) in
+          let its_bucket : bucket_of z r.event.key ≡ b = of_key inside ∙ sym here in
+          let mine : (r.worker == w) ≡ true = eq-eqb r.worker w (by ∙ (ap (λ k. k % d.workers) (sym here) ∙ own.number)) in
+          let hit : (bucket_of z r.event.key == b) ≡ true = eq-eqb (bucket_of z r.event.key) b its_bucket in
+          ap (λ t. events_on z b (cond t (r.event ∷ E) E)) mine
+          ∙ (ap (λ t. cond t (r.event ∷ events_on z b E) (events_on z b E)) hit
+          ∙ (ap (λ es. r.event ∷ es) same ∙ ap (λ t. if t then r.event ∷ R else R) (sym test)))
+      go true is (inr (test, apart)) =
+          let inside : r.family ≡ family = sym (families_are_one family r.family is) in
+          let miss : (bucket_of z r.event.key == b) ≡ false = elim (eqb_tells (bucket_of z r.event.key) b) [
+            | inl (hit, here) ↦ absurd (apart (sym here ∙ of_key inside))
+            | inr (miss, _) ↦ miss
+          ] in
+          in_bucket (r.worker == w) miss ∙ ap (λ t. if t then r.event ∷ R else R) (sym test)
+
+  its_events : (n : ℕ) (steps : List Step) → AreAsked times (packets_in steps) → All (IsByOwner d) (removals_in steps)
+      → events_on z b (events_by d times family w n steps) ≡ steps_at d.layout times home steps
+  its_events n [] asked by = ap (events_on z b) (events_by-nil d times family w n)
+  its_events n (Removes r ∷ steps) asked by =
+      ap (events_on z b) (events_by-removes d times family w n r steps)
+      ∙ one_removed r (events_by d times family w n steps) (steps_at d.layout times home steps)
+      (All-head (IsByOwner d) r (removals_in steps) by)
+      (its_events n steps asked (All-tail (IsByOwner d) r (removals_in steps) by))
+  its_events n (Judges j ∷ steps) asked by =
+      ap (events_on z b) (events_by-flow d times family w n j steps)
+      ∙ (one_more n (flow_of_reading j.reading) j.event (events_by d times family w (n + 1) steps)
+      (steps_at d.layout times home steps)
+      (asked_flow times j (All-head (IsAsked times) j (packets_in steps) asked))
+      (its_events (n + 1) steps (All-tail (IsAsked times) j (packets_in steps) asked) by)
+      ∙ sym (add_event-flow d.layout home times j.reading j.event (steps_at d.layout times home steps)))
+
+  module _ (steps : List Step) (v : View) (recorded : AreRecorded d times family steps v)
+      (asked : AreAsked times (packets_in steps)) (by : All (IsByOwner d) (removals_in steps)) (inside : b < buckets z) where
     -- a call on the bucket is in the owner's record
     owner_of_call : (i k : ℕ) (r : Record) (c : Call) → get_elem? v.records i ≡ some r → get_elem? r.calls k ≡ some c
         → c.bucket ≡ b → i ≡ w
     owner_of_call i k r c at_i at_k is =
-        let f = packet_of_event d times family i 0 js asked k (event_of c)
-        (ap (λ es. get_elem? es k) (sym (recorded.each i r at_i)) ∙ after_map event_of r.calls k c at_k) in
-        let home = (legal_call z v i k r c recorded.lawful at_i at_k).key.home in
-        sym f.dealt ∙ own.each f.number f.flow (key_home f.flow f.inside (ap (bucket_of z) (sym f.key) ∙ (home ∙ is)))
+        let at_bucket : bucket_of z c.key ≡ b = (legal_call z v i k r c recorded.lawful at_i at_k).key.home ∙ is in
+        elim (step_of_event d times family i 0 steps asked by k (event_of c)
+        (ap (λ es. get_elem? es k) (sym (recorded.each i r at_i)) ∙ after_map event_of r.calls k c at_k)) [
+          | inl f ↦ sym f.dealt ∙ own.each f.number f.flow (key_home f.flow f.inside (ap (bucket_of z) (sym f.key) ∙ at_bucket))
+          | inr f ↦ sym f.by ∙ (f.own ∙ (ap (λ n. n % d.workers) (ap (λ g. bucket_of (sizes_in d.layout g) f.removal.event.key) f.inside
+              ∙ (ap (λ (x : Event). bucket_of z x.key) f.event ∙ at_bucket)) ∙ own.number))
+        ]
 
     one_writer : (r : Record) → get_elem? v.records w ≡ some r → IsOneWriter v.known b r.number
     one_writer r at n x at_n =
@@ -187,13 +235,13 @@ module _ (d : Deal) (times : Timeouts) (family : Family) (b w : ℕ)
         sym m.3 ∙ ap (λ (y : Record). y.number) same
 
     -- the events lead to the map that is known
-    pub runs_at : (writes : ℕ) × IsRun (bounds_in d.layout family) empty 0 (events_at d.layout times home js) (map_now v b) writes
+    pub runs_at : (writes : ℕ) × IsRun (bounds_in d.layout family) empty 0 (steps_at d.layout times home steps) (map_now v b) writes
     runs_at =
         let r = there v.records w (let few = own.few in let count = recorded.count in omega arith) in
         let run = one_map z v w b r.0 recorded.lawful r.1 inside (one_writer r.0 r.1) in
-        let its : map event_of (calls_on b r.0.calls) ≡ events_at d.layout times home js
+        let its : map event_of (calls_on b r.0.calls) ≡ steps_at d.layout times home steps
         = on_bucket z b r.0.calls (λ k c at. (legal_call z v w k r.0 c recorded.lawful r.1 at).key.home)
-        ∙ (ap (events_on z b) (recorded.each w r.0 r.1) ∙ its_events 0 js asked) in
+        ∙ (ap (events_on z b) (recorded.each w r.0 r.1) ∙ its_events 0 steps asked by) in
         let start : opening_at v.known b ≡ empty = ap (λ openings. opening_in openings b) recorded.openings in (
           length (known_at v.known b),
           subst (λ es. IsRun (bounds_of z) empty 0 es (map_now v b) (length (known_at v.known b))) its

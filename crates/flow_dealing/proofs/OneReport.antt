@@ -1,5 +1,6 @@
 -- The report of all workers is that of one thread.
-use Rattle.std.proofs.Common.{◌≡◌, ◌≢◌, ◌⊎◌, ◌∙◌, ℕ, List, Option, Some, None, ap, refl, sym, subst}
+use Rattle.std.proofs.Common.{◌≡◌, ◌≢◌, ◌⊎◌, ◌∙◌, ℕ, List, [], ◌∷◌, Option, Some, None, All, ap, refl, sym, subst}
+use Rattle.std.proofs.lemmas.List.Elements.{All-cons, All-head, All-nil, All-tail}
 use Rattle.std.specs.FinMap.{empty}
 use lib.ListN.{get_elem?}
 use mathlib.Core.Option.{some}
@@ -15,19 +16,48 @@ use Rattle.session_state.specs.declared.flow.Flow.{Flow}
 use Rattle.session_state.specs.declared.timeouts.Timeouts.{Timeouts}
 use Rattle.session_state.specs.declared.verdict.Verdict.{Verdict}
 use Rattle.session_state.specs.declared.verdict.Verdict.TheVariants as verdict
-use Rattle.flow_filter.specs.Judged.{IsAsked, Judged, verdict_on}
-use Rattle.flow_filter.specs.OneThread.{AreVerdicts, HasPages, Home, IsHome, IsOneThread, bounds_in, events_at, family_of, nothing, sizes_in}
+use Rattle.flow_filter.specs.Ageing.{IsAgedThread, IsOfExpired, IsRightStep, Judges, Removal, Removes, Step, packets_in, removals_in, steps_at}
+use Rattle.flow_filter.specs.Judged.{IsAsked, Judged, readings_of, verdict_on, verdicts_on}
+use Rattle.flow_filter.specs.OneThread.{AreVerdicts, HasPages, Home, IsHome, IsOneThread, Layout, add_event, bounds_in, events_at, family_of, nothing, sizes_in}
+use Rattle.flow_filter.specs.Readings.{AreReadings}
+use Rattle.flow_filter.specs.Updates.{update_of}
+use Rattle.flow_filter.proofs.OneThreadLemmas.{some_verdicts}
+use Rattle.filter_laws.proofs.AgeingLemmas.{aged_verdicts}
 use Rattle.packet_dealing.specs.declared.dealing.Dealing.TheVariants.{Bucket}
 use Rattle.flow_dealing.specs.Views.{view_in}
 use Rattle.packet_dealing.specs.Dealings.{Deal, flow_of_reading, worker_of}
-use Rattle.flow_dealing.specs.WorkerRecords.{AreJudged, HavePages}
+use Rattle.flow_dealing.specs.WorkerRecords.{AreJudged, AreJudgedBetween, HavePages, IsByOwner, RemoveInTime}
 use Rattle.flow_dealing.proofs.OneOwner.{owner, runs_at}
 use Rattle.flow_dealing.proofs.PacketCalls.{IsFlowEvent, asked_flow, call_of_packet, some_worker}
 use Rattle.flow_dealing.proofs.Places.{after_map, all_at, all_from}
 use Rattle.flow_dealing.proofs.Refusals.{IsWant, refusal_is_verdict, wants}
 
+-- ---- Steps
+
+-- each step is right where its packets and its removals are
+right_steps : (times : Timeouts) (steps : List Step) → All (IsAsked times) (packets_in steps) → All HasPages (packets_in steps)
+    → All (IsOfExpired times) (removals_in steps) → All (IsRightStep times) steps
+right_steps times [] asked paged ended = All-nil (IsRightStep times)
+right_steps times (Judges j ∷ steps) asked paged ended =
+    All-cons (IsRightStep times) (Judges j) steps
+    (All-head (IsAsked times) j (packets_in steps) asked, All-head HasPages j (packets_in steps) paged)
+    (right_steps times steps (All-tail (IsAsked times) j (packets_in steps) asked) (All-tail HasPages j (packets_in steps) paged) ended)
+right_steps times (Removes r ∷ steps) asked paged ended =
+    All-cons (IsRightStep times) (Removes r) steps (All-head (IsOfExpired times) r (removals_in steps) ended)
+    (right_steps times steps asked paged (All-tail (IsOfExpired times) r (removals_in steps) ended))
+
+-- with no removals the events on a bucket are those of the packets
+packets_alone : (l : Layout) (times : Timeouts) (home : Home) (steps : List Step) → removals_in steps ≡ []
+    → steps_at l times home steps ≡ events_at l times home (packets_in steps)
+packets_alone l times home [] none = refl
+packets_alone l times home (Judges j ∷ steps) none =
+    ap (add_event l home (update_of times j.reading) j.event) (packets_alone l times home steps none)
+packets_alone l times home (Removes r ∷ steps) none = let f : ⊥ = cc in absurd f
+
+-- ---- All workers
+
 module _ (d : Deal) (times : Timeouts) (policy : PolicyFacts) (packets : List PacketFacts) (verdicts : List Verdict)
-    (are : AreJudged d times policy packets verdicts) where
+    (removals : List Removal) (are : AreJudgedBetween d times policy packets removals verdicts) where
   -- a packet whose event was refused for want of pages is told so
   refused : (k : ℕ) (j : Judged) (e : Event) (log2 left : ℕ) → get_elem? are.judged k ≡ some j → j.event ≡ Some e
       → e.reply ≡ reply.NoPages log2 left → verdict_on times j ≡ verdict.NoPages
@@ -44,7 +74,8 @@ module _ (d : Deal) (times : Timeouts) (policy : PolicyFacts) (packets : List Pa
           let family : Family = family_of flow.key in
           let recorded = are.recorded family in
           let c =
-          call_of_packet d times family are.judged (view_in are.views family) recorded k j flow e at is refl its in
+          call_of_packet d times family are.steps (view_in are.views family) recorded k j flow e
+          (ap (λ js. get_elem? js k) are.packets_are ∙ at) is refl its in
           let want =
           wants (sizes_in d.layout family)
           (view_in are.views family) (worker_of d k (Some flow)) c.place c.record_at c.call log2 left recorded.lawful
@@ -54,26 +85,66 @@ module _ (d : Deal) (times : Timeouts) (policy : PolicyFacts) (packets : List Pa
           (subst (λ (x : Event). IsWant (bounds_of (sizes_in d.layout family)) x.found x.change log2 left) c.event want)
           short
 
+  paged_all : HavePages verdicts → All HasPages are.judged
+  paged_all paged = all_from HasPages are.judged (λ k j at e its log2 left short.
+      all_at (λ v. v ≢ verdict.NoPages) verdicts k (verdict_on times j) paged
+      (ap (λ vs. get_elem? vs k) are.said ∙ after_map (verdict_on times) are.judged k j at)
+      (refused k j e log2 left at its short))
+
+  -- the events on a bucket lead to the map that all workers know of it
+  run_of_steps : (d.dealing ≡ Bucket) ⊎ (d.workers ≡ 1) → All (IsByOwner d) (removals_in are.steps) → (home : Home)
+      → IsHome d.layout home → (writes : ℕ)
+      × IsRun (bounds_in d.layout home.family) empty 0 (steps_at d.layout times home are.steps)
+      (map_now (view_in are.views home.family) home.bucket) writes
+  run_of_steps one by home inside =
+      let recorded = are.recorded home.family in
+      let o =
+      owner d home (some_worker d times home.family are.steps (view_in are.views home.family) recorded) one in
+      runs_at d times home.family home.bucket o.0 o.1 are.steps
+      (view_in are.views home.family) recorded (subst (All (IsAsked times)) (sym are.packets_are) are.asked) by inside
+
+  aged_by_one : (d.dealing ≡ Bucket) ⊎ (d.workers ≡ 1) → HavePages verdicts → RemoveInTime d are.steps
+      → IsAgedThread d.layout times nothing are.steps
+  aged_by_one one paged in_time = record {
+    right = right_steps times are.steps (subst (All (IsAsked times)) (sym are.packets_are) are.asked)
+        (subst (All HasPages) (sym are.packets_are) (paged_all paged))
+        (subst (All (IsOfExpired times)) (sym are.removals_are) are.ended);
+    runs = λ home inside. let run = run_of_steps one in_time.own home inside in
+        (map_now (view_in are.views home.family) home.bucket, run.0, run.1);
+    in_time = in_time.in_time;
+  }
+
+  -- the one-thread filter gives the packets these verdicts too
+  pub one_aged_report : (d.dealing ≡ Bucket) ⊎ (d.workers ≡ 1) → HavePages verdicts → RemoveInTime d are.steps
+      → AreVerdicts d.layout times policy packets verdicts
+  one_aged_report one paged in_time =
+      let (said, all) = some_verdicts d.layout times policy packets in
+      subst (AreVerdicts d.layout times policy packets)
+      (sym (aged_verdicts d.layout times policy packets said are.steps all (aged_by_one one paged in_time)
+      (subst (λ js. AreReadings policy packets (readings_of js)) (sym are.packets_are) are.read) in_time.few)
+      ∙ (ap (verdicts_on times) are.packets_are ∙ sym are.said)) all
+
+module _ (d : Deal) (times : Timeouts) (policy : PolicyFacts) (packets : List PacketFacts) (verdicts : List Verdict)
+    (are : AreJudged d times policy packets verdicts) where
   -- the events on a bucket lead to the map that all workers know of it
   pub run_at : (d.dealing ≡ Bucket) ⊎ (d.workers ≡ 1) → (home : Home) → IsHome d.layout home → (writes : ℕ)
       × IsRun (bounds_in d.layout home.family) empty 0 (events_at d.layout times home are.judged)
       (map_now (view_in are.views home.family) home.bucket) writes
   run_at one home inside =
-      let recorded = are.recorded home.family in
-      let o =
-      owner d home (some_worker d times home.family are.judged (view_in are.views home.family) recorded) one in
-      runs_at d times home.family home.bucket o.0 o.1 are.judged
-      (view_in are.views home.family) recorded are.asked inside
+      let (writes, run) = run_of_steps d times policy packets verdicts [] are one
+      (subst (All (IsByOwner d)) (sym are.removals_are) (All-nil (IsByOwner d))) home inside in (
+        writes,
+        subst (λ es. IsRun (bounds_in d.layout home.family) empty 0 es (map_now (view_in are.views home.family) home.bucket) writes)
+            (packets_alone d.layout times home are.steps are.removals_are
+            ∙ ap (events_at d.layout times home) are.packets_are) run,
+      )
 
   pub judged_by_one : (d.dealing ≡ Bucket) ⊎ (d.workers ≡ 1) → HavePages verdicts
       → IsOneThread d.layout times nothing are.judged
   judged_by_one one paged = record {
     asked = are.asked;
     runs = λ home inside. let run = run_at one home inside in (map_now (view_in are.views home.family) home.bucket, run.0, run.1);
-    paged = all_from HasPages are.judged (λ k j at e its log2 left short.
-        all_at (λ v. v ≢ verdict.NoPages) verdicts k (verdict_on times j) paged
-        (ap (λ vs. get_elem? vs k) are.said ∙ after_map (verdict_on times) are.judged k j at)
-        (refused k j e log2 left at its short));
+    paged = paged_all d times policy packets verdicts [] are paged;
   }
 
   pub one_report : (d.dealing ≡ Bucket) ⊎ (d.workers ≡ 1) → HavePages verdicts

@@ -1,6 +1,7 @@
--- The call of each packet, and the packet of each call.
-use Rattle.std.proofs.Common.{◌≡◌, ◌∙◌, ◌+◌, ◌<◌, ℕ, zero, suc, Bool, true, false, cond, List, [], ◌∷◌, Option, Some, None, ap, ap₂, refl, sym, subst, arith, inl, inr}
-use Rattle.std.specs.Prelude.{if◌then◌else◌, ◌==◌, option_map}
+-- The call of each packet, and the step of each call.
+use Rattle.std.proofs.Common.{◌≡◌, ◌⊎◌, ◌∙◌, ◌+◌, ◌<◌, ℕ, zero, suc, Bool, true, false, cond, List, [], ◌∷◌, Option, Some, None, All, ap, ap₂, refl, sym, subst, arith, inl, inr}
+use Rattle.std.specs.Prelude.{if◌then◌else◌, ◌==◌, ◌&&◌, option_map}
+use Rattle.std.proofs.lemmas.Bool.{and_parts, eqb-true}
 use Rattle.std.proofs.lemmas.Bool.Decides.{eqb_tells}
 use Rattle.std.proofs.lemmas.List.Elements.{All-head, All-tail}
 use lib.ListN.{get_elem?}
@@ -15,14 +16,15 @@ use Rattle.bihash_steps.proofs.Lists.{there}
 use Rattle.session_state.specs.declared.flow.Flow.{Flow}
 use Rattle.session_state.specs.declared.timeouts.Timeouts.{Timeouts}
 use Rattle.session_state.specs.Flows.{flow_of}
+use Rattle.flow_filter.specs.Ageing.{Judges, Removal, Removes, Step, packets_in, removals_in}
 use Rattle.flow_filter.specs.Readings.{Framed, Reading, Ruled}
 use Rattle.flow_filter.specs.Updates.{update_in, update_of, words_of}
 use Rattle.flow_filter.specs.Judged.{AreAsked, IsAsked, IsAskedBy, Judged}
 use Rattle.flow_filter.specs.OneThread.{Home, Layout, add_event, family_of, home_of, same_family, same_home}
 use Rattle.flow_filter.proofs.HomeLemmas.{families_are_one, family_as_itself}
 use Rattle.packet_dealing.specs.Dealings.{Deal, flow_of_reading, worker_of}
-use Rattle.flow_dealing.specs.WorkerRecords.{AreRecorded, add_in, events_by}
-use Rattle.flow_dealing.proofs.TraceMerges.{events_by-cons, events_by-nil, worker_few}
+use Rattle.flow_dealing.specs.WorkerRecords.{AreRecorded, IsByOwner, add_in, events_by}
+use Rattle.flow_dealing.proofs.DealtEvents.{events_by-judges, events_by-nil, events_by-removes, worker_few}
 use Rattle.flow_dealing.proofs.Places.{before_map}
 
 -- ---- A packet's event, by its flow
@@ -78,17 +80,17 @@ asked_in times (Ruled moment tuple ruling) event asked = go (flow_of tuple) aske
 pub asked_flow : (times : Timeouts) (j : Judged) → IsAsked times j → IsFlowEvent (flow_of_reading j.reading) j.event
 asked_flow times j asked = asked_in times j.reading j.event asked
 
--- a worker's events, whether the first packet is its own, by the packet's flow
-pub events_by-flow : (d : Deal) (times : Timeouts) (family : Family) (w n : ℕ) (j : Judged) (js : List Judged)
-    → events_by d times family w n (j ∷ js) ≡ cond (worker_of d n (flow_of_reading j.reading) == w)
-    (add_flow family (flow_of_reading j.reading) j.event (events_by d times family w (n + 1) js))
-    (events_by d times family w (n + 1) js)
-events_by-flow d times family w n j js = events_by-cons d times family w n j js
-    ∙ ap (λ es. cond (worker_of d n (flow_of_reading j.reading) == w) es (events_by d times family w (n + 1) js))
-    (add_in-flow family times j.reading j.event (events_by d times family w (n + 1) js))
+-- a worker's events, whether the packet that comes first is its own, by the packet's flow
+pub events_by-flow : (d : Deal) (times : Timeouts) (family : Family) (w n : ℕ) (j : Judged) (steps : List Step)
+    → events_by d times family w n (Judges j ∷ steps) ≡ cond (worker_of d n (flow_of_reading j.reading) == w)
+    (add_flow family (flow_of_reading j.reading) j.event (events_by d times family w (n + 1) steps))
+    (events_by d times family w (n + 1) steps)
+events_by-flow d times family w n j steps = events_by-judges d times family w n j steps
+    ∙ ap (λ es. cond (worker_of d n (flow_of_reading j.reading) == w) es (events_by d times family w (n + 1) steps))
+    (add_in-flow family times j.reading j.event (events_by d times family w (n + 1) steps))
 
 module _ (d : Deal) (times : Timeouts) (family : Family) where
-  -- ---- The packet of an event
+  -- ---- The step of an event
 
   -- a packet of this worker that has a flow of the family with the event's key
   pub record IsFrom (w : ℕ) (e : Event) : Type 0 where
@@ -98,45 +100,80 @@ module _ (d : Deal) (times : Timeouts) (family : Family) where
     pub key : e.key ≡ words_of flow.key
     pub dealt : worker_of d number (Some flow) ≡ w
 
+  -- a removal of this worker from the family's table, by the worker of its bucket
+  pub record IsRemovedBy (w : ℕ) (e : Event) : Type 0 where
+    pub removal : Removal
+    pub inside : removal.family ≡ family
+    pub event : removal.event ≡ e
+    pub by : removal.worker ≡ w
+    pub own : IsByOwner d removal
+
+  -- the step of an event
+  abbrev pub IsStep : ℕ → Event → Type 0
+  IsStep w e = IsFrom w e ⊎ IsRemovedBy w e
+
   from_first : (w n k : ℕ) (f : Option Flow) (event : Option Event) (E : List Event) (e : Event) → IsFlowEvent f event
       → worker_of d n f ≡ w
-      → get_elem? (add_flow family f event E) k ≡ some e → ((m : ℕ) → get_elem? E m ≡ some e → IsFrom w e) → IsFrom w e
+      → get_elem? (add_flow family f event E) k ≡ some e → ((m : ℕ) → get_elem? E m ≡ some e → IsStep w e) → IsStep w e
   from_first w n k None event E e its mine at more = more k at
   from_first w n k (Some flow) event E e its mine at more =
       go (same_family family (family_of flow.key)) refl k
       (ap (λ ev. get_elem? (add_flow family (Some flow) ev E) k) (sym its.1) ∙ at)
     where
       go : (t : Bool) → same_family family (family_of flow.key) ≡ t → (m : ℕ)
-          → get_elem? (if t then its.0 ∷ E else E) m ≡ some e → IsFrom w e
-      go true is zero there = record {
+          → get_elem? (if t then its.0 ∷ E else E) m ≡ some e → IsStep w e
+      go true is zero there = inl (record {
         number = n;
         flow = flow;
         inside = sym (families_are_one family (family_of flow.key) is);
         key = ap (λ (x : Event). x.key) (sym (some-injective its.0 e there)) ∙ its.2;
         dealt = mine;
-      }
+      })
       go true is (suc m) there = more m there
       go false is m there = more m there
 
-  pub packet_of_event : (w n : ℕ) (js : List Judged) → AreAsked times js → (k : ℕ) (e : Event)
-      → get_elem? (events_by d times family w n js) k ≡ some e → IsFrom w e
-  packet_of_event w n [] asked k e at =
+  removed_first : (w k : ℕ) (r : Removal) (E : List Event) (e : Event) → IsByOwner d r
+      → get_elem? (cond (same_family family r.family && (r.worker == w)) (r.event ∷ E) E) k ≡ some e
+      → ((m : ℕ) → get_elem? E m ≡ some e → IsStep w e) → IsStep w e
+  removed_first w k r E e own at more = go (same_family family r.family && (r.worker == w)) refl k at
+    where
+      go : (t : Bool) → (same_family family r.family && (r.worker == w)) ≡ t → (m : ℕ)
+          → get_elem? (cond t (r.event ∷ E) E) m ≡ some e → IsStep w e
+      go true is zero there =
+          let parts = and_parts (same_family family r.family) (r.worker == w) is in
+          inr (record {
+            removal = r;
+            inside = sym (families_are_one family r.family parts.0);
+            event = some-injective r.event e there;
+            by = eqb-true r.worker w parts.1;
+            own = own;
+          })
+      go true is (suc m) there = more m there
+      go false is m there = more m there
+
+  pub step_of_event : (w n : ℕ) (steps : List Step) → AreAsked times (packets_in steps) → All (IsByOwner d) (removals_in steps)
+      → (k : ℕ) (e : Event) → get_elem? (events_by d times family w n steps) k ≡ some e → IsStep w e
+  step_of_event w n [] asked own k e at =
       absurd (some-ne-none e (sym (ap (λ es. get_elem? es k) (sym (events_by-nil d times family w n)) ∙ at)))
-  packet_of_event w n (j ∷ js) asked k e at = elim (eqb_tells (worker_of d n (flow_of_reading j.reading)) w) [
+  step_of_event w n (Removes r ∷ steps) asked own k e at =
+      removed_first w k r (events_by d times family w n steps) e (All-head (IsByOwner d) r (removals_in steps) own)
+      (ap (λ es. get_elem? es k) (sym (events_by-removes d times family w n r steps)) ∙ at)
+      (λ m there. step_of_event w n steps asked (All-tail (IsByOwner d) r (removals_in steps) own) m e there)
+  step_of_event w n (Judges j ∷ steps) asked own k e at = elim (eqb_tells (worker_of d n (flow_of_reading j.reading)) w) [
     | inl (test, mine) ↦ from_first w n k (flow_of_reading j.reading) j.event E e
-        (asked_flow times j (All-head (IsAsked times) j js asked)) mine
+        (asked_flow times j (All-head (IsAsked times) j (packets_in steps) asked)) mine
         (ap (λ b. get_elem? (cond b (add_flow family (flow_of_reading j.reading) j.event E) E) k) (sym test) ∙ here)
-        (λ m there. packet_of_event w (n + 1) js (All-tail (IsAsked times) j js asked) m e there)
-    | inr (test, other) ↦ packet_of_event w (n + 1) js (All-tail (IsAsked times) j js asked) k e
+        (λ m there. step_of_event w (n + 1) steps (All-tail (IsAsked times) j (packets_in steps) asked) own m e there)
+    | inr (test, other) ↦ step_of_event w (n + 1) steps (All-tail (IsAsked times) j (packets_in steps) asked) own k e
         (ap (λ b. get_elem? (cond b (add_flow family (flow_of_reading j.reading) j.event E) E) k) (sym test) ∙ here)
   ]
     where
       E : List Event
-      E = events_by d times family w (n + 1) js
+      E = events_by d times family w (n + 1) steps
 
       here : get_elem? (cond (worker_of d n (flow_of_reading j.reading) == w) (add_flow family (flow_of_reading j.reading) j.event E) E)
           k ≡ some e
-      here = ap (λ es. get_elem? es k) (sym (events_by-flow d times family w n j js)) ∙ at
+      here = ap (λ es. get_elem? es k) (sym (events_by-flow d times family w n j steps)) ∙ at
 
   -- ---- The event of a packet
 
@@ -153,22 +190,32 @@ module _ (d : Deal) (times : Timeouts) (family : Family) where
       go true = (suc s.0, s.1)
       go false = s
 
-  pub event_of_packet : (w n : ℕ) (js : List Judged) (k : ℕ) (j : Judged) (flow : Flow) (e : Event)
-      → get_elem? js k ≡ some j
+  pub event_of_packet : (w n : ℕ) (steps : List Step) (k : ℕ) (j : Judged) (flow : Flow) (e : Event)
+      → get_elem? (packets_in steps) k ≡ some j
       → flow_of_reading j.reading ≡ Some flow → family_of flow.key ≡ family → j.event ≡ Some e
-      → worker_of d (n + k) (Some flow) ≡ w → Stands (events_by d times family w n js) e
+      → worker_of d (n + k) (Some flow) ≡ w → Stands (events_by d times family w n steps) e
   event_of_packet w n [] k j flow e at has inside its mine = absurd (some-ne-none j (sym at))
-  event_of_packet w n (x ∷ js) zero j flow e at has inside its mine =
+  event_of_packet w n (Removes r ∷ steps) k j flow e at has inside its mine =
+      subst (λ es. Stands es e) (sym (events_by-removes d times family w n r steps))
+      (later (same_family family r.family && (r.worker == w)) (event_of_packet w n steps k j flow e at has inside its mine))
+    where
+      E : List Event
+      E = events_by d times family w n steps
+
+      later : (b : Bool) → Stands E e → Stands (cond b (r.event ∷ E) E) e
+      later true s = (suc s.0, s.1)
+      later false s = s
+  event_of_packet w n (Judges x ∷ steps) zero j flow e at has inside its mine =
       let same : x ≡ j = some-injective x j at in
       let own : worker_of d n (flow_of_reading x.reading) ≡ w = ap (λ (y : Judged). worker_of d n (flow_of_reading y.reading)) same
       ∙ (ap (worker_of d n) has ∙ (let z : n ≡ n + 0 = omega arith in ap (λ m. worker_of d m (Some flow)) z ∙ mine)) in
-      let E : List Event = events_by d times family w (n + 1) js in
+      let E : List Event = events_by d times family w (n + 1) steps in
       let first : add_flow family (flow_of_reading x.reading) x.event E ≡ e ∷ E =
       ap₂ (λ f ev. add_flow family f ev E) (ap (λ (y : Judged). flow_of_reading y.reading) same ∙ has)
       (ap (λ (y : Judged). y.event) same ∙ its)
       ∙ ap (λ (b : Bool). if b then e ∷ E else E) (ap (same_family family) inside ∙ family_as_itself family) in (
         0,
-        ap (λ es. get_elem? es 0) (events_by-flow d times family w n x js)
+        ap (λ es. get_elem? es 0) (events_by-flow d times family w n x steps)
             ∙ (ap (λ (b : Bool). get_elem? (cond b (add_flow family (flow_of_reading x.reading) x.event E) E) 0)
             (elim (eqb_tells (worker_of d n (flow_of_reading x.reading)) w) [
               | inl (test, _) ↦ test
@@ -177,14 +224,14 @@ module _ (d : Deal) (times : Timeouts) (family : Family) where
             ])
             ∙ ap (λ es. get_elem? es 0) first),
       )
-  event_of_packet w n (x ∷ js) (suc k) j flow e at has inside its mine =
-      subst (λ es. Stands es e) (sym (events_by-flow d times family w n x js))
+  event_of_packet w n (Judges x ∷ steps) (suc k) j flow e at has inside its mine =
+      subst (λ es. Stands es e) (sym (events_by-flow d times family w n x steps))
       (later (worker_of d n (flow_of_reading x.reading) == w)
-      (event_of_packet w (n + 1) js k j flow e at has inside its
+      (event_of_packet w (n + 1) steps k j flow e at has inside its
       (let z : n + 1 + k ≡ n + suc k = omega arith in ap (λ m. worker_of d m (Some flow)) z ∙ mine)))
     where
       E : List Event
-      E = events_by d times family w (n + 1) js
+      E = events_by d times family w (n + 1) steps
 
       later : (b : Bool) → Stands E e → Stands (cond b (add_flow family (flow_of_reading x.reading) x.event E) E) e
       later true s = behind (flow_of_reading x.reading) x.event E e s
@@ -200,12 +247,12 @@ module _ (d : Deal) (times : Timeouts) (family : Family) where
     pub called : get_elem? record_at.calls place ≡ some call
     pub event : event_of call ≡ e
 
-  module _ (js : List Judged) (v : View) (recorded : AreRecorded d times family js v) where
+  module _ (steps : List Step) (v : View) (recorded : AreRecorded d times family steps v) where
     pub some_worker : 0 < d.workers
     some_worker = let acts = recorded.lawful.acts in let count = recorded.count in omega arith
 
-    pub call_of_packet : (k : ℕ) (j : Judged) (flow : Flow) (e : Event) → get_elem? js k ≡ some j
-        → flow_of_reading j.reading ≡ Some flow → family_of flow.key ≡ family → j.event ≡ Some e
+    pub call_of_packet : (k : ℕ) (j : Judged) (flow : Flow) (e : Event)
+        → get_elem? (packets_in steps) k ≡ some j → flow_of_reading j.reading ≡ Some flow → family_of flow.key ≡ family → j.event ≡ Some e
         → IsCallFor v (worker_of d k (Some flow)) e
     call_of_packet k j flow e at has inside its =
         let w : ℕ = worker_of d k (Some flow) in
@@ -213,6 +260,6 @@ module _ (d : Deal) (times : Timeouts) (family : Family) where
         there v.records w (let few = worker_few d k (Some flow) some_worker in let count = recorded.count in
         omega arith) in
         let number : 0 + k ≡ k = omega arith in
-        let s = event_of_packet w 0 js k j flow e at has inside its (ap (λ m. worker_of d m (Some flow)) number) in
+        let s = event_of_packet w 0 steps k j flow e at has inside its (ap (λ m. worker_of d m (Some flow)) number) in
         let c = before_map event_of r.0.calls s.0 e (ap (λ es. get_elem? es s.0) (recorded.each w r.0 r.1) ∙ s.1) in
         record { record_at = r.0; stands = r.1; place = s.0; call = c.0; called = c.1; event = c.2 }

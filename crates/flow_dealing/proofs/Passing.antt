@@ -16,6 +16,7 @@ use Rattle.bihash_rule.specs.declared.view.Record.{Record}
 use Rattle.bihash_rule.specs.declared.view.View.{View}
 use Rattle.session_state.specs.declared.timeouts.Timeouts.{Timeouts}
 use Rattle.session_state.specs.declared.verdict.Verdict.{Verdict}
+use Rattle.flow_filter.specs.Ageing.{Removal}
 use Rattle.flow_filter.specs.Readings.{Reading, Ruled, Ruling}
 use Rattle.flow_filter.specs.Updates.{Update, update_of}
 use Rattle.flow_filter.specs.Judged.{IsAsked, IsAskedBy, IsEventOf, Judged, verdict_with}
@@ -27,7 +28,7 @@ use Rattle.flow_filter.proofs.PassingLemmas.{pass_by_reading}
 use Rattle.flow_dealing.specs.Views.{view_in}
 use Rattle.packet_dealing.specs.Dealings.{Deal, flow_of_reading, worker_of}
 use Rattle.flow_dealing.specs.Places.{HasPlace, PassesAtPlace}
-use Rattle.flow_dealing.specs.WorkerRecords.{AreJudged, is_in}
+use Rattle.flow_dealing.specs.WorkerRecords.{AreJudgedBetween, is_in}
 use Rattle.flow_dealing.proofs.FewPackets.{flow_inside}
 use Rattle.flow_dealing.proofs.PacketCalls.{call_of_packet}
 use Rattle.flow_dealing.proofs.Places.{all_at}
@@ -76,10 +77,10 @@ place_of z v e at place r c lawful stands called is = go (is_changed c.reply) re
         }
 
 pub pass_at_place : (d : Deal) (times : Timeouts) (policy : PolicyFacts) (packets : List PacketFacts) (verdicts : List Verdict)
-    (are : AreJudged d times policy packets verdicts) (k : ℕ) (j : Judged) (moment : ℕ) (tuple : TupleFacts)
+    (removals : List Removal) (are : AreJudgedBetween d times policy packets removals verdicts) (k : ℕ) (j : Judged) (moment : ℕ) (tuple : TupleFacts)
     (ruling : Ruling) (u : Update) → get_elem? are.judged k ≡ some j → j.reading ≡ Ruled moment tuple ruling
     → update_of times j.reading ≡ Some u → PassesAtPlace d times are.views k j u ruling
-pass_at_place d times policy packets verdicts are k j moment tuple ruling u at reads updates =
+pass_at_place d times policy packets verdicts removals are k j moment tuple ruling u at reads updates =
     let family : Family = family_of u.key in
     let recorded = are.recorded family in
     let v : View = view_in are.views family in
@@ -89,7 +90,7 @@ pass_at_place d times policy packets verdicts are k j moment tuple ruling u at r
     let of : IsEventOf u e = asked.2 in
     let inside : is_in family (update_of times j.reading) ≡ true = ap (is_in family) updates ∙ family_as_itself family in
     let (flow, has, home) = flow_inside d times family j.reading inside in
-    let c = call_of_packet d times family are.judged v recorded k j flow e at has home its in
+    let c = call_of_packet d times family are.steps v recorded k j flow e (ap (λ js. get_elem? js k) are.packets_are ∙ at) has home its in
     let own : worker_of d k (flow_of_reading j.reading) ≡ worker_of d k (Some flow) = ap (worker_of d k) has in
     let stands = ap (get_elem? v.records) own ∙ c.stands in
     let p = place_of (sizes_in d.layout family) v e (worker_of d k (flow_of_reading j.reading)) c.place c.record_at c.call recorded.lawful

@@ -1,3 +1,4 @@
+pub mod AgeingTraces
 pub mod Places
 pub mod Traces
 pub mod Views

@@ -13,6 +13,7 @@ use Rattle.bihash_rule.specs.declared.view.Call.{Call}
 use Rattle.bihash_rule.specs.declared.view.Record.{Record}
 use Rattle.bihash_rule.specs.declared.view.View.{View}
 use Rattle.session_state.specs.declared.timeouts.Timeouts.{Timeouts}
+use Rattle.flow_filter.specs.Ageing.{Removal}
 use Rattle.flow_filter.specs.Judged.{Judged, verdict_on}
 use Rattle.flow_filter.specs.OneThread.{family_of, sizes_in}
 use Rattle.flow_filter.specs.Passing.{HoldsLive, LetsThrough}
@@ -21,7 +22,7 @@ use Rattle.flow_filter.specs.Updates.{Update, update_of}
 use Rattle.session_state.specs.Passes.{passes}
 use Rattle.session_state.specs.declared.verdict.Verdict.{Verdict}
 use Rattle.packet_dealing.specs.Dealings.{Deal, flow_of_reading, worker_of}
-use Rattle.flow_dealing.specs.WorkerRecords.{AreJudged}
+use Rattle.flow_dealing.specs.WorkerRecords.{AreJudgedBetween}
 use Rattle.flow_dealing.specs.Views.{Views, view_in}
 
 -- the event is a call of this worker's record, after `before` writes of its bucket, and leads from the map there to
@@ -51,9 +52,9 @@ pub record PassesAtPlace (d : Deal) (times : Timeouts) (views : Views) (number :
       (known_at (view_in views (family_of u.key)).known stands.call.bucket) stands.before)
       ⊎ LetsThrough u stands.left ruling)
 
--- however the packets were judged, each packet of a flow does so
+-- however the packets were judged, and whichever sessions were removed between them, each packet of a flow does so
 abbrev pub PassAtPlaces : Deal → Timeouts → PolicyFacts → List PacketFacts → List Verdict → Type 0
-PassAtPlaces d times policy packets verdicts = (are : AreJudged d times policy packets verdicts) (k : ℕ) (j : Judged)
-    (moment : ℕ) (tuple : TupleFacts) (ruling : Ruling) (u : Update) → get_elem? are.judged k ≡ some j
+PassAtPlaces d times policy packets verdicts = (removals : List Removal)
+    (are : AreJudgedBetween d times policy packets removals verdicts) (k : ℕ) (j : Judged) (moment : ℕ) (tuple : TupleFacts) (ruling : Ruling) (u : Update) → get_elem? are.judged k ≡ some j
     → j.reading ≡ Ruled moment tuple ruling → update_of times j.reading ≡ Some u
     → PassesAtPlace d times are.views k j u ruling

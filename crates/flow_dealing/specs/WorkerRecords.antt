@@ -1,5 +1,6 @@
--- What many workers leave: one event for each packet of a flow, in the record of the worker that it was dealt to.
-use Rattle.std.specs.Prelude.{◌≡◌, ◌≢◌, ◌≤◌, ◌*◌, ◌^◌, ℕ, ◌+◌, ◌==◌, Bool, true, false, count_by, if◌then◌else◌, List, [], ◌∷◌, length, map, Option, Some, None, All}
+-- What many workers leave: one event for each packet of a flow, in the record of the worker that it was dealt to, and one for
+-- each session that they remove.
+use Rattle.std.specs.Prelude.{◌≡◌, ◌≢◌, ◌≤◌, ◌<◌, ◌*◌, ◌%◌, ◌^◌, ℕ, ◌+◌, ◌==◌, ◌&&◌, Bool, true, false, count_by, if◌then◌else◌, List, [], ◌∷◌, length, map, Option, Some, None, All}
 use lib.ListN.{get_elem?}
 use mathlib.Core.Option.{some}
 use Rattle.packet_view.specs.Captures.{PacketFacts}
@@ -15,10 +16,11 @@ use Rattle.bihash_rule.specs.declared.view.View.{View}
 use Rattle.session_state.specs.declared.timeouts.Timeouts.{Timeouts}
 use Rattle.session_state.specs.declared.verdict.Verdict.{Verdict}
 use Rattle.session_state.specs.declared.verdict.Verdict.TheVariants.{NoPages}
+use Rattle.flow_filter.specs.Ageing.{IsOfExpired, Judges, NeverFall, Removal, Removes, Step, moment_of, packets_in, removals_in, removed_from}
 use Rattle.flow_filter.specs.Readings.{AreReadings}
 use Rattle.flow_filter.specs.Updates.{Update, update_of}
 use Rattle.flow_filter.specs.Judged.{IsAsked, Judged, verdict_on}
-use Rattle.flow_filter.specs.OneThread.{HasPages, Layout, family_of, same_family, sizes_in}
+use Rattle.flow_filter.specs.OneThread.{HasPages, Layout, bounds_in, family_of, same_family, sizes_in}
 use Rattle.flow_dealing.specs.Views.{Views, view_in}
 use Rattle.packet_dealing.specs.Dealings.{Deal, flow_of_reading, worker_of}
 use Rattle.flow_dealing.specs.Wanted.{HaveWanted}
@@ -30,36 +32,50 @@ add_in family None this others = others
 add_in family (Some u) None others = others
 add_in family (Some u) (Some this) others = if same_family family (family_of u.key) then this ∷ others else others
 
--- the events of a worker's packets on one family's table, in the order of the packets, whose numbers begin with n
-unfoldable pub events_by : Deal → Timeouts → Family → ℕ → ℕ → List Judged → List Event
+-- The events of a worker on one family's table, in the order of the steps: those of its packets, whose numbers begin with n,
+-- and its removals.
+unfoldable pub events_by : Deal → Timeouts → Family → ℕ → ℕ → List Step → List Event
 events_by d times family worker n [] = []
-events_by d times family worker n (j ∷ js) =
+events_by d times family worker n (Judges j ∷ steps) =
     if worker_of d n (flow_of_reading j.reading) == worker
-    then add_in family (update_of times j.reading) j.event (events_by d times family worker (n + 1) js)
-    else events_by d times family worker (n + 1) js
+    then add_in family (update_of times j.reading) j.event (events_by d times family worker (n + 1) steps)
+    else events_by d times family worker (n + 1) steps
+events_by d times family worker n (Removes r ∷ steps) =
+    if same_family family r.family && (r.worker == worker) then r.event ∷ events_by d times family worker n steps
+    else events_by d times family worker n steps
 
--- The records of one family's callers, all of them: that of each worker has the events of its packets, in their order,
--- and no other. The caller that has them is lawful and whole, of a table that began empty. Each call that was refused
--- for want of a block had wanted it at the map where it stands.
-pub record AreRecorded (d : Deal) (times : Timeouts) (family : Family) (js : List Judged) (v : View) : Type 0 where
+-- The records of one family's callers, all of them: that of each worker has the events of its packets and its removals, in
+-- their order, and no other. The caller that has them is lawful and whole, of a table that began empty. Each call that was
+-- refused for want of a block had wanted it at the map where it stands.
+pub record AreRecorded (d : Deal) (times : Timeouts) (family : Family) (steps : List Step) (v : View) : Type 0 where
   pub lawful : IsLawfulCaller (sizes_in d.layout family) v
   pub told : IsToldWhole (sizes_in d.layout family) v
   pub openings : v.known.openings ≡ no_openings
   pub count : length v.records ≡ d.workers
   pub each : (worker : ℕ) (r : Record) → get_elem? v.records worker ≡ some r
-      → map event_of r.calls ≡ events_by d times family worker 0 js
+      → map event_of r.calls ≡ events_by d times family worker 0 steps
   pub wanted : HaveWanted (sizes_in d.layout family) v
 
--- The packets were judged by workers: each asked once, what was said of them are the verdicts on what they found and
--- were answered, and their events stand in whole records.
-pub record AreJudged (d : Deal) (times : Timeouts) (policy : PolicyFacts) (packets : List PacketFacts)
-    (verdicts : List Verdict) : Type 0 where
+-- The packets were judged by workers, one of whom removed each of these sessions between them, which had ended. Each packet
+-- asked once, what was said of them are the verdicts on what they found and were answered, and the events of all that the workers
+-- did, in one order of steps, stand in whole records.
+pub record AreJudgedBetween (d : Deal) (times : Timeouts) (policy : PolicyFacts) (packets : List PacketFacts)
+    (removals : List Removal) (verdicts : List Verdict) : Type 0 where
   pub judged : List Judged
   pub read : AreReadings policy packets (map (λ j. j.reading) judged)
   pub asked : All (IsAsked times) judged
   pub said : verdicts ≡ map (verdict_on times) judged
+  pub steps : List Step
+  pub packets_are : packets_in steps ≡ judged
+  pub removals_are : removals_in steps ≡ removals
+  pub ended : All (IsOfExpired times) removals
+  pub by : All (λ r. r.worker < d.workers) removals
   pub views : Views
-  pub recorded : (family : Family) → AreRecorded d times family judged (view_in views family)
+  pub recorded : (family : Family) → AreRecorded d times family steps (view_in views family)
+
+-- the same where no session was removed
+abbrev pub AreJudged : Deal → Timeouts → PolicyFacts → List PacketFacts → List Verdict → Type 0
+AreJudged d times policy packets verdicts = AreJudgedBetween d times policy packets [] verdicts
 
 -- the same where this is what all callers know together
 abbrev pub AreJudgedBy : Deal → Timeouts → PolicyFacts → List PacketFacts → List Verdict → Views → Type 0
@@ -78,6 +94,15 @@ keyed times family js = count_by (λ j. is_in family (update_of times j.reading)
 abbrev pub AreFew : Layout → Timeouts → Family → List Judged → Type 0
 AreFew l times family js = keyed times family js * 2 ^ (sizes_in l family).max_log2 ≤ (sizes_in l family).pages
 
+-- how many removals are of this family's table
+abbrev pub removed_of : Family → List Removal → ℕ
+removed_of family removals = count_by (λ r. same_family family r.family) removals
+
+-- the same where sessions are removed too
+abbrev pub AreFewBetween : Layout → Timeouts → Family → List Removal → List Judged → Type 0
+AreFewBetween l times family removals js =
+    (keyed times family js + removed_of family removals) * 2 ^ (sizes_in l family).max_log2 ≤ (sizes_in l family).pages
+
 -- a packet of this family's flows was not refused for want of pages, and its verdict doesn't say so
 abbrev pub HasPagesIn : Timeouts → Family → Judged → Type 0
 HasPagesIn times family j =
@@ -86,3 +111,14 @@ HasPagesIn times family j =
 -- no verdict says no-pages
 abbrev pub HavePages : List Verdict → Type 0
 HavePages verdicts = All (λ v. v ≢ NoPages) verdicts
+
+-- a session is removed by the worker to whom packets of its bucket are dealt
+abbrev pub IsByOwner : Deal → Removal → Type 0
+IsByOwner d r = r.worker ≡ (removed_from d.layout r).bucket % d.workers
+
+-- Each session is removed by the worker of its bucket, moments never fall, and packets and removals are no more than the
+-- writes that a bucket may have.
+pub record RemoveInTime (d : Deal) (steps : List Step) : Type 0 where
+  pub own : All (IsByOwner d) (removals_in steps)
+  pub in_time : NeverFall 0 (map moment_of steps)
+  pub few : (family : Family) → length steps ≤ (bounds_in d.layout family).limit

@@ -4,6 +4,6 @@
 mod worker_record_laws;
 
 pub use worker_record_laws::{
-    few_packets_have_pages, packets_pass_at_their_places, traces_judge_each_packet,
-    workers_give_one_report,
+    ageing_workers_give_one_report, deeds_judge_each_packet, few_packets_have_pages,
+    packets_pass_at_their_places, traces_judge_each_packet, workers_give_one_report,
 };

@@ -1,19 +1,21 @@
 //! What traces and records of all workers mean for the verdicts.
 //!
 //! The functions do nothing: their contracts are the laws.
-ghost use Rattle.std.specs.Prelude.{◌≡◌, ◌⊎◌, ◌<◌, List, All};
+ghost use Rattle.std.specs.Prelude.{◌≡◌, ◌⊎◌, ◌<◌, List, All, map};
 ghost use Rattle.packet_view.specs.Captures.{PacketFacts};
 ghost use Rattle.packet_view.specs.declared.tuple.Family.{Family};
 ghost use Rattle.acl_policy.specs.Policies.{PolicyFacts};
 ghost use Rattle.session_state.specs.declared.timeouts.Timeouts.{Timeouts};
 ghost use Rattle.session_state.specs.declared.verdict.Verdict.{Verdict};
+ghost use Rattle.flow_filter.specs.Ageing.{Removal};
 ghost use Rattle.flow_filter.specs.OneThread.{AreVerdicts};
 ghost use Rattle.packet_dealing.specs.declared.dealing.Dealing.TheVariants.{Bucket};
 ghost use Rattle.flow_dealing.specs.Views.{Views, view_in};
+ghost use Rattle.flow_dealing.specs.AgeingTraces.{AreAllDeeds, CameOf, Deed, HaveDone, items_in};
 ghost use Rattle.packet_dealing.specs.Dealings.{Deal};
 ghost use Rattle.flow_dealing.specs.Traces.{AreGathered, ArePlaced, AreTraces, Item};
 ghost use Rattle.flow_dealing.specs.Places.{PassAtPlaces};
-ghost use Rattle.flow_dealing.specs.WorkerRecords.{AreFew, AreJudged, AreJudgedBy, HasPagesIn, HavePages};
+ghost use Rattle.flow_dealing.specs.WorkerRecords.{AreFew, AreFewBetween, AreJudged, AreJudgedBetween, AreJudgedBy, HasPagesIn, HavePages, RemoveInTime};
 
 /// Where each worker judged the packets that were dealt to it, each packet was judged once, and its event
 /// is in the record of its worker.
@@ -25,6 +27,17 @@ pub fn traces_judge_each_packet()
         → ArePlaced times packets traces verdicts → AreJudgedBy d times policy packets verdicts v }
 {}
 
+/// Where each worker judged the packets that were dealt to it and removed sessions that had ended between them, each packet
+/// was judged once, and its event and each removal's are in the record of its worker. They stand in one order of steps: where
+/// the deeds keep time, the moments of all steps never fall.
+pub fn deeds_judge_each_packet()
+    ensures { (d : Deal) (times : Timeouts) (policy : PolicyFacts) (packets : List PacketFacts)
+        (all : List (List Deed)) (v : Views) (verdicts : List Verdict)
+        → 0 < d.workers → AreAllDeeds d times policy packets all
+        → ((family : Family) → HaveDone d times family all (view_in v family))
+        → ArePlaced times packets (map items_in all) verdicts → CameOf d times policy packets all v verdicts }
+{}
+
 /// By the records of all workers: with one worker, or where packets are dealt by bucket, and no verdict says that pages
 /// were wanting, the verdicts are those of the one-thread filter.
 pub fn workers_give_one_report()
@@ -34,8 +47,20 @@ pub fn workers_give_one_report()
         → AreVerdicts d.layout times policy packets verdicts }
 {}
 
+/// By the records of all workers who remove sessions that have ended: with one worker, or where packets are dealt by bucket,
+/// where each session is removed by the worker of its bucket and moments never fall, where no verdict says that pages were
+/// wanting and there are no more packets and removals than writes that a bucket may have, the verdicts are those of the
+/// one-thread filter, which removes none.
+pub fn ageing_workers_give_one_report()
+    ensures { (d : Deal) (times : Timeouts) (policy : PolicyFacts) (packets : List PacketFacts) (removals : List Removal)
+        (verdicts : List Verdict) (are : AreJudgedBetween d times policy packets removals verdicts)
+        → (d.dealing ≡ Bucket) ⊎ (d.workers ≡ 1) → HavePages verdicts → RemoveInTime d are.steps
+        → AreVerdicts d.layout times policy packets verdicts }
+{}
+
 /// By the records of all workers: with so few packets of a family's flows that its pages can't run out, none of them is
-/// refused for want of pages, and none of their verdicts says so; with so few of both families no verdict does.
+/// refused for want of pages, and none of their verdicts says so; with so few of both families no verdict does. Where sessions
+/// are removed, removals count as packets do.
 pub fn few_packets_have_pages()
     ensures one_family { (d : Deal) (times : Timeouts) (policy : PolicyFacts) (packets : List PacketFacts)
         (verdicts : List Verdict) (are : AreJudged d times policy packets verdicts) (family : Family)
@@ -43,9 +68,12 @@ pub fn few_packets_have_pages()
     ensures both_families { (d : Deal) (times : Timeouts) (policy : PolicyFacts) (packets : List PacketFacts)
         (verdicts : List Verdict) (are : AreJudged d times policy packets verdicts)
         → ((family : Family) → AreFew d.layout times family are.judged) → HavePages verdicts }
+    ensures between { (d : Deal) (times : Timeouts) (policy : PolicyFacts) (packets : List PacketFacts) (removals : List Removal)
+        (verdicts : List Verdict) (are : AreJudgedBetween d times policy packets removals verdicts) (family : Family)
+        → AreFewBetween d.layout times family removals are.judged → All (HasPagesIn times family) are.judged }
 {}
 
-/// The main promise. Whatever packets are dealt by, and whatever verdicts say: each packet of a flow has its event in the
+/// The main promise. Whatever packets are dealt by, whichever sessions are removed, and whatever verdicts say: each packet of a flow has its event in the
 /// record of the worker that it is dealt to, at one place in the history of its bucket, and passes exactly where the map
 /// there holds a live session of its flow, or the first rule that matches lets it through.
 pub fn packets_pass_at_their_places()

@@ -46,11 +46,17 @@ abbrev pub IsRightStep : Timeouts → Step → Type 0
 IsRightStep times (Judges j) = IsAsked times j × HasPages j
 IsRightStep times (Removes r) = IsOfExpired times r
 
--- the packets among the steps
+-- the packets among the steps, in their order
 abbrev pub packets_in : List Step → List Judged
 packets_in [] = []
 packets_in (Judges j ∷ steps) = j ∷ packets_in steps
 packets_in (Removes r ∷ steps) = packets_in steps
+
+-- the removals among them
+abbrev pub removals_in : List Step → List Removal
+removals_in [] = []
+removals_in (Judges j ∷ steps) = removals_in steps
+removals_in (Removes r ∷ steps) = r ∷ removals_in steps
 
 -- the events on one bucket, in the order of the steps
 abbrev pub steps_at : Layout → Timeouts → Home → List Step → List Event

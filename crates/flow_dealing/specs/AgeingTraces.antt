@@ -1,0 +1,111 @@
+-- What one worker did that removes sessions too: the packets that were dealt to it, and its removals, in its order.
+use Rattle.std.specs.Prelude.{◌≡◌, ◌≤◌, ℕ, ◌+◌, if◌then◌else◌, List, [], ◌∷◌, length, map, Some, All, slice_get}
+use Rattle.std.specs.List.{AllZip}
+use lib.ListN.{get_elem?}
+use mathlib.Core.Option.{some}
+use Rattle.packet_view.specs.Captures.{PacketFacts}
+use Rattle.packet_view.specs.declared.tuple.Family.{Family}
+use Rattle.acl_policy.specs.Policies.{PolicyFacts}
+use Rattle.bihash_rule.specs.Views.{no_openings}
+use Rattle.bihash_rule.specs.Callers.{IsLawfulCaller}
+use Rattle.bihash_rule.specs.Histories.{event_of}
+use Rattle.bihash_steps.specs.Steps.{IsToldWhole}
+use Rattle.bihash_rule.specs.declared.view.Call.{Call}
+use Rattle.bihash_rule.specs.declared.view.View.{View}
+use Rattle.session_state.specs.declared.timeouts.Timeouts.{Timeouts}
+use Rattle.session_state.specs.declared.verdict.Verdict.{Verdict}
+use Rattle.flow_filter.specs.Ageing.{IsOfExpired, NeverFall, Removal, moment_of}
+use Rattle.flow_filter.specs.OneThread.{same_family, sizes_in}
+use Rattle.flow_filter.specs.Updates.{update_of}
+use Rattle.packet_dealing.specs.Dealings.{Deal}
+use Rattle.flow_dealing.specs.Traces.{IsTrace, Item}
+use Rattle.flow_dealing.specs.Views.{Views}
+use Rattle.flow_dealing.specs.Wanted.{HaveWanted}
+use Rattle.flow_dealing.specs.WorkerRecords.{AreJudgedBetween, IsByOwner, add_in}
+
+-- a removal: how many of all packets stand before it, its moment, the family of its table, and the call that it made
+pub record Aged : Type 0 where
+  pub behind : ℕ
+  pub moment : ℕ
+  pub family : Family
+  pub call : Call
+
+abbrev pub removal_by : ℕ → Aged → Removal
+removal_by worker a = record { worker = worker; moment = a.moment; family = a.family; event = event_of a.call }
+
+-- what a worker does
+pub data Deed : Type 0 where
+  -- it judges a packet
+  Takes : Item → Deed
+  -- it removes a session
+  Ages : Aged → Deed
+
+-- the items among the deeds, in their order
+abbrev pub items_in : List Deed → List Item
+items_in [] = []
+items_in (Takes i ∷ deeds) = i ∷ items_in deeds
+items_in (Ages a ∷ deeds) = items_in deeds
+
+-- the removals among them
+abbrev pub aged_in : List Deed → List Aged
+aged_in [] = []
+aged_in (Takes i ∷ deeds) = aged_in deeds
+aged_in (Ages a ∷ deeds) = a ∷ aged_in deeds
+
+-- the calls on one family's table, in the order of the deeds
+abbrev pub calls_by : Timeouts → Family → List Deed → List Call
+calls_by times family [] = []
+calls_by times family (Takes i ∷ deeds) = add_in family (update_of times i.reading) i.call (calls_by times family deeds)
+calls_by times family (Ages a ∷ deeds) =
+    if same_family family a.family then a.call ∷ calls_by times family deeds else calls_by times family deeds
+
+-- The deeds stand in the order of all packets, from one number on: a removal behind the packets that it names. None is behind
+-- more packets than there are.
+abbrev pub AreInOrder : ℕ → ℕ → List Deed → Type 0
+AreInOrder packets at [] = Unit {0}
+AreInOrder packets at (Takes i ∷ deeds) = (at ≤ i.packet) × AreInOrder packets (i.packet + 1) deeds
+AreInOrder packets at (Ages a ∷ deeds) = (at ≤ a.behind) × (a.behind ≤ packets) × AreInOrder packets a.behind deeds
+
+-- the deeds are a worker's packets, all of them, and removals of sessions that had ended, in the order of all packets
+pub record AreDeeds (d : Deal) (times : Timeouts) (worker : ℕ) (policy : PolicyFacts) (packets : List PacketFacts)
+    (deeds : List Deed) : Type 0 where
+  pub trace : IsTrace d times worker policy packets (items_in deeds)
+  pub ended : All (λ a. IsOfExpired times (removal_by worker a)) (aged_in deeds)
+  pub order : AreInOrder (length packets) 0 deeds
+
+-- so they are of all workers, in their order
+pub record AreAllDeeds (d : Deal) (times : Timeouts) (policy : PolicyFacts) (packets : List PacketFacts)
+    (all : List (List Deed)) : Type 0 where
+  pub count : length all ≡ d.workers
+  pub each : (w : ℕ) (deeds : List Deed) → get_elem? all w ≡ some deeds → AreDeeds d times w policy packets deeds
+
+-- One family's callers of these workers, all of them, as one caller that is lawful and whole, of a table whose buckets began
+-- empty: its records are those of the workers in their order, each with the calls of its worker's deeds, and calls that were
+-- refused for want of a block had wanted it.
+pub record HaveDone (d : Deal) (times : Timeouts) (family : Family) (all : List (List Deed)) (v : View) : Type 0 where
+  pub lawful : IsLawfulCaller (sizes_in d.layout family) v
+  pub told : IsToldWhole (sizes_in d.layout family) v
+  pub records : AllZip (λ deeds r. r.calls ≡ calls_by times family deeds) all v.records
+  pub openings : v.known.openings ≡ no_openings
+  pub wanted : HaveWanted (sizes_in d.layout family) v
+
+-- something is so of each removal, with its worker's number
+abbrev pub AreAllAged : (ℕ → Aged → Type 0) → List (List Deed) → Type 0
+AreAllAged P all = (w : ℕ) (deeds : List Deed) → get_elem? all w ≡ some deeds → All (P w) (aged_in deeds)
+
+-- A clock that never falls has each packet's moment between two of its own, and each removal at one.
+pub record KeepTime (packets : List PacketFacts) (all : List (List Deed)) : Type 0 where
+  pub clock : ℕ → ℕ
+  pub packets_keep : (k : ℕ) (packet : PacketFacts) → slice_get packets k ≡ Some packet
+      → (clock k ≤ packet.moment) × (packet.moment ≤ clock (k + 1))
+  pub removals_keep : AreAllAged (λ w a. a.moment ≡ clock a.behind) all
+
+-- What comes of all workers' deeds: the packets were judged, and between them sessions removed. Where the deeds keep time
+-- the moments of all steps never fall, and where each session was removed by the worker of its bucket it is so in the steps.
+pub record CameOf (d : Deal) (times : Timeouts) (policy : PolicyFacts) (packets : List PacketFacts) (all : List (List Deed))
+    (v : Views) (verdicts : List Verdict) : Type 0 where
+  pub removals : List Removal
+  pub judged : AreJudgedBetween d times policy packets removals verdicts
+  pub known : judged.views ≡ v
+  pub in_time : KeepTime packets all → NeverFall 0 (map moment_of judged.steps)
+  pub own : AreAllAged (λ w a. IsByOwner d (removal_by w a)) all → All (IsByOwner d) removals
