@@ -16,7 +16,9 @@
    A bucket has its pairs in a block of 1, 2, 4 .. or 64 of the table's pages, of 4 places each. With keys spread at
    random a new table of keys of two words took some 28,000 pairs until a bucket's next block wasn't there (7,000 of five
    words; a large table 453,000 of either), and some 12,000 where pairs came and went, since a block that was given back
-   serves blocks of its size alone. The hash has no seed: whoever chooses keys can choose their bucket.
+   serves blocks of its size alone. A pair stays until it is removed: where values tell which sessions are over, sweep
+   the buckets now and then, as bihash4_sweep_wait does, and the blocks of ended sessions come back, although no packet
+   of theirs comes. The hash has no seed: whoever chooses keys can choose their bucket.
 
    What the library is owed, since no compiler checks it:
    - A handle is what the last call left there. It is never copied, written or read by others, and each call has it for
@@ -170,6 +172,18 @@ bihash_answer bihash4_add_or_recycle(bihash4_handle *handle, const uint64_t key[
 bihash_answer bihash4_add_if_absent_or_recycle(bihash4_handle *handle, const uint64_t key[2], uint64_t value,
                                                const bihash_expiry *expiry);
 
+/* ---- Buckets, from 0 on: one try each, as of keys ---- */
+
+/* How many buckets a table has that create made, and one that create_large made. */
+#define BIHASH4_BUCKETS 4096
+#define BIHASH6_BUCKETS 1024
+#define BIHASH_LARGE_BUCKETS 65536
+
+/* Looks at a bucket, and takes away one pair there whose value is expired: REPLACED, with the value that went, or
+   WORN_FOUND. ABSENT: no pair of the bucket was expired, as far as the caller knew then, or the table has no such
+   bucket; no lock was taken. A value that isn't expired never goes. */
+bihash_answer bihash4_expire(bihash4_handle *handle, uint64_t bucket, const bihash_expiry *expiry);
+
 /* ---- The end of a table. Each other caller was joined before, else STRANGERS ---- */
 
 /* Opens the table again: its pairs stay, its buckets count their changes anew, and the caller is the first of it. DONE,
@@ -212,13 +226,16 @@ bihash_answer bihash6_add_or_recycle(bihash6_handle *handle, const uint64_t key[
                                      const bihash_expiry *expiry);
 bihash_answer bihash6_add_if_absent_or_recycle(bihash6_handle *handle, const uint64_t key[5], uint64_t value,
                                                const bihash_expiry *expiry);
+bihash_answer bihash6_expire(bihash6_handle *handle, uint64_t bucket, const bihash_expiry *expiry);
 uint32_t bihash6_renew(bihash6_handle *handle);
 uint32_t bihash6_close(bihash6_handle *handle);
 uint64_t bihash6_pair_count(bihash6_handle *handle);
 bool bihash6_pair_at(bihash6_handle *handle, uint64_t at, bihash6_pair *pair);
 void bihash6_free(bihash6_handle *handle);
 
-/* ---- Tries until one is answered: the calls on keys with `_wait` behind their names ---- */
+/* ---- Tries until one is answered: the calls on keys and buckets with `_wait` behind their names. sweep_wait takes
+   away the expired pairs of the buckets from `from` to before `to`, of each until a look finds none there or its changes
+   are used up, and says how many went. Callers may sweep the same buckets at once ---- */
 
 /* A pause between two tries. */
 static inline void bihash_pause(void) {
@@ -275,6 +292,17 @@ static inline bihash_expiry bihash_expiry_at(uint32_t moment, uint32_t timeout) 
   static inline bihash_answer FAMILY##_add_if_absent_or_recycle_wait(                                                  \
       FAMILY##_handle *handle, const uint64_t key[WORDS], uint64_t value, const bihash_expiry *expiry) {               \
     BIHASH_WAIT(FAMILY##_add_if_absent_or_recycle(handle, key, value, expiry));                                        \
+  }                                                                                                                    \
+  static inline bihash_answer FAMILY##_expire_wait(FAMILY##_handle *handle, uint64_t bucket,                           \
+                                                   const bihash_expiry *expiry) {                                      \
+    BIHASH_WAIT(FAMILY##_expire(handle, bucket, expiry));                                                              \
+  }                                                                                                                    \
+  static inline uint64_t FAMILY##_sweep_wait(FAMILY##_handle *handle, uint64_t from, uint64_t to,                      \
+                                             const bihash_expiry *expiry) {                                            \
+    uint64_t went = 0;                                                                                                 \
+    for (; from < to; from++)                                                                                          \
+      while (FAMILY##_expire_wait(handle, from, expiry).kind == BIHASH_REPLACED) went++;                               \
+    return went;                                                                                                       \
   }
 
 BIHASH_WAITING(bihash4, 2)

@@ -99,12 +99,14 @@ macro_rules! declared {
     (@raw key $f:ident $k:ident) => { *const $k };
     (@raw value $f:ident $k:ident) => { u64 };
     (@raw at $f:ident $k:ident) => { u64 };
+    (@raw bucket $f:ident $k:ident) => { u64 };
     (@raw expiry $f:ident $k:ident) => { *const Expiry };
     (@raw pair $f:ident $k:ident) => { *mut Pair<$k> };
     (@safe other $f:ident $k:ident) => { &mut Handle<$f> };
     (@safe key $f:ident $k:ident) => { &$k };
     (@safe value $f:ident $k:ident) => { u64 };
     (@safe at $f:ident $k:ident) => { u64 };
+    (@safe bucket $f:ident $k:ident) => { u64 };
     (@safe expiry $f:ident $k:ident) => { &Expiry };
     (@safe pair $f:ident $k:ident) => { *mut Pair<$k> };
 }
@@ -132,6 +134,7 @@ declared! {
         (key: &Self::Key, value: u64, expiry: &Expiry), RawAnswer;
     add_if_absent_or_recycle, bihash4_add_if_absent_or_recycle, bihash6_add_if_absent_or_recycle,
         (key: &Self::Key, value: u64, expiry: &Expiry), RawAnswer;
+    expire, bihash4_expire, bihash6_expire, (bucket: u64, expiry: &Expiry), RawAnswer;
     renew, bihash4_renew, bihash6_renew, (), u32;
     close, bihash4_close, bihash6_close, (), u32;
     pair_count, bihash4_pair_count, bihash6_pair_count, (), u64;

@@ -31,7 +31,7 @@ use std::fmt;
 use std::hint::spin_loop;
 use std::marker::PhantomData;
 use std::mem::{ManuallyDrop, MaybeUninit};
-use std::ops::{Deref, DerefMut};
+use std::ops::{Deref, DerefMut, Range};
 use std::sync::atomic::{AtomicU64, Ordering};
 
 pub use calls::{Family, V4, V6};
@@ -88,6 +88,10 @@ impl Expiry {
     pub fn at(moment: u32, timeout: u32) -> Expiry {
         let least = u64::from(moment.saturating_sub(timeout));
         Expiry { mask: u64::from(u32::MAX), least }
+    }
+
+    fn raw(self) -> RawExpiry {
+        RawExpiry { mask: self.mask, least: self.least }
     }
 }
 
@@ -238,10 +242,39 @@ impl<F: Family> Caller<F> {
         remove, try_remove() => |handle, key| F::remove(handle, key);
         /// As `add`; in a full bucket the new pair takes the place of the expired one with the least key.
         add_or_recycle, try_add_or_recycle(value: u64, expiry: Expiry) => |handle, key|
-            F::add_or_recycle(handle, key, checked(value), &RawExpiry { mask: expiry.mask, least: expiry.least });
+            F::add_or_recycle(handle, key, checked(value), &expiry.raw());
         /// As `add_if_absent`, in the same way.
         add_if_absent_or_recycle, try_add_if_absent_or_recycle(value: u64, expiry: Expiry) => |handle, key|
-            F::add_if_absent_or_recycle(handle, key, checked(value), &RawExpiry { mask: expiry.mask, least: expiry.least });
+            F::add_if_absent_or_recycle(handle, key, checked(value), &expiry.raw());
+    }
+
+    /// Looks at a bucket, and takes away one pair there whose value is expired: `Replaced` with the value that went, or
+    /// `Worn`. `Absent`: no pair of the bucket was expired, or the table has no such bucket. A new table has 4,096
+    /// buckets, or 1,024 of [`V6`], and a large one 65,536.
+    pub fn expire(&mut self, bucket: u64, expiry: Expiry) -> Answer {
+        loop {
+            if let Ok(answer) = self.try_expire(bucket, expiry) {
+                return answer;
+            }
+            spin_loop();
+        }
+    }
+
+    /// The same in one try.
+    pub fn try_expire(&mut self, bucket: u64, expiry: Expiry) -> Result<Answer, Contended> {
+        answer_of(unsafe { F::expire(&mut self.held.handle, bucket, &expiry.raw()) })
+    }
+
+    /// Takes the expired pairs of these buckets away, of each until a look finds none there or its changes are used up,
+    /// and says how many went.
+    pub fn sweep(&mut self, buckets: Range<u64>, expiry: Expiry) -> u64 {
+        let mut went = 0;
+        for bucket in buckets {
+            while let Answer::Replaced(_) = self.expire(bucket, expiry) {
+                went += 1;
+            }
+        }
+        went
     }
 }
 

@@ -35,6 +35,12 @@ abbrev pub search_answer_of : Result (Option ℕ) Contended → Answer
 search_answer_of (Ok found) = value_told found 0 1
 search_answer_of (Err refused) = bare 8
 
+-- the same of a look for an expired pair: none, or what its removal came to
+abbrev pub expire_answer_of : Result (Option Reply) Contended → Answer
+expire_answer_of (Ok None) = bare 0
+expire_answer_of (Ok (Some reply)) = answer_of (Ok reply)
+expire_answer_of (Err refused) = bare 8
+
 -- the numbers of refusals: memory, numbers, contended, strangers
 abbrev pub split_number : Split.SplitFault → ℕ
 split_number SplitFaults.Memory = 9

@@ -1,18 +1,28 @@
 -- What becomes of a caller that has its table with it: s is the caller before a call, t after it.
-use Rattle.std.specs.Prelude.{◌≡◌, ◌≤◌, ◌<◌, ◌⊎◌, ℕ, List}
+use Rattle.std.specs.Prelude.{◌≡◌, ◌≤◌, ◌<◌, ◌⊎◌, ℕ, Bool, List, Option, None, Result, Ok}
 use Rattle.bihash_words.specs.Sizes.{Sizes, sizes_of}
+use Rattle.bihash_words.specs.declared.patch.Reply.{Reply}
 use Rattle.bihash_words.specs.declared.shape.Shape.{Ghosts}
+use Rattle.bihash_rule.specs.Words.{buckets}
 use Rattle.bihash_rule.specs.Callers.{Agrees, IsLawfulCaller}
 use Rattle.bihash_steps.specs.Renewals.{IsRenewed}
 use Rattle.bihash_steps.specs.Steps.{newcomer, parent}
 use Rattle.bihash_steps.specs.Seats.{CallerState, with_view}
 use Rattle.bihash_rule.specs.declared.view.View.{View}
+use Rattle.bihash_table.specs.Ageing.{TellsExpireTry}
 use Rattle.bihash_table.specs.Closing.{ArePairsOf, IsCloseRefused, WasWhole}
 use Rattle.bihash_table.specs.Renewing.{IsRenewRefused}
 use Rattle.bihash_table.specs.declared.close_fault.CloseFault.{CloseFault}
 use Rattle.bihash_table.specs.declared.close_fault.CloseFault.TheVariants.{Strangers}
+use Rattle.bihash_table.specs.declared.contended.Contended.{Contended}
 use Rattle.bihash_table.specs.declared.renew_fault.RenewFault as Renew
 use Rattle.bihash_table.specs.declared.renew_fault.RenewFault.TheVariants as RenewVariants
+
+-- One try of a look at bucket b for an expired pair. Where the table has no such bucket none is found, and nothing was
+-- done.
+pub record LooksAt (z : Sizes) (b : ℕ) (is_expired : ℕ → Bool) (r : Result (Option Reply) Contended) (s t : CallerState) : Type 0 where
+  pub inside : b < buckets z → TellsExpireTry z s t b is_expired r
+  pub outside : buckets z ≤ b → (t ≡ s) × (r ≡ Ok None)
 
 -- the caller became t, and the new caller u has a number of its own
 pub record IsSplit (z : Sizes) (s t u : CallerState) : Type 0 where

@@ -13,8 +13,8 @@ use Rattle.bihash_table.specs.Calls.{TellsRecycleTry, TellsSearchTry, TellsUpdat
 use Rattle.bihash_table.specs.declared.close_fault.CloseFault.{CloseFault}
 use Rattle.bihash_table.specs.declared.contended.Contended.{Contended}
 use Rattle.bihash_table.specs.declared.renew_fault.RenewFault.{RenewFault}
-use Rattle.bihash_c.specs.Answers.{answer_of, close_number, renew_number, search_answer_of, split_number, stamp_told}
-use Rattle.bihash_c.specs.CallersWithTable.{IsCloseTold, IsClosed, IsRenewTold, IsRenewedFrom, IsSplit}
+use Rattle.bihash_c.specs.Answers.{answer_of, close_number, expire_answer_of, renew_number, search_answer_of, split_number, stamp_told}
+use Rattle.bihash_c.specs.CallersWithTable.{IsCloseTold, IsClosed, IsRenewTold, IsRenewedFrom, IsSplit, LooksAt}
 use Rattle.bihash_c.specs.declared.answer_numbers.Answer.{Answer}
 use Rattle.bihash_c.specs.declared.answer_numbers.Stamp.{Stamp}
 use Rattle.bihash_c.specs.declared.handle_content.Content.{Content}
@@ -61,6 +61,12 @@ pub record RecycleTold {A K : Type 0} (g : Ghosts A K) (key : K) (decision : Opt
   pub tried : Result Reply Contended
   pub told : TellsRecycleTry g s t key decision is_expired tried
   pub same : answer ≡ answer_of tried
+
+-- one try of a look at a bucket for an expired pair
+pub record ExpireTold (z : Sizes) (b : ℕ) (is_expired : ℕ → Bool) (answer : Answer) (s t : CallerState) : Type 0 where
+  pub tried : Result (Option Reply) Contended
+  pub told : LooksAt z b is_expired tried s t
+  pub same : answer ≡ expire_answer_of tried
 
 -- caller 1 of a new table
 abbrev pub IsFirst : {A K : Type 0} → Sizes → Content A K → Type 0

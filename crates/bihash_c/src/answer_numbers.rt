@@ -1,6 +1,6 @@
 //! What C is told: one number for each answer, with all that the answer carries.
 ghost use Rattle.std.specs.Prelude.{◌≡◌};
-ghost use Rattle.bihash_c.specs.Answers.{answer_of, close_number, renew_number, search_answer_of, split_number, stamp_told, value_told};
+ghost use Rattle.bihash_c.specs.Answers.{answer_of, close_number, expire_answer_of, renew_number, search_answer_of, split_number, stamp_told, value_told};
 
 use bihash_table::{CloseFault, Contended, RenewFault, SplitFault};
 use bihash_words::Reply;
@@ -113,6 +113,18 @@ pub fn search_answer(tried: Result<Option<u64>, Contended>) -> Answer
 {
     match tried {
         Ok(found) => found_answer(found, ABSENT, FOUND),
+        Err(Contended) => bare(CONTENDED),
+    }
+}
+
+/// What C is told of a look for an expired pair: that there is none, or what its removal came to.
+#[inline(always)]
+pub fn expire_answer(tried: Result<Option<Reply>, Contended>) -> Answer
+    ensures { result ≡ expire_answer_of tried }
+{
+    match tried {
+        Ok(None) => bare(ABSENT),
+        Ok(Some(reply)) => reply_answer(Ok(reply)),
         Err(Contended) => bare(CONTENDED),
     }
 }

@@ -1,8 +1,9 @@
-//! What C calls on the keys of a table of IPv6 flows: one try each.
+//! What C calls on the keys and buckets of a table of IPv6 flows: one try each.
 ghost use Rattle.std.specs.Prelude.{◌≢◌};
+ghost use Rattle.bihash_words.specs.Sizes.{sizes_of};
 ghost use Rattle.bihash_words.specs.Patches.{free_mark, set_if_absent, set_if_present};
 ghost use Rattle.bihash_words.specs.declared.patch.Change.TheVariants.{Remove, Set};
-ghost use Rattle.bihash_c.specs.Contents.{RecycleTold, SearchTold, UpdateTold};
+ghost use Rattle.bihash_c.specs.Contents.{ExpireTold, RecycleTold, SearchTold, UpdateTold};
 ghost use Rattle.bihash_c.specs.EitherSizes.{Calls, HasCaller};
 ghost use Rattle.bihash_c.specs.Expiries.{is_below};
 ghost use Rattle.bihash_c.specs.Handles6.{content_in};
@@ -124,6 +125,25 @@ pub extern "C" fn bihash6_add_if_absent_or_recycle(
         (RecycleTold ⟦<LargeV6 as Shape>⟧ key.now (set_if_absent value) (is_below expiry.now.mask expiry.now.least) result) }
 {
     recycle(alloc, handle, key, &AddIfAbsent { value }, expiry)
+}
+
+/// Looks at a bucket, and takes away one pair there whose value is expired.
+#[unsafe(no_mangle)]
+pub extern "C" fn bihash6_expire(
+    alloc: Global,
+    handle: &mut Handle6,
+    bucket: u64,
+    expiry: &MaskExpiry,
+) -> Answer
+    requires { HasCaller (content_in handle.old.place) }
+    ensures { Calls (content_in handle.old.place) (content_in handle.new.place)
+        (ExpireTold (sizes_of ⟦<ShapeV6 as Shape>⟧) bucket (is_below expiry.now.mask expiry.now.least) result)
+        (ExpireTold (sizes_of ⟦<LargeV6 as Shape>⟧) bucket (is_below expiry.now.mask expiry.now.least) result) }
+{
+    let mut place = handle.take(alloc);
+    let answer = place.as_mut().content.expire(bucket, expiry);
+    handle.put(place);
+    answer
 }
 
 // One try of an update.

@@ -1,5 +1,7 @@
-//! The calls of a caller with its table on keys: one try each.
+//! The calls of a caller with its table on keys and buckets: one try each.
+ghost use Rattle.bihash_words.specs.Sizes.{sizes_of};
 ghost use Rattle.bihash_table.specs.Calls.{TellsRecycleTry, TellsSearchTry, TellsUpdateTry};
+ghost use Rattle.bihash_c.specs.CallersWithTable.{LooksAt};
 
 use crate::caller_with_table::CallerWithTable;
 use bihash_table::{Contended, KeyWithHash};
@@ -38,5 +40,19 @@ impl<S: Shape> CallerWithTable<S> {
         let sessions = self.share.sessions();
         let hash = S::hash(key);
         sessions.try_add_or_recycle(&mut self.caller, &KeyWithHash { key, hash }, patch, expiry)
+    }
+
+    /// One try of a look at a bucket for an expired pair by a caller with its table. In a bucket that the table doesn't have
+    /// none is found.
+    pub fn expire<E: Expiry>(&mut self, bucket: u64, expiry: &E) -> Result<Option<Reply>, Contended>
+        ensures { LooksAt (sizes_of S.Shape) bucket (E.is_expired expiry.now) result self.old self.new }
+    {
+        let sessions = self.share.sessions();
+        sessions.row.is_sound();
+        let buckets = 1u64 << S::LOG2_BUCKETS;
+        if bucket >= buckets {
+            return Ok(None);
+        }
+        sessions.try_expire(&mut self.caller, bucket as usize, expiry)
     }
 }

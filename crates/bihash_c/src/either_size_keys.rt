@@ -1,5 +1,6 @@
-//! The calls on keys of what is behind a handle, whichever size its table has.
-ghost use Rattle.bihash_c.specs.Contents.{RecycleTold, SearchTold, UpdateTold};
+//! The calls on keys and buckets of what is behind a handle, whichever size its table has.
+ghost use Rattle.bihash_words.specs.Sizes.{sizes_of};
+ghost use Rattle.bihash_c.specs.Contents.{ExpireTold, RecycleTold, SearchTold, UpdateTold};
 ghost use Rattle.bihash_c.specs.EitherSizes.{Calls, HasCaller};
 
 use crate::answer_numbers::Answer;
@@ -49,6 +50,19 @@ impl<S: Shape, L: Shape<Key = S::Key>> EitherSize<S, L> {
         match self {
             EitherSize::Small(content) => content.add_or_recycle(key, patch, expiry),
             EitherSize::Large(content) => content.add_or_recycle(key, patch, expiry),
+        }
+    }
+
+    /// One try of a look at a bucket for an expired pair.
+    pub fn expire<E: Expiry>(&mut self, bucket: u64, expiry: &E) -> Answer
+        requires { HasCaller self.old }
+        ensures { Calls self.old self.new
+            (ExpireTold (sizes_of S.Shape) bucket (E.is_expired expiry.now) result)
+            (ExpireTold (sizes_of L.Shape) bucket (E.is_expired expiry.now) result) }
+    {
+        match self {
+            EitherSize::Small(content) => content.expire(bucket, expiry),
+            EitherSize::Large(content) => content.expire(bucket, expiry),
         }
     }
 }

@@ -1,7 +1,8 @@
-//! The calls on keys of what is behind a handle, answered as C is told.
-ghost use Rattle.bihash_c.specs.Contents.{Calls, HasCaller, RecycleTold, SearchTold, UpdateTold};
+//! The calls on keys and buckets of what is behind a handle, answered as C is told.
+ghost use Rattle.bihash_words.specs.Sizes.{sizes_of};
+ghost use Rattle.bihash_c.specs.Contents.{Calls, ExpireTold, HasCaller, RecycleTold, SearchTold, UpdateTold};
 
-use crate::answer_numbers::{Answer, reply_answer, search_answer};
+use crate::answer_numbers::{Answer, expire_answer, reply_answer, search_answer};
 use crate::handle_content::Content;
 use bihash_words::{Expiry, Patch, Shape};
 
@@ -46,5 +47,16 @@ impl<S: Shape> Content<S> {
             unreachable!();
         };
         reply_answer(caller.add_or_recycle(key, patch, expiry))
+    }
+
+    /// One try of a look at a bucket for an expired pair.
+    pub fn expire<E: Expiry>(&mut self, bucket: u64, expiry: &E) -> Answer
+        requires { HasCaller self.old }
+        ensures { Calls self.old self.new (ExpireTold (sizes_of S.Shape) bucket (E.is_expired expiry.now) result) }
+    {
+        let Content::Caller(caller) = self else {
+            unreachable!();
+        };
+        expire_answer(caller.expire(bucket, expiry))
     }
 }
