@@ -24,7 +24,7 @@ use Rattle.session_state.specs.declared.verdict.Verdict.{Verdict}
 use Rattle.flow_filter.specs.OneThread.{layout_of}
 use Rattle.packet_dealing.specs.Dealings.{Deal, flow_of_frame, worker_of}
 use Rattle.flow_dealing.specs.Traces.{AreFrames, ArePlaced, IsTrace, Item, numbers_from}
-use Rattle.flow_dealing.proofs.TraceMerges.{all_views, worker_few}
+use Rattle.flow_dealing.proofs.DealtEvents.{all_views, worker_few}
 use Rattle.flow_dealing.proofs.Places.{after_map, at_front, before_map, zip_count}
 use Rattle.flow_workers.specs.declared.verdict_merge.VerdictMerge.{VerdictMerge}
 use Rattle.flow_workers.specs.inner.Work.{AreSaid, RunFacts, numbers_of, verdict_in}
