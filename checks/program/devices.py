@@ -1,7 +1,5 @@
 """Devices that fail, refused memory, a small stack, and reads and writes that signals interrupt."""
 import os
-import shutil
-import subprocess
 import tempfile
 
 from support.captures import CAPTURE, MOST_BYTES, NAMES, REFLECTED, report_of
@@ -55,13 +53,6 @@ class Devices(Case):
 
     @each(INTERRUPTED)
     def interrupted(self, data, want):
-        """Reads and writes are interrupted by a library that is loaded before the C library."""
-        library = f"{self.folder}/interrupt.so"
-        made = shutil.which("cc") and subprocess.run(
-            ["cc", "-O1", "-shared", "-fPIC", "-o", library, f"{TOP}/checks/interrupt.c", "-ldl"]).returncode == 0
-        self.compare({"made": bool(made)}, {"made": True}, "checks/interrupt.c")
-        if made:
-            # (only the program itself is interrupted, and no command of a launcher)
-            env = {**os.environ, "LD_PRELOAD": library, "INTERRUPTED": os.path.basename(self.program.path)}
-            for number in FEW_WORKERS:
-                self.compare(self.program.run(["--workers", number], data(), env=env), want(), f"{number} workers")
+        env = self.interrupting()
+        for number in FEW_WORKERS:
+            self.compare(self.program.run(["--workers", number], data(), env=env), want(), f"{number} workers")

@@ -47,11 +47,6 @@ class Saved(Case):
                 self.compare({"capture": held(path)}, {"capture": chosen(data, want["stdout"], word)}, word.decode(), f"{workers} workers")
                 os.remove(path)
 
-    def test_capture_that_is_saved_to(self):
-        report = self.program.run(self.files)
-        self.compare(self.program.run(["--drops", self.files[1], *self.files]), report, "the run")
-        self.compare({"capture": held(self.files[1])}, {"capture": chosen(CAPTURE, report["stdout"], b"drop")}, "the capture")
-
     def test_wrong_policy(self):
         self.hold("policy", b"in deny\n")
         got = self.program.run(["--drops", self.drops, *self.files])

@@ -111,6 +111,13 @@ class Case(unittest.TestCase):
             file.write(data)
         return path
 
+    def interrupting(self):
+        """The environment in which a library is loaded before the C library that interrupts, shortens and fails reads and writes."""
+        library = f"{self.folder}/interrupt.so"
+        subprocess.run(["cc", "-O1", "-shared", "-fPIC", "-o", library, f"{TOP}/checks/interrupt.c", "-ldl"], check=True)
+        # (only the program itself is interrupted, and no command of a launcher)
+        return {**os.environ, "LD_PRELOAD": library, "INTERRUPTED": os.path.basename(self.program.path)}
+
     def compare(self, got, want, *which):
         """One comparison: what was given, each by its name, is what is wanted. `which` says which comparison of the case this is."""
         which = ", ".join(map(str, which))

@@ -9,7 +9,8 @@ use racl_io::{Device, FrontKept, Joined, Source};
 use racl_options::{Asked, Files, Options, Origin};
 use racl_system::{
     LiveFiles, Output, Parts, Ran, Watched, asked_or_status, failure_status, opened_input,
-    opened_live, saves_to, say_end_of_live, say_end_of_run, say_unsaved, texts_of, words_of,
+    opened_live, saves_to, say_end_of_live, say_end_of_run, say_unsaved, say_used_twice, settled,
+    texts_of, words_of,
 };
 use std::alloc::Global;
 use std::io;
@@ -53,6 +54,11 @@ fn status_of_run<T: Threads + Wait + Sync>(
     alloc: Global,
     asked: &Asked<'_>,
 ) -> io::Result<u8> {
+    match say_used_twice(rt, alloc, asked) {
+        Ok(None) => {}
+        Ok(Some(status)) => return Ok(status),
+        Err(error) => return Err(error),
+    }
     let Parts { policy, captures } = match opened_input(rt, alloc, &asked.origin) {
         Ok(Ok(parts)) => parts,
         Ok(Err(status)) => return Ok(status),
@@ -91,7 +97,7 @@ fn run_main_program<T: Threads + Wait + Sync, R: Source + Send>(
             &mut writer,
             &mut saves,
         );
-        if say_unsaved(rt, saves)? {
+        if say_unsaved(rt, settled(saves))? {
             return Ok(None);
         }
         outcome

@@ -1,2 +1,3 @@
 pub mod NamedFiles
+pub mod Places
 pub mod SaveFiles

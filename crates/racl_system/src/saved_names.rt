@@ -1,0 +1,106 @@
+//! Whether files that packets are to be saved in are others than those that the run uses besides.
+ghost use Rattle.std.specs.Prelude.{◌≡◌, ◌<◌, IfOk, IfSome, None, Ok, length, position};
+ghost use Rattle.racl_system.specs.Places;
+
+use crate::input_files::{input_name_at, input_policy_name};
+use crate::named_place::{Place, is_one_file, place_of};
+use racl_options::{Asked, Origin};
+use std::alloc::Global;
+use std::io;
+
+/// The exit status where the words name one file twice.
+const ONE_FILE_TWICE: u8 = 2;
+
+/// The names that Linux has for the standard streams.
+const INPUT: &str = "/proc/self/fd/0";
+
+const OUTPUT: &str = "/proc/self/fd/1";
+
+const MESSAGES: &str = "/proc/self/fd/2";
+
+/// A file of a run.
+#[derive(Drop)]
+pub struct Used<'a> {
+    /// What the words call it.
+    name: &'a str,
+    /// What becomes of it.
+    fate: &'static str,
+    place: Place,
+}
+
+// The first of the files of a run that is the one at this place.
+fn first_at(place: &Place, used: &[Used<'_>]) -> Option<usize>
+    ensures first { result ≡ position (λ u. Places.is_one_file place.now u.place) used.now }
+    ensures within { IfSome result (λ i. i < length used.now) }
+{
+    used.iter().position(|it| is_one_file(place, &it.place))
+}
+
+// A file that is read by this name, or standard input.
+fn used_input<'a>(rt: &HostRuntime, alloc: Global, name: &'a str) -> io::Result<Used<'a>> {
+    let is_stream = name == "-";
+    let place = place_of(rt, alloc, if is_stream { INPUT } else { name })?;
+    Ok(Used {
+        name: if is_stream { "standard input" } else { name },
+        fate: "which is read",
+        place,
+    })
+}
+
+// The files that a run uses besides those in which it saves packets.
+fn used_besides<'a>(
+    rt: &HostRuntime,
+    alloc: Global,
+    origin: &Origin<'a>,
+) -> io::Result<Vec<Used<'a>>> {
+    let mut used = Vec::new(alloc);
+    used.push(used_input(rt, alloc, input_policy_name(origin))?)?;
+    for place in 0..256 {
+        let Some(name) = input_name_at(origin, place) else {
+            break;
+        };
+        used.push(used_input(rt, alloc, name)?)?;
+    }
+    for (name, stream) in [("standard output", OUTPUT), ("standard error", MESSAGES)] {
+        used.push(Used {
+            name,
+            fate: "which is written",
+            place: place_of(rt, alloc, stream)?,
+        })?;
+    }
+    Ok(used)
+}
+
+/// Says which file that packets are to be saved in is another one of the run, under whatever name, and answers the
+/// status then. Nothing is opened. No clause says which files names lead to, as of `place_of`.
+pub fn say_used_twice(rt: &HostRuntime, alloc: Global, asked: &Asked<'_>) -> io::Result<Option<u8>>
+    ensures status { IfOk result (λ found. IfSome found (λ status. status ≡ 2)) }
+    ensures unsaved { asked.now.saved.drops ≡ None → asked.now.saved.passes ≡ None → result ≡ Ok None }
+{
+    let saved = asked.saved;
+    if saved.drops.is_none() && saved.passes.is_none() {
+        return Ok(None);
+    }
+    let mut used = used_besides(rt, alloc, &asked.origin)?;
+    for asked_name in [saved.drops, saved.passes] {
+        let Some(name) = asked_name else {
+            continue;
+        };
+        let place = place_of(rt, alloc, name)?;
+        if let Some(first) = first_at(&place, used.as_slice()) {
+            let Used {
+                name: other,
+                fate,
+                ..
+            } = &used[first];
+            rt.eprintln(format_args!("racl: {name}: the same file as {other}, {fate}"))?;
+            return Ok(Some(ONE_FILE_TWICE));
+        }
+        used.push(Used {
+            name,
+            fate: "which is saved too",
+            place,
+        })?;
+    }
+    Ok(None)
+}
