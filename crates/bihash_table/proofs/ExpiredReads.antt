@@ -4,24 +4,22 @@ use Rattle.std.specs.FinMap.{get}
 use Rattle.std.proofs.lemmas.Bool.{cases_lt}
 use Rattle.bihash_words.specs.Maps.{Pairs}
 use Rattle.bihash_words.specs.Sizes.{Sizes, sizes_of}
-use Rattle.bihash_words.specs.Words.{Bucket, packed}
+use Rattle.bihash_words.specs.Words.{Bucket}
 use Rattle.bihash_words.specs.declared.patch.Change.TheVariants.{Remove}
 use Rattle.bihash_words.specs.declared.patch.Reply.{Reply}
 use Rattle.bihash_words.specs.declared.shape.Shape.{Ghosts}
 use Rattle.bihash_rule.specs.Blocks.{HasPair, HoldsPair, IsBlockOf, free, places, value_in}
-use Rattle.bihash_rule.specs.Buckets.{AreReadIn, open_word, word_of}
+use Rattle.bihash_rule.specs.Buckets.{AreReadIn, word_of}
 use Rattle.bihash_rule.specs.Callers.{IsLawfulCaller, known_at, opening_at}
 use Rattle.bihash_rule.specs.Histories.{bucket_of}
-use Rattle.bihash_rule.specs.Views.{nothing_held}
 use Rattle.bihash_rule.specs.declared.view.Extent.{Extent}
-use Rattle.bihash_rule.specs.declared.view.Holdings.{Holdings}
 use Rattle.bihash_rule.specs.declared.view.OpenBucket.{OpenBucket}
 use Rattle.bihash_rule.specs.declared.view.View.{View}
 use Rattle.bihash_steps.specs.BucketCalls.{FindsBucket, event}
 use Rattle.bihash_steps.specs.BucketSteps.{SeesLocked, SeesOpen, map_now, with_history, with_reading}
 use Rattle.bihash_steps.specs.Seats.{CallerState, with_view}
 use Rattle.bihash_table.specs.Ageing.{Ages, TellsExpireTry, look_locks}
-use Rattle.bihash_table.specs.Answers.{locks_of, with_locks}
+use Rattle.bihash_table.specs.Answers.{locks_of}
 use Rattle.bihash_table.specs.Promise.{IsContended}
 use Rattle.bihash_table.specs.Tries.{Tried}
 use Rattle.bihash_table.specs.declared.contended.Contended.{Contended}

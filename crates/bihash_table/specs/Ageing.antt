@@ -1,5 +1,5 @@
 -- Ageing (this project's profile): expired pairs that go, bucket by bucket, without an update of their keys.
-use Rattle.std.specs.Prelude.{◌≡◌, ◌<◌, ◌≤◌, ◌-◌, ◌+◌, ◌^◌, ◌++◌, ℕ, Bool, true, false, List, [], ◌∷◌, All, count_by, Option, Some, None, Result, Ok, Err, IfOk, IfErr, is_ok}
+use Rattle.std.specs.Prelude.{◌≡◌, ◌<◌, ◌≤◌, ◌^◌, ◌++◌, ℕ, Bool, true, false, List, [], ◌∷◌, All, count_by, Option, Some, None, Result, Ok, Err, IfOk, IfErr, is_ok}
 use Rattle.std.specs.FinMap.{get}
 use Rattle.bihash_words.specs.Sizes.{Sizes}
 use Rattle.bihash_words.specs.declared.patch.Change.TheVariants.{Remove}

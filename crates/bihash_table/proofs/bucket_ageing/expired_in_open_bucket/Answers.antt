@@ -1,6 +1,6 @@
 use Rattle.std.proofs.Common.{◌+◌, arith, sym, ◌∙◌}
 use Rattle.bihash_words.specs.Sizes.{sizes_of}
-use Rattle.bihash_table.proofs.ExpiredReads.{finds_expired, none_expired, none_expired_free, none_expired_more, none_expired_yet}
+use Rattle.bihash_table.proofs.ExpiredReads.{finds_expired, none_expired_free, none_expired_more}
 use Rattle.bihash_table.proofs.OpenReadLemmas.{may_still, word_notes}
 use Rattle.bihash_table.proofs.PairReads.{read_value}
 use Rattle.bihash_table.proofs.bucket_ageing.expired_in_open_bucket.Goals as goal

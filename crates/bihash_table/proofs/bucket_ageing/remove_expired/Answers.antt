@@ -1,6 +1,5 @@
 use Rattle.std.proofs.Common.{sym, ◌∙◌}
-use Rattle.bihash_words.specs.Sizes.{sizes_of}
-use Rattle.bihash_table.proofs.ExpiredReads.{expired_found, expired_gone, expiry_away, no_stranger, update_away}
+use Rattle.bihash_table.proofs.ExpiredReads.{expired_found, no_stranger}
 use Rattle.bihash_table.proofs.bucket_ageing.remove_expired.Goals as goal
 
 pub unreachable-requires : goal.unreachable-requires

@@ -5,7 +5,8 @@ ghost use Rattle.bihash_rule.specs.Views.{nothing_held};
 
 use super::Call::Search;
 use super::{
-    BelowHundred, Eight, Row, add_keys_to_table, block, first_wrong, has, table_refused, two_callers,
+    BelowHundred, Eight, Row, add_keys_to_table, block, first_wrong, has, table_refused,
+    two_callers,
 };
 use bihash_table::{Caller, Contended, KeyWithHash, Sessions, create, stamp};
 use bihash_words::Reply::{Changed, Full, Kept};

@@ -1,4 +1,4 @@
-use Rattle.std.proofs.Common.{arith, sym, ◌∙◌}
+use Rattle.std.proofs.Common.{sym, ◌∙◌}
 use Rattle.bihash_words.specs.Sizes.{sizes_of}
 use Rattle.bihash_table.proofs.LooksInTurn.{removals_end, removals_more, removals_none}
 use Rattle.bihash_table.proofs.shared_table.Sessions.expire_all.Goals as goal

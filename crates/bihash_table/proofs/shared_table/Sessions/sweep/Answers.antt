@@ -1,6 +1,6 @@
-use Rattle.std.proofs.Common.{arith, le_refl}
+use Rattle.std.proofs.Common.{arith}
 use Rattle.bihash_words.specs.Sizes.{sizes_of}
-use Rattle.bihash_table.proofs.LooksInTurn.{sweeps_more, sweeps_none}
+use Rattle.bihash_table.proofs.LooksInTurn.{sweeps_more}
 use Rattle.bihash_table.proofs.shared_table.Sessions.sweep.Goals as goal
 
 pub loop-bucket-preserved : goal.loop-bucket-preserved
