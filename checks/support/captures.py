@@ -61,7 +61,6 @@ def parts_of(data):
     return policy, [(number, bytes.fromhex(it.decode())) for number, it in captures]
 
 
-
 def records_of(capture):
     """The header of a capture, and the bytes of its whole records."""
     order = ">" if capture[:1] == b"\xa1" else "<"

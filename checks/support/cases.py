@@ -1,4 +1,5 @@
 """What cases are made of: a program that is run, and a subject's cases, which compare what its runs gave with what is wanted."""
+import fnmatch
 import os
 import re
 import resource
@@ -137,3 +138,9 @@ class Case(unittest.TestCase):
 def word_of(name):
     """A case's name as a word of Python: a row of blanks and signs is an underscore."""
     return re.sub(r"\W+", "_", name).strip("_")
+
+
+def is_named(name, patterns):
+    """Whether a name has the words of one of these patterns, in which * is anything; each name is, where there is no pattern."""
+    words = (f"*{'*'.join(map(word_of, it.split('*')))}*" for it in patterns)
+    return not patterns or any(fnmatch.fnmatchcase(word_of(name), it) for it in words)
