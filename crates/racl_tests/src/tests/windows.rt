@@ -28,26 +28,33 @@ impl Judges for Counter {
     }
 }
 
-/// Gives zeros, which are records without a frame: as many as are asked for, up to so many, and then it fails.
+/// Gives records that are alike, as many bytes of them as are left, and then it fails. A read gives the rest of one record
+/// at most.
 #[derive(Drop)]
-struct Zeros {
+struct Alike<'a> {
+    record: &'a [u8],
+    rest: &'a [u8],
     left: usize,
     failures: u64,
 }
 
-impl Source for Zeros {
+impl Source for Alike<'_> {
     ghost bytes = { λ _. None };
 
-    ghost failures = { λ z. z.failures };
+    ghost failures = { λ a. a.failures };
 
-    // For tests of windows: a read of zeros, which fails where none are left.
+    // For tests of windows: a read of a record or its rest, which fails where no byte is left.
     fn read(&mut self, buf: &mut [u8]) -> Result<usize, DeviceFault> {
         if self.left == 0 {
             self.failures += 1;
             return Err(DeviceFault);
         }
-        let count = buf.len().min(self.left);
-        buf[..count].fill(0);
+        if self.rest.is_empty() {
+            self.rest = self.record;
+        }
+        let count = self.rest.len().min(buf.len()).min(self.left);
+        buf[..count].copy_from_slice(&self.rest[..count]);
+        self.rest = &self.rest[count..];
         self.left -= count;
         Ok(count)
     }
@@ -70,14 +77,28 @@ pub fn windows_of(bytes: usize) -> WindowSize
     }
 }
 
-// For tests of windows: what a source of so many zeros has left and how often it failed, and what was answered, after
-// 54 bytes that were read.
-fn read_zeros<T: Threads>(rt: &T, alloc: Global, left: usize) -> (Zeros, Option<Fault>) {
-    let mut reader = Zeros { left, failures: 0 };
-    match count_behind(Some(rt), alloc, &[0; 54], &mut reader, GROWING) {
-        Ok(_) => (reader, None),
-        Err(fault) => (reader, Some(fault)),
-    }
+// For tests of windows: of a source of so many bytes in records with frames of 4096 bytes, how many are left and how often
+// it failed, and what was answered, after 56 bytes that were read.
+fn read_alike<T: Threads>(
+    rt: &T,
+    alloc: Global,
+    left: usize,
+) -> Result<(usize, u64, Option<Fault>), AllocError> {
+    let frame = vec![in alloc; 0u8; 4092]?;
+    let mut bytes = Vec::new(alloc);
+    bytes.extend_from_slice(&record([0, 16, 0, 0]))?;
+    bytes.extend_from_slice(&frame)?;
+    let mut reader = Alike {
+        record: bytes.as_slice(),
+        rest: bytes.as_slice(),
+        left,
+        failures: 0,
+    };
+    let answer = match count_behind(Some(rt), alloc, &[0; 56], &mut reader, GROWING) {
+        Ok(_) => None,
+        Err(fault) => Some(fault),
+    };
+    Ok((reader.left, reader.failures, answer))
 }
 
 /// For tests of windows: a record with a frame of so many bytes, of which four follow.
@@ -180,21 +201,23 @@ fn a_record_is_read_in_two_parts(rt: HostRuntime) -> Result<(), Fail> {
 
 // Windows are read until an input would be too long.
 #[test]
-fn windows_end_at_the_limit(rt: HostRuntime) {
-    let most = MOST_BYTES + 1 - 54;
-    let (reader, answer) = read_zeros(&rt, rt.alloc(), 2 * MOST_BYTES);
-    assert!(rt; (answer, reader.failures) == (Some(Fault::TooLarge), 0));
-    assert!(rt; reader.left == 2 * MOST_BYTES - most);
+fn windows_end_at_the_limit(rt: HostRuntime) -> Result<(), Fail> {
+    let most = MOST_BYTES + 1 - 56;
+    let (left, failures, answer) = read_alike(&rt, rt.alloc(), 2 * MOST_BYTES)?;
+    assert!(rt; (answer, failures) == (Some(Fault::TooLarge), 0));
+    assert!(rt; left == 2 * MOST_BYTES - most);
+    Ok(())
 }
 
 // Windows: a read that fails within the limit is told, one behind it isn't made.
 #[test]
-fn reads_fail_up_to_the_limit(rt: HostRuntime) {
-    let most = MOST_BYTES + 1 - 54;
-    let (reader, answer) = read_zeros(&rt, rt.alloc(), most);
-    assert!(rt; (answer, reader.failures) == (Some(Fault::TooLarge), 0));
-    let (reader, answer) = read_zeros(&rt, rt.alloc(), most - 1);
-    assert!(rt; (answer, reader.failures) == (Some(Fault::Read), 1));
+fn reads_fail_up_to_the_limit(rt: HostRuntime) -> Result<(), Fail> {
+    let most = MOST_BYTES + 1 - 56;
+    let (_, failures, answer) = read_alike(&rt, rt.alloc(), most)?;
+    assert!(rt; (answer, failures) == (Some(Fault::TooLarge), 0));
+    let (_, failures, answer) = read_alike(&rt, rt.alloc(), most - 1)?;
+    assert!(rt; (answer, failures) == (Some(Fault::Read), 1));
+    Ok(())
 }
 
 // Windows of up to two records and a byte, read beside and in turn.
