@@ -13,6 +13,7 @@ mod contended;
 mod entered_value;
 mod hashed_key;
 mod key_with_hash;
+mod loads_ahead;
 mod never_expired;
 mod open_bucket_search;
 mod page_allocation;
