@@ -6,6 +6,7 @@ mod judge_alone;
 mod judge_dealt_packets;
 mod judge_in_one_thread;
 mod judge_in_threads;
+mod loads_ahead;
 mod lone_caller;
 mod packet_plan;
 mod packet_verdict;
