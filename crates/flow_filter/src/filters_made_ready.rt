@@ -89,8 +89,8 @@ fn prepare_section(
     Ok(RuleIndexes { inbound, outbound })
 }
 
-// The filter at an interface, by the first of these sections that is of it.
-fn ready_at<'a>(
+/// The filter at an interface, by the first of these sections that is of it.
+pub fn ready_at<'a>(
     sections: &'a [Section],
     prepared: &'a [RuleIndexes],
     interface: u8,

@@ -32,7 +32,7 @@ mod workers;
 pub use flow_filter::Filter;
 pub use gate::Gate;
 pub use packet_dealing::Dealing;
-pub use packet_verdict::{judge, try_judge};
+pub use packet_verdict::{judge, try_judge, try_judge_at};
 pub use run_at_once::run_workers;
 pub use run_fault::RunFault;
 pub use session_state::Verdict;
