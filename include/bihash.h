@@ -72,7 +72,7 @@ enum bihash_kind {
   BIHASH_CONTENDED = 8,  /* nothing was done: another caller stood in the way; try again */
   BIHASH_MEMORY = 9,     /* nothing was done: memory was refused */
   BIHASH_NUMBERS = 10,   /* nothing was done: the table had 65,535 callers, and can have no more */
-  BIHASH_STRANGERS = 11  /* nothing was done: another caller of the table is left */
+  BIHASH_STRANGERS = 11  /* nothing was done: a caller of the table was not joined into this one */
 };
 
 /* What the calls on callers answer where they are done. */
@@ -184,15 +184,18 @@ bihash_answer bihash4_add_if_absent_or_recycle(bihash4_handle *handle, const uin
    bucket; no lock was taken. A value that isn't expired never goes. */
 bihash_answer bihash4_expire(bihash4_handle *handle, uint64_t bucket, const bihash_expiry *expiry);
 
-/* ---- The end of a table. Each other caller was joined before, else STRANGERS ---- */
+/* ---- The end of a table. Each other caller was joined before, else STRANGERS: is_lone says whether. A refusal changes
+   nothing, and the caller stays ---- */
 
 /* Opens the table again: its pairs stay, its buckets count their changes anew, and the caller is the first of it. DONE,
-   or STRANGERS or MEMORY. It asks for three times the table's memory, so there are four of it for a while, and gives
-   that of the old one back. No call counts as answered yet. */
+   or STRANGERS, MEMORY, or CONTENDED: the caller has every number, and another handle's hold of the table was not let go
+   of yet (a join lets go before it ends, so where handles go from thread to thread as said above none is left). It asks
+   for three times the table's memory, so there are four of it for a while, and gives that of the old one back. No call
+   counts as answered yet. */
 uint32_t bihash4_renew(bihash4_handle *handle);
 
-/* Ends the table and its caller: the handle has its pairs then. DONE, or STRANGERS or MEMORY. It asks for the table's
-   memory once more, and for the pairs'. */
+/* Ends the table and its caller: the handle has its pairs then. DONE, or STRANGERS, CONTENDED or MEMORY, as renew. It
+   asks for the table's memory once more, and for the pairs'. */
 uint32_t bihash4_close(bihash4_handle *handle);
 
 /* How many pairs a handle has whose table was closed. */

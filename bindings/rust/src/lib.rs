@@ -65,13 +65,13 @@ pub struct Contended;
 /// Why a call on callers was not done. Nothing is lost then.
 #[derive(Clone, Copy, Debug, PartialEq, Eq)]
 pub enum Fault {
-    /// Another caller stood in the way.
+    /// Another caller stood in the way, or its hold of the table was not let go of yet.
     Contended,
     /// Memory was refused.
     Memory,
     /// The table had as many callers as it can have.
     Numbers,
-    /// Another caller of the table is left, or was dropped and not joined.
+    /// A caller of the table was not joined, or was dropped.
     Strangers,
 }
 
@@ -223,7 +223,7 @@ impl<F: Family> Caller<F> {
         unsafe { F::is_lone(&mut self.held.handle) }
     }
 
-    /// The bucket of the last answered call, and how many changes of the bucket came before it.
+    /// The bucket of the last answered call, and how many changes the bucket had when that was done, its own included.
     pub fn stamp(&mut self) -> Option<(u64, u64)> {
         let stamp = unsafe { F::stamp(&mut self.held.handle) };
         (stamp.known != 0).then_some((stamp.bucket, stamp.stamp))

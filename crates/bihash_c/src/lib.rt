@@ -17,6 +17,8 @@ mod either_size;
 mod either_size_callers;
 mod either_size_keys;
 mod either_size_renew_and_close;
+mod end_fault;
+mod end_of_table;
 mod handle4;
 mod handle4_place;
 mod handle6;
