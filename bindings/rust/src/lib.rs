@@ -90,6 +90,11 @@ impl Expiry {
         Expiry { mask: u64::from(u32::MAX), least }
     }
 
+    /// Of values whose low 32 bits are the second at which they end: those that end at `moment` or before.
+    pub fn of_deadlines(moment: u32) -> Expiry {
+        Expiry { mask: u64::from(u32::MAX), least: u64::from(moment) + 1 }
+    }
+
     fn raw(self) -> RawExpiry {
         RawExpiry { mask: self.mask, least: self.least }
     }
@@ -238,6 +243,10 @@ impl<F: Family> Caller<F> {
         add_if_absent, try_add_if_absent(value: u64) => |handle, key| F::add_if_absent(handle, key, checked(value));
         /// Sets the value where there is one. Panics at `NO_VALUE`.
         touch, try_touch(value: u64) => |handle, key| F::touch(handle, key, checked(value));
+        /// Sets the value where the key still has the value `was`; `Found` tells another one that is there. Panics at
+        /// `NO_VALUE`.
+        replace_if, try_replace_if(was: u64, value: u64) => |handle, key|
+            F::replace_if(handle, key, was, checked(value));
         /// Takes the value away.
         remove, try_remove() => |handle, key| F::remove(handle, key);
         /// As `add`; in a full bucket the new pair takes the place of the expired one with the least key.

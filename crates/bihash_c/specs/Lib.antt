@@ -6,4 +6,5 @@ pub mod EndFaults
 pub mod Expiries
 pub mod Handles4
 pub mod Handles6
+pub mod Replacements
 pub mod TableShares

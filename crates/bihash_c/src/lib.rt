@@ -31,6 +31,7 @@ mod handles_are_send;
 mod mask_expiry;
 mod pair4;
 mod pair6;
+mod replace_if;
 mod table_share;
 
 pub use answer_numbers::{
