@@ -65,12 +65,17 @@ pub record PassesAtPlace (d : Deal) (times : Timeouts) (steps : List Step) (view
       (known_at (view_in views (family_of u.key)).known stands.call.bucket) stands.before)
       ⊎ LetsThrough u stands.left ruling)
 
+-- by these records each packet of a flow does so
+abbrev pub PassByRecords : {d : Deal} {times : Timeouts} {policy : PolicyFacts} {packets : List PacketFacts} {removals : List Removal}
+    {verdicts : List Verdict} → AreJudgedBetween d times policy packets removals verdicts → Type 0
+PassByRecords {d = d} {times = times} are = (k : ℕ) (j : Judged) (moment : ℕ) (tuple : TupleFacts) (ruling : Ruling) (u : Update)
+    → get_elem? are.judged k ≡ some j → j.reading ≡ Ruled moment tuple ruling → update_of times j.reading ≡ Some u
+    → PassesAtPlace d times are.steps are.views k j u ruling
+
 -- however the packets were judged, and whichever sessions were removed between them, each packet of a flow does so
 abbrev pub PassAtPlaces : Deal → Timeouts → PolicyFacts → List PacketFacts → List Verdict → Type 0
-PassAtPlaces d times policy packets verdicts = (removals : List Removal)
-    (are : AreJudgedBetween d times policy packets removals verdicts) (k : ℕ) (j : Judged) (moment : ℕ) (tuple : TupleFacts) (ruling : Ruling) (u : Update) → get_elem? are.judged k ≡ some j
-    → j.reading ≡ Ruled moment tuple ruling → update_of times j.reading ≡ Some u
-    → PassesAtPlace d times are.steps are.views k j u ruling
+PassAtPlaces d times policy packets verdicts =
+    (removals : List Removal) (are : AreJudgedBetween d times policy packets removals verdicts) → PassByRecords are
 
 -- No two packets have the same call: of two packets that one worker judged, with flows of one family, the call of the one
 -- that comes first stands first in the worker's record.
