@@ -95,7 +95,7 @@ module _ (z : Sizes) (v : View) (b word : ℕ) (l : LockedBucket) (key : List �
     (home : IsKeyOf z b key) (unworn : length (known_at v.known b) < z.limit) where
   -- the larger block may be published
   pub may_enter : (value : ℕ) (n : LockedStore) (page : ℕ) (size : BlockSize) (words : List ℕ)
-      → value ≢ free_mark → len (map_now v b) < most_pairs (bounds_of z) → get (map_now v b) key ≡ None
+      → value < free_mark → len (map_now v b) < most_pairs (bounds_of z) → get (map_now v b) key ≡ None
       → page + 2 ^ size.log2 ≤ z.pages + 1 → IsBlockOf z (extent_of page size) words (insert (map_now v b) key value)
       → (u : View) → u ≡ holding v (Some n) (Some (block_of page size.log2 words))
       → MayReplace z u b word (extent_of page size) (call_of u b 1 (event key None (Set value) (Changed None)))
