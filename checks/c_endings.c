@@ -1,6 +1,6 @@
-// Makes and ends tables in a room that a few tables fill: each way to end one gives its memory back. Callers that were
-// freed and not joined are strangers for good, and others are none once they are joined, also where a split was refused
-// before. What came of it is written in a line a family; ends with 0 where all is right.
+// Makes and ends tables in a room that a few tables fill: each way to end one gives its memory back. Callers that
+// were freed and not joined are strangers for good, and others are none once they are joined, also where a split was
+// refused before. What came of it is written in a line a family; ends with 0 where all is right.
 #include "bihash.h"
 #include <stdio.h>
 #include <string.h>

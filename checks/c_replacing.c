@@ -1,7 +1,7 @@
-// Four threads count in one pair of each family and size, and in pairs of their own besides: each searches, and replaces the
-// value that it found where that is still there. No step is lost. Values are replaced only where they are what was said,
-// each call is in the bucket that is told of its key, and pairs go at their deadlines. What came of it is written in a line
-// a table; ends with 0 where all is right.
+// Four threads count in one pair of each family and size, and in pairs of their own besides: each searches, and
+// replaces the value that it found where that is still there. No step is lost. Values are replaced only where they
+// are what was said, each call is in the bucket that is told of its key, and pairs go at their deadlines. What came
+// of it is written in a line a table; ends with 0 where all is right.
 #include "bihash.h"
 #include <pthread.h>
 #include <stdatomic.h>

@@ -14,11 +14,14 @@
    handed on by other means.
 
    A bucket has its pairs in a block of 1, 2, 4 .. or 64 of the table's pages, of 4 places each. With keys spread at
-   random a new table of keys of two words took some 28,000 pairs until a bucket's next block wasn't there (7,000 of five
-   words; a large table 453,000 of either), and some 12,000 where pairs came and went, since a block that was given back
-   serves blocks of its size alone. A pair stays until it is removed: where values tell which sessions are over, sweep
-   the buckets now and then, as bihash4_sweep_wait does, and the blocks of ended sessions come back, although no packet
-   of theirs comes. The hash has no seed: whoever chooses keys can choose their bucket.
+   random a new table of keys of two words took some 28,000 pairs until a bucket's next block wasn't there (7,000 of
+   five words; a large table 453,000 of either), and some 12,000 where pairs came and went, since a block that was
+   given back serves blocks of its size alone. A pair stays until it is removed: where values tell which sessions are
+   over, sweep the buckets now and then, as bihash4_sweep_wait does, and the blocks of ended sessions come back,
+   although no packet of theirs comes. No call counts a table's pairs while it is in use. A program that adds up the
+   answers of all its callers knows how many there are at most: those that were ADDED, less those that remove and
+   expire REPLACED (of a pair that takes an expired one's place only ADDED is told). The hash has no seed: whoever
+   chooses keys can choose their bucket.
 
    What the library is owed, since no compiler checks it:
    - A handle is what the last call left there. It is never copied, written or read by others, and each call has it for
@@ -159,9 +162,9 @@ bihash_answer bihash4_add_if_absent(bihash4_handle *handle, const uint64_t key[2
 /* Sets the value where there is one, whatever it was: ABSENT, REPLACED, FOUND (it was this value) or WORN_FOUND. */
 bihash_answer bihash4_touch(bihash4_handle *handle, const uint64_t key[2], uint64_t value);
 
-/* Sets the value where the key still has the value `was`: REPLACED, FOUND with the value that is there (it isn't `was`, or
-   the new value is `was` itself), ABSENT or WORN_FOUND. Search, work out the new value, and begin again with the one that
-   is told where it is FOUND: so threads that change one pair at the same time lose nothing of each other. */
+/* Sets the value where the key still has the value `was`: REPLACED, FOUND with the value that is there (it isn't
+   `was`, or the new value is `was` itself), ABSENT or WORN_FOUND. Search, work out the new value, and begin again with
+   the one that is told where it is FOUND: so threads that change one pair at once lose nothing of each other. */
 bihash_answer bihash4_replace_if(bihash4_handle *handle, const uint64_t key[2], uint64_t was, uint64_t value);
 
 /* Takes the value away: ABSENT, REPLACED or WORN_FOUND. */
@@ -184,9 +187,9 @@ bihash_answer bihash4_add_if_absent_or_recycle(bihash4_handle *handle, const uin
 #define BIHASH6_BUCKETS 1024
 #define BIHASH_LARGE_BUCKETS 65536
 
-/* The bucket of a key in a table that create made, and in one that create_large made. Any thread may ask. Keys that are
-   dealt to threads by their bucket (bucket_of(key) % threads, as racl deals flows) let no two threads meet in a bucket;
-   that both directions of a flow have one key is the caller's matter. */
+/* The bucket of a key in a table that create made, and in one that create_large made. Any thread may ask. Keys that
+   are dealt to threads by their bucket (bucket_of(key) % threads, as racl deals flows) let no two threads meet in a
+   bucket; that both directions of a flow have one key is the caller's matter. */
 uint64_t bihash4_bucket_of(const uint64_t key[2]);
 uint64_t bihash4_bucket_of_large(const uint64_t key[2]);
 
@@ -195,14 +198,14 @@ uint64_t bihash4_bucket_of_large(const uint64_t key[2]);
    bucket; no lock was taken. A value that isn't expired never goes. */
 bihash_answer bihash4_expire(bihash4_handle *handle, uint64_t bucket, const bihash_expiry *expiry);
 
-/* ---- The end of a table. Each other caller was joined before, else STRANGERS: is_lone says whether. A refusal changes
-   nothing, and the caller stays ---- */
+/* ---- The end of a table. Each other caller was joined before, else STRANGERS: is_lone says whether. A refusal
+   changes nothing, and the caller stays ---- */
 
-/* Opens the table again: its pairs stay, its buckets count their changes anew, and the caller is the first of it. DONE,
-   or STRANGERS, MEMORY, or CONTENDED: the caller has every number, and another handle's hold of the table was not let go
-   of yet (a join lets go before it ends, so where handles go from thread to thread as said above none is left). It asks
-   for three times the table's memory, so there are four of it for a while, and gives that of the old one back. No call
-   counts as answered yet. */
+/* Opens the table again: its pairs stay, its buckets count their changes anew, and the caller is the first of it.
+   DONE, or STRANGERS, MEMORY, or CONTENDED: the caller has every number, and another handle's hold of the table was
+   not let go of yet (a join lets go before it ends, so where handles go from thread to thread as said above none is
+   left). It asks for three times the table's memory, so there are four of it for a while, and gives that of the old
+   one back. No call counts as answered yet. */
 uint32_t bihash4_renew(bihash4_handle *handle);
 
 /* Ends the table and its caller: the handle has its pairs then. DONE, or STRANGERS, CONTENDED or MEMORY, as renew. It
@@ -268,8 +271,8 @@ static inline bihash_expiry bihash_expiry_at(uint32_t moment, uint32_t timeout) 
   return expiry;
 }
 
-/* The expiry of values whose low 32 bits are the second at which they end: expired at `moment` are those that end then or
-   before. */
+/* The expiry of values whose low 32 bits are the second at which they end: expired at `moment` are those that end then
+   or before. */
 static inline bihash_expiry bihash_expiry_of_deadlines(uint32_t moment) {
   bihash_expiry expiry = {UINT32_MAX, (uint64_t)moment + 1};
   return expiry;
