@@ -1,5 +1,5 @@
 -- A packet passes by what stands at its event's place, which no other packet has.
-use Rattle.std.proofs.Common.{◌≡◌, ◌∙◌, ◌+◌, ℕ, suc, Bool, true, false, List, ◌∷◌, length, Option, Some, ap, ap₂, arith, refl, sym, subst, length-append}
+use Rattle.std.proofs.Common.{◌≡◌, ◌∙◌, ◌+◌, ℕ, suc, Bool, true, false, List, ◌∷◌, length, Some, ap, ap₂, arith, refl, sym, subst, subst₂, length-append}
 use Rattle.std.specs.Prelude.{if◌then◌else◌, ◌⊎◌, ◌↔◌}
 use lib.ListN.{get_elem?}
 use mathlib.Core.Option.{some}
@@ -17,10 +17,10 @@ use Rattle.bihash_rule.specs.declared.view.View.{View}
 use Rattle.session_state.specs.declared.timeouts.Timeouts.{Timeouts}
 use Rattle.session_state.specs.declared.verdict.Verdict.{Verdict}
 use Rattle.flow_filter.specs.Ageing.{Removal, Step}
-use Rattle.flow_filter.specs.Readings.{Reading, Ruled, Ruling}
-use Rattle.flow_filter.specs.Updates.{Update, update_of, words_of}
+use Rattle.flow_filter.specs.Readings.{Ruled, Ruling}
+use Rattle.flow_filter.specs.Updates.{Update, update_of}
 use Rattle.flow_filter.specs.Judged.{IsAsked, IsAskedBy, IsEventOf, Judged, verdict_with}
-use Rattle.flow_filter.specs.OneThread.{family_of, sizes_in}
+use Rattle.flow_filter.specs.OneThread.{family_of, home_of, sizes_in}
 use Rattle.flow_filter.specs.Passing.{HoldsLive, LetsThrough}
 use Rattle.session_state.specs.Passes.{passes}
 use Rattle.flow_filter.proofs.HomeLemmas.{family_as_itself}
@@ -30,7 +30,7 @@ use Rattle.packet_dealing.specs.Dealings.{Deal, flow_of_reading, worker_of}
 use Rattle.flow_dealing.specs.Places.{HasPlace, HaveOwnCalls, PassesAtPlace}
 use Rattle.flow_dealing.specs.WorkerRecords.{AreJudgedBetween, events_by, is_in}
 use Rattle.flow_dealing.proofs.FewPackets.{flow_inside}
-use Rattle.flow_dealing.proofs.PacketCalls.{call_of_packet, event_of_packet, steps_between}
+use Rattle.flow_dealing.proofs.PacketCalls.{IsCallFor, call_of_packet, event_of_packet, steps_between}
 use Rattle.flow_dealing.proofs.Places.{all_at}
 use Rattle.flow_dealing.proofs.Refusals.{legal_call}
 
@@ -90,11 +90,45 @@ place_of z v e at place r c lawful stands called is = go (is_changed c.reply) re
           of = refl;
         }
 
--- a call that is a worker's stands in the bucket of its key
-home_of_call : (z : Sizes) (v : View) (at place : ℕ) (r : Record) (c : Call) (key : List ℕ) → IsLawfulCaller z v
-    → get_elem? v.records at ≡ some r → get_elem? r.calls place ≡ some c → c.key ≡ key → c.bucket ≡ bucket_of z key
-home_of_call z v at place r c key lawful stands called is =
-    sym (legal_call z v at place r c lawful stands called).key.home ∙ ap (bucket_of z) is
+-- a packet passes by what stands where its call does
+pass_by_call : (d : Deal) (times : Timeouts) (steps : List Step) (views : Views) (k : ℕ) (j : Judged) (moment : ℕ) (tuple : TupleFacts)
+    (ruling : Ruling) (u : Update) (e : Event) → j.reading ≡ Ruled moment tuple ruling → update_of times j.reading ≡ Some u
+    → j.event ≡ Some e → IsEventOf u e → IsLawfulCaller (sizes_in d.layout (family_of u.key)) (view_in views (family_of u.key))
+    → IsCallFor d times (family_of u.key) steps (view_in views (family_of u.key)) k j (worker_of d k (flow_of_reading j.reading)) e
+    → PassesAtPlace d times steps views k j u ruling
+pass_by_call d times steps views k j moment tuple ruling u e reads updates its of lawful c =
+    pass_there (place_of z v e by c.place c.record_at c.call lawful c.stands c.called c.event)
+  where
+    z : Sizes
+    z = sizes_in d.layout (family_of u.key)
+
+    v : View
+    v = view_in views (family_of u.key)
+
+    by : ℕ
+    by = worker_of d k (flow_of_reading j.reading)
+
+    in_home : c.call.bucket ≡ (home_of d.layout u.key).bucket
+    in_home = sym (legal_call z v by c.place c.record_at c.call lawful c.stands c.called).key.home
+        ∙ ap (bucket_of z) (ap (λ (x : Event). x.key) c.event ∙ of.key)
+
+    passing : (p : HasPlace z v by e) (m : Pairs) → IsEvent (bounds_of z) m p.before e p.left
+        → (passes (verdict_with times j.reading j.event) ≡ true) ↔ (HoldsLive u m ⊎ LetsThrough u p.left ruling)
+    passing p m step = subst₂ (λ r x. (passes (verdict_with times r x) ≡ true) ↔ (HoldsLive u m ⊎ LetsThrough u p.left ruling))
+        (sym reads) (sym its)
+        (pass_by_reading times moment tuple ruling u (bounds_of z) m p.left p.before e (ap (update_of times) (sym reads) ∙ updates) of step)
+
+    pass_there : IsPlaceOf z v by e c.place c.call → PassesAtPlace d times steps views k j u ruling
+    pass_there at = record {
+      e = e;
+      its = its;
+      stands = at.stands;
+      earlier = c.earlier;
+      are_earlier = c.are_earlier;
+      place = at.there ∙ c.behind;
+      home = ap (λ (x : Call). x.bucket) at.of ∙ in_home;
+      exactly = passing at.stands _ at.stands.step;
+    }
 
 pub pass_at_place : (d : Deal) (times : Timeouts) (policy : PolicyFacts) (packets : List PacketFacts) (verdicts : List Verdict)
     (removals : List Removal) (are : AreJudgedBetween d times policy packets removals verdicts) (k : ℕ) (j : Judged) (moment : ℕ) (tuple : TupleFacts)
@@ -102,36 +136,14 @@ pub pass_at_place : (d : Deal) (times : Timeouts) (policy : PolicyFacts) (packet
     → update_of times j.reading ≡ Some u → PassesAtPlace d times are.steps are.views k j u ruling
 pass_at_place d times policy packets verdicts removals are k j moment tuple ruling u at reads updates =
     let family : Family = family_of u.key in
-    let z : Sizes = sizes_in d.layout family in
     let recorded = are.recorded family in
     let v : View = view_in are.views family in
-    let asked : IsAskedBy (Some u) j.event = subst (λ x. IsAskedBy x j.event) updates (all_at (IsAsked times) are.judged k j are.asked at) in
-    let e : Event = asked.0 in
-    let its : j.event ≡ Some e = asked.1 in
-    let of : IsEventOf u e = asked.2 in
+    let (e, its, of) : IsAskedBy (Some u) j.event = subst (λ x. IsAskedBy x j.event) updates (all_at (IsAsked times) are.judged k j are.asked at) in
     let inside : is_in family (update_of times j.reading) ≡ true = ap (is_in family) updates ∙ family_as_itself family in
     let (flow, has, home) = flow_inside d times family j.reading inside in
-    let c = call_of_packet d times family are.steps v recorded k j flow e (ap (λ js. get_elem? js k) are.packets_are ∙ at) has home its in
-    let own : worker_of d k (flow_of_reading j.reading) ≡ worker_of d k (Some flow) = ap (worker_of d k) has in
-    let stands = ap (get_elem? v.records) own ∙ c.stands in
-    let there = place_of z v e (worker_of d k (flow_of_reading j.reading)) c.place c.record_at c.call recorded.lawful stands c.called c.event in
-    let p : HasPlace z v (worker_of d k (flow_of_reading j.reading)) e = there.stands in
-    let m : Pairs = after (opening_at v.known p.call.bucket) (known_at v.known p.call.bucket) p.before in
-    let its_key : c.call.key ≡ words_of u.key = ap (λ (x : Event). x.key) c.event ∙ of.key in
-    record {
-      e = e;
-      its = its;
-      stands = p;
-      earlier = c.earlier;
-      are_earlier = c.are_earlier;
-      place = there.there ∙ (c.behind ∙ ap (λ w. length (events_by d times family w 0 c.earlier)) (sym own));
-      home = ap (λ (x : Call). x.bucket) there.of
-          ∙ home_of_call z v (worker_of d k (flow_of_reading j.reading)) c.place c.record_at c.call (words_of u.key) recorded.lawful stands
-          c.called its_key;
-      exactly = subst (λ (r : Reading). (passes (verdict_with times r j.event) ≡ true) ↔ (HoldsLive u m ⊎ LetsThrough u p.left ruling)) (sym reads)
-          (subst (λ (x : Option Event). (passes (verdict_with times (Ruled moment tuple ruling) x) ≡ true) ↔ (HoldsLive u m ⊎ LetsThrough u p.left ruling)) (sym its)
-          (pass_by_reading times moment tuple ruling u (bounds_of z) m p.left p.before e (ap (update_of times) (sym reads) ∙ updates) of p.step));
-    }
+    pass_by_call d times are.steps are.views k j moment tuple ruling u e reads updates its of recorded.lawful
+    (subst (λ w. IsCallFor d times family are.steps v k j w e) (ap (worker_of d k) (sym has))
+    (call_of_packet d times family are.steps v recorded k j flow e (ap (λ js. get_elem? js k) are.packets_are ∙ at) has home its))
 
 -- the call of a packet stands before that of a later one
 pub calls_in_turn : (d : Deal) (times : Timeouts) (steps : List Step) (views : Views) → HaveOwnCalls d times steps views
