@@ -1,5 +1,5 @@
 //! The update that sets a value only where the one that was found before still is.
-ghost use Rattle.std.specs.Prelude.{◌≢◌};
+ghost use Rattle.std.specs.Prelude.{◌<◌};
 ghost use Rattle.bihash_words.specs.Patches.{free_mark};
 ghost use Rattle.bihash_c.specs.Replacements.{set_if_is};
 
@@ -10,7 +10,7 @@ use bihash_words::{Change, Patch};
 pub struct ReplaceIf {
     pub was: u64,
     pub value: u64,
-    pub ghost storable: { value ≢ free_mark },
+    pub ghost storable: { value < free_mark },
 }
 
 impl Patch for ReplaceIf {
