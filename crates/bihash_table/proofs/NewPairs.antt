@@ -24,7 +24,7 @@ use Rattle.bihash_rule.specs.declared.view.LockedStore.{LockedStore}
 use Rattle.bihash_rule.specs.declared.view.HeldBlock.{HeldBlock}
 use Rattle.bihash_rule.specs.declared.view.PageStore.{PageStore}
 use Rattle.bihash_rule.specs.declared.view.View.{View}
-use Rattle.bihash_table.specs.inner.Copying.{LacksPages}
+use Rattle.bihash_table.specs.inner.Taking.{LacksPages}
 use Rattle.bihash_table.specs.inner.Locked.{HasLock}
 
 -- ---- The rows of a call

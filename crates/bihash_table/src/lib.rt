@@ -34,4 +34,4 @@ pub use close_fault::CloseFault;
 pub use contended::Contended;
 pub use key_with_hash::KeyWithHash;
 pub use renew_fault::RenewFault;
-pub use shared_table::{Sessions, create};
+pub use shared_table::{Sessions, create, create_cutting};
