@@ -4,10 +4,7 @@ use Rattle.std.specs.FinMap.{get, len}
 use Rattle.std.proofs.lemmas.Option.{slice_get-get_or}
 use Rattle.bihash_words.specs.declared.shape.Shape.{Ghosts}
 use Rattle.bihash_words.specs.Maps.{Pairs, most_pairs}
-use Rattle.std.specs.Prelude.{Result, Ok, Err, IfOk}
-use Rattle.bihash_words.specs.Refusals.{IsNoRefusal}
-use Rattle.bihash_words.specs.declared.patch.Reply.{Reply}
-use Rattle.bihash_words.specs.Sizes.{Sizes, sizes_of}
+use Rattle.bihash_words.specs.Sizes.{sizes_of}
 use Rattle.bihash_words.specs.declared.block_size.BlockSize.{BlockSize}
 use Rattle.bihash_words.specs.Blocks.{HoldsMap}
 use Rattle.bihash_words.specs.Pages.{Paging, page_of, paging_of}
@@ -29,8 +26,7 @@ use Rattle.bihash_rule.specs.declared.view.View.{View}
 use Rattle.bihash_table.specs.inner.Taking.{LacksPages}
 use Rattle.bihash_rule.specs.Places.{ArePlaces, IsCrowdedFor}
 use Rattle.bihash_plan.specs.Wants.{IsPlanned}
-use Rattle.bihash_table.specs.OutOfPages.{IsOutOfPages, LacksLarger}
-use Rattle.bihash_table.specs.declared.contended.Contended.{Contended}
+use Rattle.bihash_table.specs.OutOfPages.{IsOutOfPages}
 use Rattle.bihash_table.proofs.Bridge.{AreKeyWords, AreKeysOf, are_keys, count_places, hold_map, lawful_places}
 use Rattle.bihash_table.proofs.Count.{few_pairs, few_places, full_block}
 use Rattle.bihash_table.proofs.StoreLemmas.{Bears}
@@ -192,8 +188,3 @@ is_shortage g m key w b same size left store p wanting bears = record {
   unused = wanting.unused;
   few = wanting.few;
 }
-
--- a call that isn't refused for want of pages wants no larger block
-pub wants_no_pages : (z : Sizes) (w : View) (r : Result Reply Contended) → IfOk r IsNoRefusal → IfOk r (LacksLarger z w)
-wants_no_pages z w (Ok reply) h = λ log2 left e. absurd (h log2 left e)
-wants_no_pages z w (Err refused) h = tt

@@ -1,6 +1,5 @@
 //! A new pair in a full bucket: it takes the place of an expired one, or is refused.
-ghost use Rattle.std.specs.Prelude.{◌≡◌, None, IfOk};
-ghost use Rattle.bihash_words.specs.Refusals.{IsNoRefusal};
+ghost use Rattle.std.specs.Prelude.{◌≡◌, ◌⊎◌, None, IfOk};
 ghost use Rattle.bihash_words.specs.declared.patch.Change.TheVariants.{Set};
 ghost use Rattle.bihash_words.specs.declared.patch.Reply.TheVariants.{Changed, Full};
 ghost use Rattle.bihash_table.specs.Tries.{FinishedOver};
@@ -36,7 +35,7 @@ pub(crate) fn recycle_or_refuse<S: Shape, E: Expiry>(
 ) -> Result<Reply, Contended>
     requires { WantsPlace ⟦<S as Shape>⟧ row.now seat.old seen.now entrant.now.value places.now }
     ensures told { TriedToEnter ⟦<S as Shape>⟧ ⟦<E as Expiry>⟧ seat.old seat.new seen.now entrant.now result }
-    ensures paged { IfOk result IsNoRefusal }
+    ensures made { IfOk result (λ reply. (reply ≡ Full) ⊎ (reply ≡ Changed None)) }
 {
     row.is_sound();
     let size = seen.word.block_size();

@@ -3,7 +3,7 @@ use Rattle.std.proofs.Common.{◌≡◌, ℕ, ◌+◌, ◌*◌, ◌^◌, ◌<◌
 use Rattle.std.proofs.lemmas.List.{get_or-take, length-take-le}
 use Rattle.atomic_table.specs.Table.{keeps, Allows}
 use Rattle.bihash_words.specs.Sizes.{Sizes}
-use Rattle.bihash_rule.specs.Words.{returned_count_at, front_words, block_words, page_words, page_at, Stands}
+use Rattle.bihash_rule.specs.Words.{returned_count_at, front_words, block_words, page_words}
 use Rattle.bihash_rule.specs.Partition.{run_of}
 use Rattle.bihash_rule.specs.PageStores.{IsStore, returned_in, all_used, HoldsBlock, HoldsBlockIf, run_in}
 use Rattle.bihash_rule.specs.WordRule.{WordRule}

@@ -10,7 +10,7 @@ use Rattle.bihash_words.specs.Sizes.{Sizes}
 use Rattle.bihash_words.specs.Words.{bit}
 use Rattle.bihash_rule.specs.Words.{returned_count_at, list_words, list_at, front_words, page_words, all_words, Stands}
 use Rattle.bihash_rule.specs.Partition.{IsPartition, run_of}
-use Rattle.bihash_rule.specs.PageStores.{StoreState, IsStore, returned_in, all_used, IsListed, IsListedIf, HoldsStore, HoldsBlock, HoldsBlockIf, run_in}
+use Rattle.bihash_rule.specs.PageStores.{StoreState, IsStore, returned_in, all_used, IsListed, IsListedIf, HoldsBlock, HoldsBlockIf, run_in}
 use Rattle.bihash_rule.specs.WordRule.{WordRule}
 use Rattle.bihash_steps.specs.Steps.{ViewOfSeat}
 use Rattle.bihash_steps.specs.StoreSteps.{holding, MayList, listing, TellsListed, MayReturn, relisted, TellsReturned}

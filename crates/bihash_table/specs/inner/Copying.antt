@@ -1,17 +1,16 @@
 -- What copies of a block to places and back rest on, and what giving back a block leaves.
-use Rattle.std.specs.Prelude.{◌≡◌, ◌≢◌, ℕ, ◌+◌, ◌-◌, ◌*◌, ◌^◌, ◌<◌, ◌≤◌, List, [], length, slice_index, false, Some, None, Result, IfOk, IfErr}
+use Rattle.std.specs.Prelude.{◌≡◌, ◌≢◌, ℕ, ◌+◌, ◌*◌, ◌^◌, ◌<◌, ◌≤◌, List, length, slice_index, false, Some, None}
 use Rattle.bihash_words.specs.Sizes.{IsSound, Sizes, sizes_of}
 use Rattle.bihash_words.specs.declared.shape.Shape.{Ghosts}
 use Rattle.bihash_rule.specs.Words.{block_words, list_words, place_words}
 use Rattle.bihash_rule.specs.Blocks.{free, key_in, places, value_in}
 use Rattle.bihash_rule.specs.PageStores.{returned_in}
 use Rattle.bihash_rule.specs.Views.{no_notes, nothing_held}
-use Rattle.bihash_steps.specs.StoreSteps.{TakesBlock, grown, holding, old_block, unlisted}
+use Rattle.bihash_steps.specs.StoreSteps.{holding, old_block}
 use Rattle.bihash_steps.specs.Seats.{CallerState, with_view}
 use Rattle.bihash_rule.specs.declared.view.Extent.{Extent}
 use Rattle.bihash_rule.specs.declared.view.LockedStore.{LockedStore}
 use Rattle.bihash_rule.specs.declared.view.HeldBlock.{HeldBlock}
-use Rattle.bihash_rule.specs.declared.view.PageStore.{PageStore}
 use Rattle.bihash_rule.specs.declared.view.View.{View}
 use Rattle.bihash_table.specs.inner.Scans.{IsWordOf}
 

@@ -11,8 +11,8 @@ use Rattle.bihash_table.proofs.SameCallers.{own_through}
 use Rattle.bihash_table.proofs.OpenReadLemmas.{may_read, names_block, word_notes}
 use Rattle.bihash_table.proofs.SeenBuckets.{seen_more}
 use Rattle.bihash_table.proofs.StoreLemmas.{log2_is}
-use Rattle.bihash_table.proofs.BlockPlans.{places_read, wants_no_pages}
-use Rattle.bihash_table.proofs.Tries.{over, over_read, tried_locked, tried_not, tried_read, under_lock, unworn_read}
+use Rattle.bihash_table.proofs.BlockPlans.{places_read}
+use Rattle.bihash_table.proofs.Tries.{over, over_read, tried_locked, tried_not, tried_read, under_lock, unworn_read, wants_no_pages}
 use Rattle.bihash_table.proofs.change_of_block.enter_by_block_change.Goals as goal
 
 pub place_count-requires : goal.place_count-requires
@@ -145,4 +145,4 @@ returns-clause-told g c =
 
 pub returns-in_default-clause-no_larger : goal.returns-in_default-clause-no_larger
 returns-in_default-clause-no_larger g c = λ cuts. wants_no_pages (sizes_of g.S.Shape) c.recycle_or_refuse.new.seat.view c.recycle_or_refuse.result
-    c.recycle_or_refuse.ensures.paged
+    c.recycle_or_refuse.ensures.made

@@ -1,9 +1,8 @@
-use Rattle.std.proofs.Common.{◌≡◌, ◌≤◌, ◌+◌, ◌-◌, ◌*◌, ◌%◌, ◌^◌, ℕ, ap, arith, length, refl, sym, subst, ◌∙◌}
+use Rattle.std.proofs.Common.{◌≡◌, ◌≤◌, ◌+◌, ◌-◌, ◌*◌, ◌%◌, ◌^◌, ℕ, ap, arith, subst, ◌∙◌}
 use Rattle.bihash_words.specs.Sizes.{sizes_of}
 use Rattle.bihash_steps.specs.Seats.{CallerState, with_view}
 use Rattle.bihash_table.specs.inner.Taking.{TellsCutDown}
 use Rattle.bihash_table.proofs.CutBlocks.{cut_more, half_same, half_taken, has_kept, kept, may_cut, may_list, second_page}
-use Rattle.bihash_table.proofs.SameCallers.{own_through, same_through}
 use Rattle.bihash_table.proofs.page_allocation.cut_down.Goals as goal
 
 pub pool_load-returned-requires-clause-locked : goal.pool_load-returned-requires-clause-locked
@@ -50,7 +49,7 @@ halves-preserved g c =
       cut = record {
         same = half_same z s.view c.halves.seat got.0 c.args.page m low got.2 c.pool_load-returned.new.caller c.pool_load-returned.result
             c.pool_load-returned.ensures c.pool_list.new.caller (c.args.page + 1 * 2 ^ m % 18446744073709551616)
-    (second_page z c.requires.held.sound c.args.page m got.2.near) c.pool_list.ensures c.pool_cut.new.caller c.pool_cut.ensures
+            (second_page z c.requires.held.sound c.args.page m got.2.near) c.pool_list.ensures c.pool_cut.new.caller c.pool_cut.ensures
             ∙ ap (λ (k : CallerState). with_view k c.pool_cut.new.caller.view) told.same;
         cut = λ store holds. let got = told.cut store holds in (
           _,
@@ -58,7 +57,7 @@ halves-preserved g c =
               (let wide = holds.wide in let kept_wide = got.1.wide in omega arith) got.1,
           half_taken z s.view c.halves.seat got.0 c.args.page m low got.2 c.pool_load-returned.new.caller c.pool_load-returned.result
               c.pool_load-returned.ensures c.pool_list.new.caller (c.args.page + 1 * 2 ^ m % 18446744073709551616)
-    (second_page z c.requires.held.sound c.args.page m got.2.near) c.pool_list.ensures c.pool_cut.new.caller c.pool_cut.ensures,
+              (second_page z c.requires.held.sound c.args.page m got.2.near) c.pool_list.ensures c.pool_cut.new.caller c.pool_cut.ensures,
         );
       };
       low = omega arith;

@@ -1,9 +1,8 @@
-use Rattle.std.proofs.Common.{◌≡◌, ◌≤◌, ◌<◌, ◌+◌, ◌-◌, ℕ, List, ap, arith, length, length-set, refl, sym, subst, ◌∙◌}
+use Rattle.std.proofs.Common.{ap, arith, ◌∙◌}
 use Rattle.bihash_words.specs.Sizes.{sizes_of}
-use Rattle.bihash_rule.specs.PageStores.{returned_in}
 use Rattle.bihash_steps.specs.Seats.{CallerState, with_view}
 use Rattle.bihash_steps.specs.StoreSteps.{unlisted}
-use Rattle.bihash_table.proofs.CutBlocks.{held_then, larger_held, larger_taken}
+use Rattle.bihash_table.proofs.CutBlocks.{larger_held, larger_taken}
 use Rattle.bihash_table.proofs.page_allocation.take_larger.Goals as goal
 
 pub cut_down-requires-clause-held : goal.cut_down-requires-clause-held

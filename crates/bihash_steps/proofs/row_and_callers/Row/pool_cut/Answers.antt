@@ -1,5 +1,5 @@
 use Rattle.std.proofs.Math.Nat.{div-le_self}
-use Rattle.std.proofs.Common.{rules, arith, ℕ, ◌+◌, ◌^◌, ◌≤◌, ◌∙◌, refl, ap, Some}
+use Rattle.std.proofs.Common.{rules, arith, ℕ, ◌+◌, ◌^◌, ◌≤◌, ◌∙◌, refl, ap}
 use Rattle.bihash_words.specs.Sizes.{sizes_of}
 use Rattle.bihash_rule.specs.Words.{list_words}
 use Rattle.bihash_steps.specs.Seats.{CallerState}
