@@ -5,7 +5,7 @@ use Rattle.bihash_words.specs.Sizes.{Sizes}
 use Rattle.bihash_rule.specs.Callers.{HasNumbers}
 use Rattle.bihash_rule.specs.declared.view.View.{View}
 use Rattle.bihash_steps.specs.Seats.{CallerState, with_view}
-use Rattle.bihash_steps.specs.Steps.{HaveBearers, IsToldWhole, view_after_count}
+use Rattle.bihash_steps.specs.Steps.{view_after_count}
 use Rattle.bihash_steps.proofs.Numbers.{few_numbers}
 use Rattle.bihash_table.specs.Calls.{TellsLone}
 use Rattle.bihash_table.specs.Closing.{LeavesStrangers, StaysWhole}

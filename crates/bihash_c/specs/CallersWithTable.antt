@@ -6,7 +6,8 @@ use Rattle.bihash_words.specs.declared.shape.Shape.{Ghosts}
 use Rattle.bihash_rule.specs.Words.{buckets}
 use Rattle.bihash_rule.specs.Callers.{Agrees, IsLawfulCaller}
 use Rattle.bihash_steps.specs.Renewals.{IsRenewed}
-use Rattle.bihash_steps.specs.Steps.{newcomer, parent}
+use Rattle.bihash_steps.specs.Steps.{IsRefused, newcomer, parent}
+use Rattle.bihash_steps.specs.declared.split_fault.SplitFault.{SplitFault}
 use Rattle.bihash_steps.specs.Seats.{CallerState, with_view}
 use Rattle.bihash_rule.specs.declared.view.View.{View}
 use Rattle.bihash_table.specs.Ageing.{TellsExpireTry}
@@ -30,6 +31,12 @@ pub record IsSplit (z : Sizes) (s t u : CallerState) : Type 0 where
   pub right : (u.row ≡ s.row) × (u.view ≡ newcomer s.view count)
   pub lawful : IsLawfulCaller z t.view × IsLawfulCaller z u.view
   pub agree : Agrees t.view u.view
+
+-- the caller is as the refusal of a split leaves it
+pub record IsSplitRefused (z : Sizes) (fault : SplitFault) (s t : CallerState) : Type 0 where
+  pub same : t ≡ with_view s t.view
+  pub refused : IsRefused z s.view fault t.view
+  pub lawful : IsLawfulCaller z s.view → IsLawfulCaller z t.view
 
 -- the table of a caller that had every number was closed, and these were its pairs
 pub record IsClosed {A K : Type 0} (g : Ghosts A K) (v : View) (ps : List (K × ℕ)) : Type 0 where

@@ -5,14 +5,14 @@ use Rattle.bihash_words.specs.declared.shape.Shape.{Ghosts}
 use Rattle.bihash_words.specs.declared.patch.Change.{Change}
 use Rattle.bihash_words.specs.declared.patch.Reply.{Reply}
 use Rattle.bihash_steps.specs.CallerCalls.{AreInformed, IsJoined}
-use Rattle.bihash_steps.specs.Steps.{IsRefused}
-use Rattle.bihash_steps.specs.Seats.{CallerState, stamp_of, with_view}
+use Rattle.bihash_steps.specs.Seats.{CallerState, stamp_of}
+use Rattle.bihash_rule.specs.Callers.{IsLawfulCaller}
 use Rattle.bihash_rule.specs.Views.{first_view}
 use Rattle.bihash_steps.specs.declared.split_fault.SplitFault.{SplitFault}
 use Rattle.bihash_table.specs.Calls.{TellsRecycleTry, TellsSearchTry, TellsUpdateTry}
 use Rattle.bihash_table.specs.declared.contended.Contended.{Contended}
 use Rattle.bihash_c.specs.Answers.{answer_of, end_number, expire_answer_of, search_answer_of, split_number, stamp_told}
-use Rattle.bihash_c.specs.CallersWithTable.{IsClosed, IsEndTold, IsRenewedFrom, IsSplit, LooksAt}
+use Rattle.bihash_c.specs.CallersWithTable.{IsClosed, IsEndTold, IsRenewedFrom, IsSplit, IsSplitRefused, LooksAt}
 use Rattle.bihash_c.specs.declared.answer_numbers.Answer.{Answer}
 use Rattle.bihash_c.specs.declared.answer_numbers.Stamp.{Stamp}
 use Rattle.bihash_c.specs.declared.end_fault.EndFault.{EndFault}
@@ -70,13 +70,8 @@ pub record ExpireTold (z : Sizes) (b : ℕ) (is_expired : ℕ → Bool) (answer 
 -- caller 1 of a new table
 abbrev pub IsFirst : {A K : Type 0} → Sizes → Content A K → Type 0
 IsFirst z Empty = ⊥
-IsFirst z (Caller s) = s.view ≡ first_view z
+IsFirst z (Caller s) = (s.view ≡ first_view z) × IsLawfulCaller z s.view
 IsFirst z (Pairs ps) = ⊥
-
--- the caller is as the refusal of a split leaves it
-pub record IsSplitRefused (z : Sizes) (fault : SplitFault) (s t : CallerState) : Type 0 where
-  pub same : t ≡ with_view s t.view
-  pub refused : IsRefused z s.view fault t.view
 
 -- the caller and a new one of its table
 abbrev pub IsDivided : {A K : Type 0} → Sizes → Content A K → Content A K → Content A K → Type 0
