@@ -15,13 +15,13 @@
 
    A bucket has its pairs in a block of 1, 2, 4 .. or 64 of the table's pages, of 4 places each. With keys spread at
    random a new table of keys of two words took some 28,000 pairs until a bucket's next block wasn't there (7,000 of
-   five words; a large table 453,000 of either), and some 12,000 where pairs came and went, since a block that was
-   given back serves blocks of its size alone. A pair stays until it is removed: where values tell which sessions are
-   over, sweep the buckets now and then, as bihash4_sweep_wait does, and the blocks of ended sessions come back,
-   although no packet of theirs comes. No call counts a table's pairs while it is in use. A program that adds up the
-   answers of all its callers knows how many there are at most: those that were ADDED, less those that remove and
-   expire REPLACED (of a pair that takes an expired one's place only ADDED is told). The hash has no seed: whoever
-   chooses keys can choose their bucket.
+   five words; a large table 453,000 of either). A block that was given back is cut where a smaller one is wanted and
+   no other is there, and never made part of a larger one. A pair stays until it is removed: where values tell which
+   sessions are over, sweep the buckets now and then, as bihash4_sweep_wait does, and the blocks of ended sessions
+   come back, although no packet of theirs comes. No call counts a table's pairs while it is in use. A program that
+   adds up the answers of all its callers knows how many there are at most: those that were ADDED, less those that
+   remove and expire REPLACED (of a pair that takes an expired one's place only ADDED is told). The hash has no seed:
+   whoever chooses keys can choose their bucket.
 
    What the library is owed, since no compiler checks it:
    - A handle is what the last call left there. It is never copied, written or read by others, and each call has it for
@@ -69,9 +69,9 @@ enum bihash_kind {
   BIHASH_WORN = 4,       /* not done, until a renewal: the bucket was changed 2^33 - 1 times; the key has no value */
   BIHASH_WORN_FOUND = 5, /* the same; the key has `value` */
   BIHASH_FULL = 6,       /* not done: the key has no value, and its bucket has no room for another key */
-  BIHASH_NO_PAGES = 7,   /* not done: the key has no value, and its bucket needs a block of 2^`log2` pages, which isn't
-                            there; `pages_left` pages were never used. A bucket gives its block back when its last pair
-                            is removed */
+  BIHASH_NO_PAGES = 7,   /* not done: the key has no value, and its bucket needs a block of 2^`log2` pages, of which size
+                            or larger none is there; `pages_left` pages were never used. A bucket gives its block back
+                            when its last pair is removed */
   BIHASH_CONTENDED = 8,  /* nothing was done: another caller stood in the way; try again */
   BIHASH_MEMORY = 9,     /* nothing was done: memory was refused */
   BIHASH_NUMBERS = 10,   /* nothing was done: the table had 65,535 callers, and can have no more */

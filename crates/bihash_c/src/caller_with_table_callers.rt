@@ -10,7 +10,7 @@ ghost use Rattle.bihash_c.specs.CallersWithTable.{IsSplit, IsSplitRefused};
 
 use crate::caller_with_table::CallerWithTable;
 use crate::table_share::TableShare;
-use bihash_table::{SplitFault, create, stamp};
+use bihash_table::{SplitFault, create_cutting, stamp};
 use bihash_words::Shape;
 use std::alloc::Global;
 
@@ -21,7 +21,7 @@ impl<S: Shape> CallerWithTable<S> {
         ensures first { IfSome result (λ m. m.view ≡ first_view (sizes_of S.Shape)) }
         ensures lawful { IfSome result (λ m. IsLawfulCaller (sizes_of S.Shape) m.view) }
     {
-        let Ok((sessions, caller)) = create::<S>(alloc) else {
+        let Ok((sessions, caller)) = create_cutting::<S>(alloc) else {
             return None;
         };
         Some(CallerWithTable {
