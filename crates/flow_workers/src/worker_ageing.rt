@@ -83,10 +83,10 @@ fn due_of<S: Shape>(worker: usize, workers: usize, elapsed: u64, round: u64) -> 
     due_buckets(own as u64, elapsed, round)
 }
 
-/// Removes sessions that have ended from buckets that fall to the worker, before it judges the packet at this place of the batch,
-/// which has this moment. Most packets find nothing due, and their path is shorter without this.
+// Removes sessions that have ended from buckets that fall to the worker, before it judges the packet at this place of the batch,
+// which has this moment. Most packets find nothing due, and their path is shorter without this.
 #[inline(never)]
-pub fn age<A: Shape, B: Shape, R: Wait, G: Gate>(
+fn age<A: Shape, B: Shape, R: Wait, G: Gate>(
     batch: &Batch<'_, '_, '_, A, B, R, G>,
     worker: usize,
     _at: usize,
@@ -125,4 +125,22 @@ pub fn age<A: Shape, B: Shape, R: Wait, G: Gate>(
     share.clock.six = age_table(setup.rt, &tables.six, &mut callers.six, six, &expiry);
     share.clock.last = u64::from(moment);
     share.clock.due = u64::from(moment).saturating_add(part_seconds(round));
+}
+
+/// Removes sessions that have ended, where that is due, before the worker judges the packet at this place of the batch, which
+/// has this moment.
+#[inline(always)]
+pub fn age_where_due<A: Shape, B: Shape, R: Wait, G: Gate>(
+    batch: &Batch<'_, '_, '_, A, B, R, G>,
+    worker: usize,
+    at: usize,
+    moment: u32,
+    share: &mut Share<A, B>,
+)
+    requires { MayAge ⟦<A as Shape>⟧ ⟦<B as Shape>⟧ batch.now worker at moment share.old }
+    ensures { HasWorkedOn ⟦<A as Shape>⟧ ⟦<B as Shape>⟧ batch.now worker at at share.old share.new }
+{
+    if u64::from(moment) >= share.clock.due {
+        age(batch, worker, at, moment, share);
+    }
 }
