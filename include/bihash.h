@@ -14,11 +14,14 @@
    handed on by other means.
 
    A bucket has its pairs in a block of 1, 2, 4 .. or 64 of the table's pages, of 4 places each. With keys spread at
-   random a new table of keys of two words took some 28,000 pairs until a bucket's next block wasn't there (7,000 of five
-   words; a large table 453,000 of either), and some 12,000 where pairs came and went, since a block that was given back
-   serves blocks of its size alone. A pair stays until it is removed: where values tell which sessions are over, sweep
-   the buckets now and then, as bihash4_sweep_wait does, and the blocks of ended sessions come back, although no packet
-   of theirs comes. The hash has no seed: whoever chooses keys can choose their bucket.
+   random a new table of keys of two words took some 28,000 pairs until a bucket's next block wasn't there (7,000 of
+   five words; a large table 453,000 of either), and some 12,000 where pairs came and went, since a block that was
+   given back serves blocks of its size alone. A pair stays until it is removed: where values tell which sessions are
+   over, sweep the buckets now and then, as bihash4_sweep_wait does, and the blocks of ended sessions come back,
+   although no packet of theirs comes. No call counts a table's pairs while it is in use. A program that adds up the
+   answers of all its callers knows how many there are at most: those that were ADDED, less those that remove and
+   expire REPLACED (of a pair that takes an expired one's place only ADDED is told). The hash has no seed: whoever
+   chooses keys can choose their bucket.
 
    What the library is owed, since no compiler checks it:
    - A handle is what the last call left there. It is never copied, written or read by others, and each call has it for
@@ -72,7 +75,7 @@ enum bihash_kind {
   BIHASH_CONTENDED = 8,  /* nothing was done: another caller stood in the way; try again */
   BIHASH_MEMORY = 9,     /* nothing was done: memory was refused */
   BIHASH_NUMBERS = 10,   /* nothing was done: the table had 65,535 callers, and can have no more */
-  BIHASH_STRANGERS = 11  /* nothing was done: another caller of the table is left */
+  BIHASH_STRANGERS = 11  /* nothing was done: a caller of the table was not joined into this one */
 };
 
 /* What the calls on callers answer where they are done. */
@@ -159,6 +162,11 @@ bihash_answer bihash4_add_if_absent(bihash4_handle *handle, const uint64_t key[2
 /* Sets the value where there is one, whatever it was: ABSENT, REPLACED, FOUND (it was this value) or WORN_FOUND. */
 bihash_answer bihash4_touch(bihash4_handle *handle, const uint64_t key[2], uint64_t value);
 
+/* Sets the value where the key still has the value `was`: REPLACED, FOUND with the value that is there (it isn't
+   `was`, or the new value is `was` itself), ABSENT or WORN_FOUND. Search, work out the new value, and begin again with
+   the one that is told where it is FOUND: so threads that change one pair at once lose nothing of each other. */
+bihash_answer bihash4_replace_if(bihash4_handle *handle, const uint64_t key[2], uint64_t was, uint64_t value);
+
 /* Takes the value away: ABSENT, REPLACED or WORN_FOUND. */
 bihash_answer bihash4_remove(bihash4_handle *handle, const uint64_t key[2]);
 
@@ -179,20 +187,29 @@ bihash_answer bihash4_add_if_absent_or_recycle(bihash4_handle *handle, const uin
 #define BIHASH6_BUCKETS 1024
 #define BIHASH_LARGE_BUCKETS 65536
 
+/* The bucket of a key in a table that create made, and in one that create_large made. Any thread may ask. Keys that
+   are dealt to threads by their bucket (bucket_of(key) % threads, as racl deals flows) let no two threads meet in a
+   bucket; that both directions of a flow have one key is the caller's matter. */
+uint64_t bihash4_bucket_of(const uint64_t key[2]);
+uint64_t bihash4_bucket_of_large(const uint64_t key[2]);
+
 /* Looks at a bucket, and takes away one pair there whose value is expired: REPLACED, with the value that went, or
    WORN_FOUND. ABSENT: no pair of the bucket was expired, as far as the caller knew then, or the table has no such
    bucket; no lock was taken. A value that isn't expired never goes. */
 bihash_answer bihash4_expire(bihash4_handle *handle, uint64_t bucket, const bihash_expiry *expiry);
 
-/* ---- The end of a table. Each other caller was joined before, else STRANGERS ---- */
+/* ---- The end of a table. Each other caller was joined before, else STRANGERS: is_lone says whether. A refusal
+   changes nothing, and the caller stays ---- */
 
-/* Opens the table again: its pairs stay, its buckets count their changes anew, and the caller is the first of it. DONE,
-   or STRANGERS or MEMORY. It asks for three times the table's memory, so there are four of it for a while, and gives
-   that of the old one back. No call counts as answered yet. */
+/* Opens the table again: its pairs stay, its buckets count their changes anew, and the caller is the first of it.
+   DONE, or STRANGERS, MEMORY, or CONTENDED: the caller has every number, and another handle's hold of the table was
+   not let go of yet (a join lets go before it ends, so where handles go from thread to thread as said above none is
+   left). It asks for three times the table's memory, so there are four of it for a while, and gives that of the old
+   one back. No call counts as answered yet. */
 uint32_t bihash4_renew(bihash4_handle *handle);
 
-/* Ends the table and its caller: the handle has its pairs then. DONE, or STRANGERS or MEMORY. It asks for the table's
-   memory once more, and for the pairs'. */
+/* Ends the table and its caller: the handle has its pairs then. DONE, or STRANGERS, CONTENDED or MEMORY, as renew. It
+   asks for the table's memory once more, and for the pairs'. */
 uint32_t bihash4_close(bihash4_handle *handle);
 
 /* How many pairs a handle has whose table was closed. */
@@ -221,11 +238,14 @@ bihash_answer bihash6_search(bihash6_handle *handle, const uint64_t key[5]);
 bihash_answer bihash6_add(bihash6_handle *handle, const uint64_t key[5], uint64_t value);
 bihash_answer bihash6_add_if_absent(bihash6_handle *handle, const uint64_t key[5], uint64_t value);
 bihash_answer bihash6_touch(bihash6_handle *handle, const uint64_t key[5], uint64_t value);
+bihash_answer bihash6_replace_if(bihash6_handle *handle, const uint64_t key[5], uint64_t was, uint64_t value);
 bihash_answer bihash6_remove(bihash6_handle *handle, const uint64_t key[5]);
 bihash_answer bihash6_add_or_recycle(bihash6_handle *handle, const uint64_t key[5], uint64_t value,
                                      const bihash_expiry *expiry);
 bihash_answer bihash6_add_if_absent_or_recycle(bihash6_handle *handle, const uint64_t key[5], uint64_t value,
                                                const bihash_expiry *expiry);
+uint64_t bihash6_bucket_of(const uint64_t key[5]);
+uint64_t bihash6_bucket_of_large(const uint64_t key[5]);
 bihash_answer bihash6_expire(bihash6_handle *handle, uint64_t bucket, const bihash_expiry *expiry);
 uint32_t bihash6_renew(bihash6_handle *handle);
 uint32_t bihash6_close(bihash6_handle *handle);
@@ -248,6 +268,13 @@ static inline void bihash_pause(void) {
    used for more than `timeout` seconds. */
 static inline bihash_expiry bihash_expiry_at(uint32_t moment, uint32_t timeout) {
   bihash_expiry expiry = {UINT32_MAX, moment > timeout ? moment - timeout : 0};
+  return expiry;
+}
+
+/* The expiry of values whose low 32 bits are the second at which they end: expired at `moment` are those that end then
+   or before. */
+static inline bihash_expiry bihash_expiry_of_deadlines(uint32_t moment) {
+  bihash_expiry expiry = {UINT32_MAX, (uint64_t)moment + 1};
   return expiry;
 }
 
@@ -281,6 +308,10 @@ static inline bihash_expiry bihash_expiry_at(uint32_t moment, uint32_t timeout) 
   static inline bihash_answer FAMILY##_touch_wait(FAMILY##_handle *handle, const uint64_t key[WORDS],                  \
                                                   uint64_t value) {                                                    \
     BIHASH_WAIT(FAMILY##_touch(handle, key, value));                                                                   \
+  }                                                                                                                    \
+  static inline bihash_answer FAMILY##_replace_if_wait(FAMILY##_handle *handle, const uint64_t key[WORDS],             \
+                                                       uint64_t was, uint64_t value) {                                 \
+    BIHASH_WAIT(FAMILY##_replace_if(handle, key, was, value));                                                         \
   }                                                                                                                    \
   static inline bihash_answer FAMILY##_remove_wait(FAMILY##_handle *handle, const uint64_t key[WORDS]) {               \
     BIHASH_WAIT(FAMILY##_remove(handle, key));                                                                         \

@@ -75,8 +75,8 @@ static uint64_t with_packet(uint64_t value, const struct packet *packet) {
     return value | (uint64_t)packet->flags << (32 + 8 * packet->side) | (uint64_t)packet->is_tcp << 48;
 }
 
-/* One thread judges here. Where several do, each flow is dealt to one of them, since a session is looked up and changed
-   by two calls. */
+/* One thread judges here. Where several do, each flow is dealt to one of them, by bihash4_bucket_of_large of its key, since
+   a session is looked up and changed by two calls. */
 static const char *judge(bihash4_handle *caller, const struct packet *packet) {
     bihash_answer found = bihash4_search_wait(caller, packet->key);
     int is_live = found.kind == BIHASH_FOUND && packet->second <= live_until(found.value);

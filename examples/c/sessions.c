@@ -21,14 +21,21 @@ static void key_of(uint32_t flow, uint64_t key[2]) {
     key[1] = UINT64_C(50000) << 48 | UINT64_C(443) << 32 | UINT64_C(6) << 24;
 }
 
-static uint64_t with_packet(uint64_t value, uint32_t now) { return ((value >> 32) + 1) << 32 | now; }
+static uint64_t with_packet(uint64_t value, uint32_t now) {
+    uint32_t last = (uint32_t)value;
+    return ((value >> 32) + 1) << 32 | (last > now ? last : now);
+}
 
-/* Counts a packet of a flow, and tells whether its session is there. No other thread changes it meanwhile, since each
-   flow is dealt to one of them, as a network card does it. */
+/* Counts a packet of a flow, and tells whether its session is there. Other threads may count packets of the same flow
+   meanwhile: a session's value is replaced only where it is still the one that was found. */
 static int count_packet(bihash4_handle *caller, const uint64_t key[2], uint32_t now) {
     bihash_expiry expiry = bihash_expiry_at(now, TIMEOUT);
-    bihash_answer answer = bihash4_add_if_absent_or_recycle_wait(caller, key, with_packet(0, now), &expiry);
-    if (answer.kind == BIHASH_FOUND) answer = bihash4_touch_wait(caller, key, with_packet(answer.value, now));
+    bihash_answer answer;
+    do {
+        answer = bihash4_add_if_absent_or_recycle_wait(caller, key, with_packet(0, now), &expiry);
+        while (answer.kind == BIHASH_FOUND)
+            answer = bihash4_replace_if_wait(caller, key, answer.value, with_packet(answer.value, now));
+    } while (answer.kind == BIHASH_ABSENT);
     return answer.kind == BIHASH_ADDED || answer.kind == BIHASH_REPLACED;
 }
 
@@ -36,7 +43,7 @@ static void *work(void *given) {
     struct worker *worker = given;
     uint64_t key[2];
     for (uint32_t now = 1; now <= SECONDS; now++)
-        for (uint32_t flow = worker->number; flow < FLOWS; flow += THREADS) {
+        for (uint32_t flow = (worker->number + now) % THREADS; flow < FLOWS; flow += THREADS) {
             key_of(flow, key);
             worker->packets++;
             worker->refused += !count_packet(&worker->caller, key, now);

@@ -59,6 +59,12 @@ macro_rules! declared {
                 (pair.key, pair.value)
             }
 
+            /// The bucket of a key in a table that is not large.
+            fn bucket_of(key: &Self::Key) -> u64;
+
+            /// The bucket of a key in a large table.
+            fn bucket_of_large(key: &Self::Key) -> u64;
+
             $(
                 #[doc(hidden)]
                 unsafe fn $name(handle: &mut Handle<Self>, $($given: $kind),*) -> $result;
@@ -70,10 +76,18 @@ macro_rules! declared {
             type F = V4;
             type Key = [u64; 2];
             unsafe extern "C" {
+                fn bihash4_bucket_of(key: *const Key) -> u64;
+                fn bihash4_bucket_of_large(key: *const Key) -> u64;
                 $(pub fn $four(handle: *mut Handle<F>, $($given: declared!(@raw $given F Key)),*) -> $result;)*
             }
             impl Family for V4 {
                 type Key = Key;
+                fn bucket_of(key: &Key) -> u64 {
+                    unsafe { bihash4_bucket_of(key) }
+                }
+                fn bucket_of_large(key: &Key) -> u64 {
+                    unsafe { bihash4_bucket_of_large(key) }
+                }
                 $(unsafe fn $name(handle: &mut Handle<F>, $($given: declared!(@safe $given F Key)),*) -> $result {
                     unsafe { $four(handle, $($given),*) }
                 })*
@@ -85,10 +99,18 @@ macro_rules! declared {
             type F = V6;
             type Key = [u64; 5];
             unsafe extern "C" {
+                fn bihash6_bucket_of(key: *const Key) -> u64;
+                fn bihash6_bucket_of_large(key: *const Key) -> u64;
                 $(pub fn $six(handle: *mut Handle<F>, $($given: declared!(@raw $given F Key)),*) -> $result;)*
             }
             impl Family for V6 {
                 type Key = Key;
+                fn bucket_of(key: &Key) -> u64 {
+                    unsafe { bihash6_bucket_of(key) }
+                }
+                fn bucket_of_large(key: &Key) -> u64 {
+                    unsafe { bihash6_bucket_of_large(key) }
+                }
                 $(unsafe fn $name(handle: &mut Handle<F>, $($given: declared!(@safe $given F Key)),*) -> $result {
                     unsafe { $six(handle, $($given),*) }
                 })*
@@ -98,6 +120,7 @@ macro_rules! declared {
     (@raw other $f:ident $k:ident) => { *mut Handle<$f> };
     (@raw key $f:ident $k:ident) => { *const $k };
     (@raw value $f:ident $k:ident) => { u64 };
+    (@raw was $f:ident $k:ident) => { u64 };
     (@raw at $f:ident $k:ident) => { u64 };
     (@raw bucket $f:ident $k:ident) => { u64 };
     (@raw expiry $f:ident $k:ident) => { *const Expiry };
@@ -105,6 +128,7 @@ macro_rules! declared {
     (@safe other $f:ident $k:ident) => { &mut Handle<$f> };
     (@safe key $f:ident $k:ident) => { &$k };
     (@safe value $f:ident $k:ident) => { u64 };
+    (@safe was $f:ident $k:ident) => { u64 };
     (@safe at $f:ident $k:ident) => { u64 };
     (@safe bucket $f:ident $k:ident) => { u64 };
     (@safe expiry $f:ident $k:ident) => { &Expiry };
@@ -129,6 +153,7 @@ declared! {
     add, bihash4_add, bihash6_add, (key: &Self::Key, value: u64), RawAnswer;
     add_if_absent, bihash4_add_if_absent, bihash6_add_if_absent, (key: &Self::Key, value: u64), RawAnswer;
     touch, bihash4_touch, bihash6_touch, (key: &Self::Key, value: u64), RawAnswer;
+    replace_if, bihash4_replace_if, bihash6_replace_if, (key: &Self::Key, was: u64, value: u64), RawAnswer;
     remove, bihash4_remove, bihash6_remove, (key: &Self::Key), RawAnswer;
     add_or_recycle, bihash4_add_or_recycle, bihash6_add_or_recycle,
         (key: &Self::Key, value: u64, expiry: &Expiry), RawAnswer;

@@ -65,13 +65,13 @@ pub struct Contended;
 /// Why a call on callers was not done. Nothing is lost then.
 #[derive(Clone, Copy, Debug, PartialEq, Eq)]
 pub enum Fault {
-    /// Another caller stood in the way.
+    /// Another caller stood in the way, or its hold of the table was not let go of yet.
     Contended,
     /// Memory was refused.
     Memory,
     /// The table had as many callers as it can have.
     Numbers,
-    /// Another caller of the table is left, or was dropped and not joined.
+    /// A caller of the table was not joined, or was dropped.
     Strangers,
 }
 
@@ -88,6 +88,11 @@ impl Expiry {
     pub fn at(moment: u32, timeout: u32) -> Expiry {
         let least = u64::from(moment.saturating_sub(timeout));
         Expiry { mask: u64::from(u32::MAX), least }
+    }
+
+    /// Of values whose low 32 bits are the second at which they end: those that end at `moment` or before.
+    pub fn of_deadlines(moment: u32) -> Expiry {
+        Expiry { mask: u64::from(u32::MAX), least: u64::from(moment) + 1 }
     }
 
     fn raw(self) -> RawExpiry {
@@ -223,7 +228,7 @@ impl<F: Family> Caller<F> {
         unsafe { F::is_lone(&mut self.held.handle) }
     }
 
-    /// The bucket of the last answered call, and how many changes of the bucket came before it.
+    /// The bucket of the last answered call, and how many changes the bucket had when that was done, its own included.
     pub fn stamp(&mut self) -> Option<(u64, u64)> {
         let stamp = unsafe { F::stamp(&mut self.held.handle) };
         (stamp.known != 0).then_some((stamp.bucket, stamp.stamp))
@@ -238,6 +243,10 @@ impl<F: Family> Caller<F> {
         add_if_absent, try_add_if_absent(value: u64) => |handle, key| F::add_if_absent(handle, key, checked(value));
         /// Sets the value where there is one. Panics at `NO_VALUE`.
         touch, try_touch(value: u64) => |handle, key| F::touch(handle, key, checked(value));
+        /// Sets the value where the key still has the value `was`; `Found` tells another one that is there. Panics at
+        /// `NO_VALUE`.
+        replace_if, try_replace_if(was: u64, value: u64) => |handle, key|
+            F::replace_if(handle, key, was, checked(value));
         /// Takes the value away.
         remove, try_remove() => |handle, key| F::remove(handle, key);
         /// As `add`; in a full bucket the new pair takes the place of the expired one with the least key.

@@ -75,12 +75,17 @@ fn each_call_has_its_answer() {
     assert_eq!(table.add_if_absent(&key, 8), Answer::Found(7));
     assert_eq!(table.touch(&key, 8), Answer::Replaced(7));
     assert_eq!(table.try_search(&key), Ok(Answer::Found(8)));
-    assert_eq!(table.stamp().map(|it| it.1), Some(2));
+    assert_eq!(table.stamp(), Some((V6::bucket_of(&key), 2)));
+    assert_eq!(table.replace_if(&key, 7, 9), Answer::Found(8));
+    assert_eq!(table.replace_if(&key, 8, 9), Answer::Replaced(8));
+    assert_eq!(table.replace_if(&[0; 5], 0, 9), Answer::Absent);
     assert_eq!(table.add(&[5, 4, 3, 2, 1], 90), Answer::Added);
     assert_eq!(table.expire(1 << 20, expiry), Answer::Absent);
     assert_eq!(table.sweep(0..1024, expiry), 1);
     assert_eq!(table.search(&key), Answer::Absent);
     assert_eq!(table.search(&[5, 4, 3, 2, 1]), Answer::Found(90));
+    assert_eq!(table.sweep(0..1024, Expiry::of_deadlines(89)), 0);
+    assert_eq!(table.sweep(0..1024, Expiry::of_deadlines(90)), 1);
 }
 
 #[test]

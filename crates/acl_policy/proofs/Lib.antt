@@ -1,3 +1,4 @@
+pub mod AddingLaws
 pub mod LineLaws
 pub mod PolicyLemmas
 pub mod PrefixBits

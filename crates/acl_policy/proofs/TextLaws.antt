@@ -71,7 +71,7 @@ second_section line front whole (inr h) number is there once =
     let same : number ≡ h.next.interface = cc in
     not_again front h.next h.others number same there (subst (λ (ss : List SectionFacts). AreDistinct (numbers_of ss)) h.whole_is once)
 
-IsWrong-refuted : IsRefuted IsWrong
+pub IsWrong-refuted : IsRefuted IsWrong
 IsWrong-refuted before line after whole policy all front (inl none) =
     no_reading line policy.sections whole.sections (stands policy.sections whole.sections before line after front.sections all.sections) none
 IsWrong-refuted before line after whole policy all front (inr (inl (mac, section, is, last, some))) =
@@ -79,7 +79,7 @@ IsWrong-refuted before line after whole policy all front (inr (inl (mac, section
 IsWrong-refuted before line after whole policy all front (inr (inr (number, is, there))) =
     second_section line policy.sections whole.sections (stands policy.sections whole.sections before line after front.sections all.sections) number is there all.once
 
-IsSurplus-refuted : IsRefuted IsSurplus
+pub IsSurplus-refuted : IsRefuted IsSurplus
 IsSurplus-refuted before line after whole policy all front (direction, rule, section, is, last, many) =
     surplus_rule line policy.sections whole.sections (stands policy.sections whole.sections before line after front.sections all.sections) direction rule section is last many
 
@@ -122,7 +122,7 @@ one_line K L k l texts n m (before, line, after, policy, split, counted, reads, 
     ]
 
 -- a surplus rule is not wrong
-apart : (policy : PolicyFacts) (line : List ℕ) → IsWrong policy line → IsSurplus policy line → ⊥
+pub apart : (policy : PolicyFacts) (line : List ℕ) → IsWrong policy line → IsSurplus policy line → ⊥
 apart policy line (inl none) (direction, rule, section, is, last, many) = none (Ruled direction rule) is
 apart policy line (inr (inl (mac, own, second, last_own, some))) (direction, rule, section, is, last, many) =
     let same = one_reading line (Own mac) (Ruled direction rule) second is in

@@ -1,2 +1,2 @@
--- Definitions that go as the code goes. No promise is said by them.
+-- Definitions that go as the code goes. Contracts of readers name them, and a law ties each to the grammar.
 pub mod Reading

@@ -9,6 +9,7 @@ mod policy_line;
 mod policy_line_words;
 mod policy_reading;
 mod policy_text_laws;
+mod reader_laws;
 mod rule;
 mod rule_match;
 
@@ -23,5 +24,6 @@ pub use policy_words::{
     address_of, before_comment, cut_at, flags_of_word, icmp_number, is_end, mac_of, next_word,
     number_of, number_up_to, octet_of, prefix_of, protocol_of, range_of, width_of,
 };
+pub use reader_laws::{lines_are_read_as_the_grammar_says, policies_grow_as_the_grammar_says};
 pub use rule::{Action, Rule};
 pub use rule_match::{first_match, has_prefix, is_match};

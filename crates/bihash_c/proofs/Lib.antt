@@ -1,2 +1,3 @@
 pub mod AsBox4
 pub mod AsBox6
+pub mod LoneAnswers

@@ -5,12 +5,10 @@ use Rattle.bihash_words.specs.declared.patch.Reply.TheVariants.{Kept, Changed, W
 use Rattle.bihash_steps.specs.declared.split_fault.SplitFault as Split
 use Rattle.bihash_steps.specs.declared.split_fault.SplitFault.TheVariants as SplitFaults
 use Rattle.bihash_table.specs.declared.contended.Contended.{Contended}
-use Rattle.bihash_table.specs.declared.close_fault.CloseFault as Close
-use Rattle.bihash_table.specs.declared.close_fault.CloseFault.TheVariants as CloseFaults
-use Rattle.bihash_table.specs.declared.renew_fault.RenewFault as Renew
-use Rattle.bihash_table.specs.declared.renew_fault.RenewFault.TheVariants as RenewFaults
 use Rattle.bihash_c.specs.declared.answer_numbers.Answer.{Answer}
 use Rattle.bihash_c.specs.declared.answer_numbers.Stamp.{Stamp}
+use Rattle.bihash_c.specs.declared.end_fault.EndFault as End
+use Rattle.bihash_c.specs.declared.end_fault.EndFault.TheVariants as EndFaults
 
 -- an answer that carries no value
 abbrev pub bare : ℕ → Answer
@@ -47,13 +45,10 @@ split_number SplitFaults.Memory = 9
 split_number SplitFaults.Numbers = 10
 split_number SplitFaults.Contended = 8
 
-abbrev pub close_number : Close.CloseFault → ℕ
-close_number CloseFaults.Strangers = 11
-close_number CloseFaults.Memory = 9
-
-abbrev pub renew_number : Renew.RenewFault → ℕ
-renew_number RenewFaults.Strangers = 11
-renew_number RenewFaults.Memory = 9
+abbrev pub end_number : End.EndFault → ℕ
+end_number EndFaults.Strangers = 11
+end_number EndFaults.Contended = 8
+end_number EndFaults.Memory = 9
 
 -- a bucket and a stamp, where there is a last call
 abbrev pub stamp_told : Option (ℕ × ℕ) → Stamp

@@ -5,18 +5,17 @@ use Rattle.bihash_words.specs.declared.shape.Shape.{Ghosts}
 use Rattle.bihash_words.specs.declared.patch.Change.{Change}
 use Rattle.bihash_words.specs.declared.patch.Reply.{Reply}
 use Rattle.bihash_steps.specs.CallerCalls.{AreInformed, IsJoined}
-use Rattle.bihash_steps.specs.Steps.{IsRefused}
-use Rattle.bihash_steps.specs.Seats.{CallerState, stamp_of, with_view}
+use Rattle.bihash_steps.specs.Seats.{CallerState, stamp_of}
+use Rattle.bihash_rule.specs.Callers.{IsLawfulCaller}
 use Rattle.bihash_rule.specs.Views.{first_view}
 use Rattle.bihash_steps.specs.declared.split_fault.SplitFault.{SplitFault}
 use Rattle.bihash_table.specs.Calls.{TellsRecycleTry, TellsSearchTry, TellsUpdateTry}
-use Rattle.bihash_table.specs.declared.close_fault.CloseFault.{CloseFault}
 use Rattle.bihash_table.specs.declared.contended.Contended.{Contended}
-use Rattle.bihash_table.specs.declared.renew_fault.RenewFault.{RenewFault}
-use Rattle.bihash_c.specs.Answers.{answer_of, close_number, expire_answer_of, renew_number, search_answer_of, split_number, stamp_told}
-use Rattle.bihash_c.specs.CallersWithTable.{IsCloseTold, IsClosed, IsRenewTold, IsRenewedFrom, IsSplit, LooksAt}
+use Rattle.bihash_c.specs.Answers.{answer_of, end_number, expire_answer_of, search_answer_of, split_number, stamp_told}
+use Rattle.bihash_c.specs.CallersWithTable.{IsClosed, IsEndTold, IsRenewedFrom, IsSplit, IsSplitRefused, LooksAt}
 use Rattle.bihash_c.specs.declared.answer_numbers.Answer.{Answer}
 use Rattle.bihash_c.specs.declared.answer_numbers.Stamp.{Stamp}
+use Rattle.bihash_c.specs.declared.end_fault.EndFault.{EndFault}
 use Rattle.bihash_c.specs.declared.handle_content.Content.{Content}
 use Rattle.bihash_c.specs.declared.handle_content.Content.TheVariants.{Empty, Caller, Pairs}
 
@@ -71,13 +70,8 @@ pub record ExpireTold (z : Sizes) (b : ℕ) (is_expired : ℕ → Bool) (answer 
 -- caller 1 of a new table
 abbrev pub IsFirst : {A K : Type 0} → Sizes → Content A K → Type 0
 IsFirst z Empty = ⊥
-IsFirst z (Caller s) = s.view ≡ first_view z
+IsFirst z (Caller s) = (s.view ≡ first_view z) × IsLawfulCaller z s.view
 IsFirst z (Pairs ps) = ⊥
-
--- the caller is as the refusal of a split leaves it
-pub record IsSplitRefused (z : Sizes) (fault : SplitFault) (s t : CallerState) : Type 0 where
-  pub same : t ≡ with_view s t.view
-  pub refused : IsRefused z s.view fault t.view
 
 -- the caller and a new one of its table
 abbrev pub IsDivided : {A K : Type 0} → Sizes → Content A K → Content A K → Content A K → Type 0
@@ -109,13 +103,13 @@ StampTold (Pairs ps) stamp = ⊥
 abbrev pub CloseTold : {A K : Type 0} → Ghosts A K → (x y : Content A K) → ℕ → Type 0
 CloseTold g (Caller s) (Pairs ps) answer = (answer ≡ 0) × IsClosed g s.view ps.items
 CloseTold g (Caller s) (Caller t) answer =
-    (fault : CloseFault) × (answer ≡ close_number fault) × IsCloseTold (sizes_of g) s fault t
+    (fault : EndFault) × (answer ≡ end_number fault) × IsEndTold (sizes_of g) s fault t
 CloseTold g x y answer = ⊥
 
 -- caller 1 of the renewed table is there, or the caller is there still
 abbrev pub RenewTold : {A K : Type 0} → Sizes → (x y : Content A K) → ℕ → Type 0
 RenewTold z x y answer = ((answer ≡ 0) × Calls x y (λ s t. IsRenewedFrom z s.view t.view))
-    ⊎ ((fault : RenewFault) × (answer ≡ renew_number fault) × Calls x y (λ s t. IsRenewTold z s fault t))
+    ⊎ ((fault : EndFault) × (answer ≡ end_number fault) × Calls x y (λ s t. IsEndTold z s fault t))
 
 -- how many pairs are there
 abbrev pub CountTold : {A K : Type 0} → Content A K → ℕ → Type 0

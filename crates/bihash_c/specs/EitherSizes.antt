@@ -5,6 +5,7 @@ use Rattle.bihash_words.specs.declared.shape.Shape.{Ghosts}
 use Rattle.bihash_steps.specs.Seats.{CallerState}
 use Rattle.bihash_steps.specs.declared.split_fault.SplitFault.{SplitFault}
 use Rattle.bihash_c.specs.Answers.{split_number}
+use Rattle.bihash_c.specs.CallersWithTable.{IsSplitRefused}
 use Rattle.bihash_c.specs.Contents as one
 use Rattle.bihash_c.specs.declared.answer_numbers.Stamp.{Stamp}
 use Rattle.bihash_c.specs.declared.handle_content.Content.{Content}
@@ -63,7 +64,7 @@ IsDivided z w x y new = ⊥
 abbrev pub SplitTold : {A B K : Type 0} → (small large : Sizes) → (x y before new : EitherSize A B K) → ℕ → Type 0
 SplitTold z w x y before new answer = ((answer ≡ 0) × IsDivided z w x y new)
     ⊎ ((fault : SplitFault) × (answer ≡ split_number fault)
-    × Calls x y (one.IsSplitRefused z fault) (one.IsSplitRefused w fault) × (new ≡ before))
+    × Calls x y (IsSplitRefused z fault) (IsSplitRefused w fault) × (new ≡ before))
 
 -- the caller has the numbers and records of another one too
 abbrev pub JoinTold : {A B K : Type 0} → (small large : Sizes) → (x other y : EitherSize A B K) → Type 0

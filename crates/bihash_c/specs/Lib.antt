@@ -2,7 +2,9 @@ pub mod Answers
 pub mod CallersWithTable
 pub mod Contents
 pub mod EitherSizes
+pub mod EndFaults
 pub mod Expiries
 pub mod Handles4
 pub mod Handles6
+pub mod Replacements
 pub mod TableShares

@@ -8,3 +8,8 @@ use Rattle.bihash_c.specs.declared.table_share.TableShare.TheVariants.{Own, Shar
 abbrev pub row_of : {A K : Type 0} → TableShare A K → TableId
 row_of (Own sessions) = sessions.row
 row_of (Shared sessions) = (arc_value sessions).row
+
+-- other callers may have it too
+abbrev pub IsShared : {A K : Type 0} → TableShare A K → Type 0
+IsShared (Own sessions) = ⊥
+IsShared (Shared sessions) = Unit {0}

@@ -1,8 +1,9 @@
 //! What C is told: one number for each answer, with all that the answer carries.
 ghost use Rattle.std.specs.Prelude.{◌≡◌};
-ghost use Rattle.bihash_c.specs.Answers.{answer_of, close_number, expire_answer_of, renew_number, search_answer_of, split_number, stamp_told, value_told};
+ghost use Rattle.bihash_c.specs.Answers.{answer_of, end_number, expire_answer_of, search_answer_of, split_number, stamp_told, value_told};
 
-use bihash_table::{CloseFault, Contended, RenewFault, SplitFault};
+use crate::end_fault::EndFault;
+use bihash_table::{Contended, SplitFault};
 use bihash_words::Reply;
 
 /// Of a call on callers: it was done.
@@ -140,23 +141,14 @@ pub fn split_refusal(fault: SplitFault) -> u32
     }
 }
 
-/// The number for a close that was refused.
-pub fn close_refusal(fault: CloseFault) -> u32
-    ensures { result ≡ close_number fault }
+/// The number for a close or a renewal that was refused.
+pub fn end_refusal(fault: EndFault) -> u32
+    ensures { result ≡ end_number fault }
 {
     match fault {
-        CloseFault::Strangers => STRANGERS,
-        CloseFault::Memory => MEMORY,
-    }
-}
-
-/// The number for a renewal that was refused.
-pub fn renew_refusal(fault: RenewFault) -> u32
-    ensures { result ≡ renew_number fault }
-{
-    match fault {
-        RenewFault::Strangers => STRANGERS,
-        RenewFault::Memory => MEMORY,
+        EndFault::Strangers => STRANGERS,
+        EndFault::Contended => CONTENDED,
+        EndFault::Memory => MEMORY,
     }
 }
 

@@ -1,18 +1,22 @@
 //! What C calls on the keys and buckets of a table of IPv6 flows: one try each.
-ghost use Rattle.std.specs.Prelude.{◌≢◌};
-ghost use Rattle.bihash_words.specs.Sizes.{sizes_of};
+ghost use Rattle.std.specs.Prelude.{◌≡◌, ◌≢◌};
+ghost use Rattle.bihash_words.specs.Sizes.{bucket_of, sizes_of};
 ghost use Rattle.bihash_words.specs.Patches.{free_mark, set_if_absent, set_if_present};
 ghost use Rattle.bihash_words.specs.declared.patch.Change.TheVariants.{Remove, Set};
 ghost use Rattle.bihash_c.specs.Contents.{ExpireTold, RecycleTold, SearchTold, UpdateTold};
 ghost use Rattle.bihash_c.specs.EitherSizes.{Calls, HasCaller};
 ghost use Rattle.bihash_c.specs.Expiries.{is_below};
 ghost use Rattle.bihash_c.specs.Handles6.{content_in};
+ghost use Rattle.bihash_c.specs.Replacements.{set_if_is};
 
 use crate::answer_numbers::Answer;
 use crate::handle6::Handle6;
 use crate::mask_expiry::MaskExpiry;
-use bihash_words::{Add, AddIfAbsent, Delete, Patch, Shape, ShapeV6, Touch};
-use large_shapes::LargeV6;
+use crate::replace_if::ReplaceIf;
+use bihash_words::{
+    Add, AddIfAbsent, Delete, Patch, Shape, ShapeV6, Touch, bucket_of, flow_shapes_are_sound,
+};
+use large_shapes::{LargeV6, large_shapes_are_sound};
 use std::alloc::Global;
 
 /// The value of the key.
@@ -80,6 +84,24 @@ pub extern "C" fn bihash6_touch(
     update(alloc, handle, key, &Touch { value })
 }
 
+/// Sets the value where there is still the one that was found before.
+#[unsafe(no_mangle)]
+pub extern "C" fn bihash6_replace_if(
+    alloc: Global,
+    handle: &mut Handle6,
+    key: &[u64; 5],
+    was: u64,
+    value: u64,
+) -> Answer
+    requires full { HasCaller (content_in handle.old.place) }
+    requires storable { value ≢ free_mark }
+    ensures { Calls (content_in handle.old.place) (content_in handle.new.place)
+        (UpdateTold ⟦<ShapeV6 as Shape>⟧ key.now (set_if_is was value) result)
+        (UpdateTold ⟦<LargeV6 as Shape>⟧ key.now (set_if_is was value) result) }
+{
+    update(alloc, handle, key, &ReplaceIf { was, value })
+}
+
 /// Removes the value.
 #[unsafe(no_mangle)]
 pub extern "C" fn bihash6_remove(alloc: Global, handle: &mut Handle6, key: &[u64; 5]) -> Answer
@@ -125,6 +147,24 @@ pub extern "C" fn bihash6_add_if_absent_or_recycle(
         (RecycleTold ⟦<LargeV6 as Shape>⟧ key.now (set_if_absent value) (is_below expiry.now.mask expiry.now.least) result) }
 {
     recycle(alloc, handle, key, &AddIfAbsent { value }, expiry)
+}
+
+/// The bucket of a key in a small table.
+#[unsafe(no_mangle)]
+pub extern "C" fn bihash6_bucket_of(key: &[u64; 5]) -> u64
+    ensures { result ≡ bucket_of (sizes_of ⟦<ShapeV6 as Shape>⟧) key.now }
+{
+    flow_shapes_are_sound();
+    bucket_of::<ShapeV6>(key)
+}
+
+/// The bucket of a key in a large table.
+#[unsafe(no_mangle)]
+pub extern "C" fn bihash6_bucket_of_large(key: &[u64; 5]) -> u64
+    ensures { result ≡ bucket_of (sizes_of ⟦<LargeV6 as Shape>⟧) key.now }
+{
+    large_shapes_are_sound();
+    bucket_of::<LargeV6>(key)
 }
 
 /// Looks at a bucket, and takes away one pair there whose value is expired.

@@ -2,11 +2,11 @@
 ghost use Rattle.std.specs.Prelude.{◌≡◌, IfOk, IfErr, IfSome};
 ghost use Rattle.bihash_words.specs.Sizes.{sizes_of, IsSound};
 ghost use Rattle.bihash_steps.specs.CallerCalls.{AreInformed, IsJoined};
-ghost use Rattle.bihash_steps.specs.Steps.{IsRefused};
-ghost use Rattle.bihash_steps.specs.Seats.{stamp_of, with_view};
+ghost use Rattle.bihash_steps.specs.Seats.{stamp_of};
+ghost use Rattle.bihash_rule.specs.Callers.{IsLawfulCaller};
 ghost use Rattle.bihash_rule.specs.Views.{first_view};
 ghost use Rattle.bihash_table.specs.Calls.{TellsLone};
-ghost use Rattle.bihash_c.specs.CallersWithTable.{IsSplit};
+ghost use Rattle.bihash_c.specs.CallersWithTable.{IsSplit, IsSplitRefused};
 
 use crate::caller_with_table::CallerWithTable;
 use crate::table_share::TableShare;
@@ -19,6 +19,7 @@ impl<S: Shape> CallerWithTable<S> {
     pub fn first_caller(alloc: Global) -> Option<CallerWithTable<S>>
         requires sound { IsSound (sizes_of S.Shape) }
         ensures first { IfSome result (λ m. m.view ≡ first_view (sizes_of S.Shape)) }
+        ensures lawful { IfSome result (λ m. IsLawfulCaller (sizes_of S.Shape) m.view) }
     {
         let Ok((sessions, caller)) = create::<S>(alloc) else {
             return None;
@@ -35,8 +36,7 @@ impl<S: Shape> CallerWithTable<S> {
         alloc: Global,
     ) -> Result<(CallerWithTable<S>, CallerWithTable<S>), (SplitFault, CallerWithTable<S>)>
         ensures split { IfOk result (λ r. IsSplit (sizes_of S.Shape) self r.0 r.1) }
-        ensures refused { IfErr result (λ r. (r.1 ≡ with_view self r.1.view)
-            × IsRefused (sizes_of S.Shape) self.view r.0 r.1.view) }
+        ensures refused { IfErr result (λ r. IsSplitRefused (sizes_of S.Shape) r.0 self r.1) }
     {
         let CallerWithTable { share, caller } = self;
         let (share, other) = match share.divide(alloc) {

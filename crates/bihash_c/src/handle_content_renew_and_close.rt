@@ -1,8 +1,13 @@
 //! The ends of a table that is behind a handle: it is closed, whose pairs are there then, or renewed.
+ghost use Rattle.std.specs.Prelude.{◌≡◌};
 ghost use Rattle.bihash_words.specs.Sizes.{sizes_of};
+ghost use Rattle.bihash_c.specs.Answers.{end_number};
 ghost use Rattle.bihash_c.specs.Contents.{CloseTold, CountTold, HasCaller, HasPairs, PairTold, RenewTold};
+ghost use Rattle.bihash_c.specs.declared.handle_content.Content.TheVariants.{Caller};
 
-use crate::answer_numbers::{DONE, close_refusal, renew_refusal};
+use crate::answer_numbers::{DONE, end_refusal};
+use crate::caller_with_table::CallerWithTable;
+use crate::end_fault::EndFault;
 use crate::handle_content::Content;
 use bihash_words::Shape;
 use std::alloc::Global;
@@ -22,10 +27,7 @@ impl<S: Shape> Content<S> {
                 *self = Content::Pairs(pairs);
                 DONE
             }
-            Err((fault, caller)) => {
-                *self = Content::Caller(caller);
-                close_refusal(fault)
-            }
+            Err(refused) => self.stay(refused),
         }
     }
 
@@ -42,11 +44,18 @@ impl<S: Shape> Content<S> {
                 *self = Content::Caller(caller);
                 DONE
             }
-            Err((fault, caller)) => {
-                *self = Content::Caller(caller);
-                renew_refusal(fault)
-            }
+            Err(refused) => self.stay(refused),
         }
+    }
+
+    // The caller of a table that did not end is there again, and why is told.
+    fn stay(&mut self, refused: (EndFault, CallerWithTable<S>)) -> u32
+        ensures there { self.new ≡ Caller refused.1 }
+        ensures told { result ≡ end_number refused.0 }
+    {
+        let (fault, caller) = refused;
+        *self = Content::Caller(caller);
+        end_refusal(fault)
     }
 
     /// How many pairs of the closed table are there.

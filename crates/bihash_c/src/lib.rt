@@ -17,6 +17,8 @@ mod either_size;
 mod either_size_callers;
 mod either_size_keys;
 mod either_size_renew_and_close;
+mod end_fault;
+mod end_of_table;
 mod handle4;
 mod handle4_place;
 mod handle6;
@@ -29,6 +31,7 @@ mod handles_are_send;
 mod mask_expiry;
 mod pair4;
 mod pair6;
+mod replace_if;
 mod table_share;
 
 pub use answer_numbers::{

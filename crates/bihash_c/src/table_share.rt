@@ -1,6 +1,6 @@
 //! A caller's share of its table: its own, or one that other callers have too.
 ghost use Rattle.std.specs.Prelude.{◌≡◌, IfOk, IfErr};
-ghost use Rattle.bihash_c.specs.TableShares.{row_of};
+ghost use Rattle.bihash_c.specs.TableShares.{IsShared, row_of};
 
 use bihash_table::Sessions;
 use bihash_words::Shape;
@@ -46,10 +46,10 @@ impl<S: Shape> TableShare<S> {
         }
     }
 
-    /// The table, where no other caller has a share of it.
+    /// The table, where no other caller has a share of it. A share of its own never comes back.
     pub fn into_own(self) -> Result<Sessions<S>, TableShare<S>>
         ensures own { IfOk result (λ r. r.row ≡ row_of self) }
-        ensures back { IfErr result (λ r. row_of r ≡ row_of self) }
+        ensures back { IfErr result (λ r. IsShared r × (r ≡ self)) }
     {
         match self {
             TableShare::Own(sessions) => Ok(sessions),

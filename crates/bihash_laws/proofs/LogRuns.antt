@@ -88,6 +88,8 @@ module _ (z : Sizes) where
       same m.0 m'.0 _ (ap (λ (q : ViewOfSeat). q.0) (t log2 count n may is held)) refl refl
   seat_keeps m m' (LogRuns.returns_block at number log2 count n h may is next held block t) =
       same m.0 m'.0 _ (ap (λ (q : ViewOfSeat). q.0) (t log2 count n h may is next held block)) refl refl
+  seat_keeps m m' (LogRuns.cuts_block at number log2 count n h may is next held block t) =
+      same m.0 m'.0 _ (ap (λ (q : ViewOfSeat). q.0) (t log2 count n h may is next held block)) refl refl
   seat_keeps m m' (LogRuns.counts_callers found t) = same m.0 m'.0 _ (ap (λ (q : ViewOfSeat). q.0) t.seat) refl refl
   seat_keeps m m' (LogRuns.tries_number count found t) = dite (ℕ_discrete found count)
       (λ e. subst (Keeps m.0) (sym (t.taken e)) record {

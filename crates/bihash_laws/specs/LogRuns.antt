@@ -7,7 +7,7 @@ use Rattle.bihash_rule.specs.Words.{list_at, returned_count_at}
 use Rattle.bihash_rule.specs.WordRule.{WordRule}
 use Rattle.bihash_steps.specs.Steps.{TellsAgreement, TellsCount, TellsNumber, ViewOfSeat, first_numbers, joining, other_numbers, view_after_spending}
 use Rattle.bihash_steps.specs.BucketSteps.{TellsBucket, TellsEntry, TellsEvent, TellsLock, TellsLockedWord, TellsOpenWord, TellsStored, TellsValid, view_after_answer, view_after_write, without_lock}
-use Rattle.bihash_steps.specs.StoreSteps.{MayList, MayReturn, MayTakeReturned, MayTakeUnused, TellsListed, TellsPoolWord, TellsReturned, TellsStoreLock, TellsStoreOpened, TellsTakenReturned, TellsTakenUnused, holding, stored_at, view_after_replace}
+use Rattle.bihash_steps.specs.StoreSteps.{MayCut, MayList, MayReturn, MayTakeReturned, MayTakeUnused, TellsCut, TellsListed, TellsPoolWord, TellsReturned, TellsStoreLock, TellsStoreOpened, TellsTakenReturned, TellsTakenUnused, holding, stored_at, view_after_replace}
 use Rattle.bihash_steps.specs.Renewals.{TellsRowWord}
 use Rattle.bihash_laws.specs.LogLaws.{RowState}
 use Rattle.bihash_rule.specs.declared.view.Call.{Call}
@@ -37,11 +37,14 @@ pub data IsSeatStep (z : Sizes) (m m' : ViewOfSeat) : Type 0 where
       → m.0.holds.store ≡ Some n → TellsTakenUnused z mark m m' → IsSeatStep z m m'
   stores_held : (k word : ℕ) (h : HeldBlock) → m' ≡ (holding m.0 m.0.holds.store (Some (stored_at h k word)), m.1)
       → IsSeatStep z m m'
-  lists_block : (at page log2 count : ℕ) (n : LockedStore) → MayList z m.0 log2 count page → at ≡ list_at z log2 + count
+  lists_block : (at page log2 count : ℕ) (n : LockedStore) → MayList z m.0 log2 count → at ≡ list_at z log2 + count
       → m.0.holds.store ≡ Some n → TellsListed z at page m m' → IsSeatStep z m m'
   returns_block : (at number log2 count : ℕ) (n : LockedStore) (h : HeldBlock) → MayReturn z m.0 log2 count
       → at ≡ returned_count_at log2 → number ≡ count + 1 → m.0.holds.store ≡ Some n → m.0.holds.block ≡ Some h
       → TellsReturned z at number m m' → IsSeatStep z m m'
+  cuts_block : (at number log2 count : ℕ) (n : LockedStore) (h : HeldBlock) → MayCut z m.0 log2 count
+      → at ≡ returned_count_at log2 → number ≡ count + 1 → m.0.holds.store ≡ Some n → m.0.holds.block ≡ Some h
+      → TellsCut z at number m m' → IsSeatStep z m m'
   counts_callers : (found : ℕ) → TellsCount z m found m' → IsSeatStep z m m'
   tries_number : (count found : ℕ) → TellsNumber z count m found m' → IsSeatStep z m m'
   learns_agreement : TellsAgreement z m m' → IsSeatStep z m m'

@@ -1,5 +1,5 @@
 -- What a call with an expiry removes of the map of its bucket.
-use Rattle.std.specs.Prelude.{◌≡◌, ◌≢◌, ◌<◌, ◌+◌, ◌^◌, ℕ, Bool, true, List, length, Some, None}
+use Rattle.std.specs.Prelude.{◌≡◌, ◌≢◌, ◌+◌, ℕ, Bool, true, List, length, Some, None}
 use Rattle.std.specs.Ordering.{nat_cmp}
 use Rattle.std.specs.declared.cmp.Ordering.TheVariants.{Greater}
 use Rattle.std.specs.Cmp.Lexicographic.{slice_cmp}
@@ -11,12 +11,12 @@ use Rattle.bihash_words.specs.declared.patch.Reply.TheVariants.{Changed}
 use Rattle.bihash_rule.specs.Histories.{after}
 use Rattle.bihash_rule.specs.declared.view.Write.{Write}
 
--- the key has an expired value in this map, and no key with an expired word as value is less
+-- the key has an expired value in this map, and no key with an expired value is less
 pub record IsLeastExpired (is_expired : ℕ → Bool) (m : Pairs) (gone : List ℕ) : Type 0 where
   pub value : ℕ
   pub stands : get m gone ≡ Some value
   pub expired : is_expired value ≡ true
-  pub least : (key : List ℕ) (other : ℕ) → get m key ≡ Some other → other < 2 ^ 64 → is_expired other ≡ true
+  pub least : (key : List ℕ) (other : ℕ) → get m key ≡ Some other → is_expired other ≡ true
       → slice_cmp nat_cmp gone key ≢ Greater
 
 -- The last write of this history changed a new key, and removed for it, of the map before, just the least expired key.

@@ -160,7 +160,7 @@ pub fn lone_callers_know_all()
 pub fn only_the_least_expired_pair_goes()
     ensures full { (z : Sizes) (b : ℕ) (v w : View) (key : List ℕ) (found : Option ℕ) (change : Change) (is_expired : ℕ → Bool)
         (removed : Option (List ℕ)) → IsLawfulAnswer z b v w (recycled_update key found change is_expired removed Full)
-        → (other : List ℕ) (value : ℕ) → get (map_now w b) other ≡ Some value → value < 2 ^ 64 → is_expired value ≡ false }
+        → (other : List ℕ) (value : ℕ) → get (map_now w b) other ≡ Some value → is_expired value ≡ false }
     ensures gone { (z : Sizes) (b : ℕ) (v w : View) (key : List ℕ) (found : Option ℕ) (change : Change) (is_expired : ℕ → Bool)
         (gone : List ℕ) (reply : Reply) → IsLawfulAnswer z b v w (recycled_update key found change is_expired (Some gone) reply)
         → HasRecycled (opening_at w.known b) (known_at w.known b) key change is_expired gone reply }

@@ -1,11 +1,11 @@
 -- The writes of a bucket in their order, and when an answered call is legal on them.
-use Rattle.std.specs.Prelude.{◌≡◌, ℕ, ◌+◌, ◌≤◌, ◌++◌, Bool, true, false, List, [], ◌∷◌, length, slice_index_or, Option, Some, None}
+use Rattle.std.specs.Prelude.{◌≡◌, ℕ, ◌+◌, ◌<◌, ◌≤◌, ◌++◌, Bool, true, false, List, [], ◌∷◌, length, slice_index_or, Option, Some, None}
 use Rattle.std.proofs.Math.ListN.{take}
 use lib.ListN.{get_elem?}
 use mathlib.Core.Option.{some}
 use Rattle.std.specs.FinMap.{from_entries, get}
 use Rattle.bihash_words.specs.Maps.{Pairs, Bounds, Event, IsEvent, written}
-use Rattle.bihash_words.specs.Patches.{IsStorable}
+use Rattle.bihash_words.specs.Patches.{IsStorable, free_mark}
 use Rattle.bihash_words.specs.declared.patch.Reply.{Reply}
 use Rattle.bihash_words.specs.declared.patch.Reply.TheVariants.{Kept, Changed, Worn, Full, NoPages}
 use Rattle.bihash_words.specs.Sizes.{Sizes}
@@ -24,6 +24,11 @@ bounds_of z = record { limit = z.limit; max_log2 = z.max_log2 }
 pub record IsKeyOf (z : Sizes) (b : ℕ) (key : List ℕ) : Type 0 where
   pub long : length key ≡ z.key_words
   pub home : bucket_of z key ≡ b
+
+-- a pair that may stand in this bucket: its value is a word, and no mark of a free place
+pub record IsPairOf (z : Sizes) (b : ℕ) (key : List ℕ) (value : ℕ) : Type 0 where
+  pub home : IsKeyOf z b key
+  pub storable : value < free_mark
 
 -- the map with which bucket b of a row with these openings began
 abbrev pub opening_in : Openings → ℕ → Pairs
@@ -54,12 +59,12 @@ pub record IsWrite (z : Sizes) (b n : ℕ) (m : Pairs) (w : Write) : Type 0 wher
   pub storable : IsStorable w.change
   pub changes : IsEvent (bounds_of z) m n (event_of_write m w) (written m w.key w.change w.recycling)
 
--- a write list: at most `limit` writes, each of which changes the map that those before it left; the keys
+-- a write list: at most `limit` writes, each of which changes the map that those before it left; the pairs
 -- of the map that it starts from are the bucket's
 pub record IsWriteList (z : Sizes) (b : ℕ) (opening : Pairs) (H : List Write) : Type 0 where
   pub short : length H ≤ z.limit
   pub each : (n : ℕ) (w : Write) → get_elem? H n ≡ some w → IsWrite z b n (after opening H n) w
-  pub home : (key : List ℕ) (value : ℕ) → get opening key ≡ Some value → IsKeyOf z b key
+  pub home : (key : List ℕ) (value : ℕ) → get opening key ≡ Some value → IsPairOf z b key value
 
 -- xs is the beginning of ys
 pub record IsPrefix (xs ys : List Write) : Type 0 where

@@ -9,7 +9,7 @@ use Rattle.bihash_words.specs.Sizes.{Sizes, IsSound}
 use Rattle.bihash_rule.specs.Words.{buckets, all_words, count_of}
 use Rattle.bihash_rule.specs.Blocks.{no_block}
 use Rattle.bihash_rule.specs.Partition.{IsPartition}
-use Rattle.bihash_rule.specs.Histories.{IsKeyOf, IsWriteList}
+use Rattle.bihash_rule.specs.Histories.{IsPairOf, IsWriteList}
 use Rattle.bihash_rule.specs.Callers.{known_at, opening_in, IsLawfulCaller}
 use Rattle.bihash_rule.specs.Buckets.{BucketState, IsBucket}
 use Rattle.bihash_rule.specs.PageStores.{StoreState, IsStore, all_used, runs_now}
@@ -24,9 +24,9 @@ use Rattle.bihash_rule.specs.declared.view.Record.{Record}
 use Rattle.bihash_rule.specs.declared.view.View.{View}
 use Rattle.bihash_steps.proofs.Lists.{no_row}
 
--- the keys of the maps with which the buckets begin are the buckets' own
+-- the pairs of the maps with which the buckets begin may stand in the buckets
 abbrev pub AreHome : Sizes → Openings → Type 0
-AreHome z openings = (b : ℕ) (key : List ℕ) (value : ℕ) → b < buckets z → get (opening_in openings b) key ≡ Some value → IsKeyOf z b key
+AreHome z openings = (b : ℕ) (key : List ℕ) (value : ℕ) → b < buckets z → get (opening_in openings b) key ≡ Some value → IsPairOf z b key value
 
 module _ (z : Sizes) (openings : Openings) where
   one_record : (i : ℕ) (r : Record) → get_elem? (opening_view z openings).records i ≡ some r → (i ≡ 0) × (empty_record 1 ≡ r)

@@ -1,7 +1,7 @@
 -- Blocks pass from owner to owner, and the pages stay parted among the owners.
-use Rattle.std.proofs.Common.{◌≡◌, ◌≢◌, ◌⊎◌, ℕ, zero, suc, ◌+◌, ◌-◌, ◌^◌, ◌<◌, ◌≤◌, refl, sym, ap, ◌∙◌, subst, inl, inr, List, [], ◌∷◌, ◌++◌, length, take, set, arith, get_or-set_same, get_or-set_other, Option, Some, None}
+use Rattle.std.proofs.Common.{◌≡◌, ◌≢◌, ◌⊎◌, ℕ, zero, suc, ◌+◌, ◌-◌, ◌*◌, ◌^◌, ◌<◌, ◌≤◌, refl, sym, ap, ◌∙◌, subst, inl, inr, List, [], ◌∷◌, ◌++◌, length, take, set, arith, pow-add, get_or-set_same, get_or-set_other, Option, Some, None}
 use mathlib.Core.Logic.{dite}
-use native.Mathlib.Decide.{ℕ_discrete, dec_le}
+use native.Mathlib.Decide.{ℕ_discrete, dec_le, dec_lt}
 use mathlib.Core.Option.{none, some}
 use lib.ListN.{get_elem?}
 use Rattle.std.specs.Prelude.{slice_index}
@@ -254,6 +254,114 @@ module _ (pages used : ℕ) (x x' : ℕ → BucketState) (store store' : PageSto
       few = left;
     }
 
+  -- the second half of the block of a seat passes after the last of the list of its size
+  module _ (log2 page : ℕ) (extents : (c : ℕ) → (x' c).extent ≡ (x c).extent)
+      (last : returned_in store' log2 ≡ returned_in store log2 ++ (page + 2 ^ log2) ∷ [])
+      (elsewhere : (m : ℕ) → m ≢ log2 → returned_in store' m ≡ returned_in store m)
+      (held : run_in v.holds.block ≡ Some (record { page = page; log2 = log2 + 1 }))
+      (kept : run_in w.holds.block ≡ Some (record { page = page; log2 = log2 })) (p : IsPartition pages used has) where
+    abbrev whole : PageRun
+    whole = record { page = page; log2 = log2 + 1 }
+
+    abbrev first : PageRun
+    first = record { page = page; log2 = log2 }
+
+    abbrev second : PageRun
+    second = record { page = page + 2 ^ log2; log2 = log2 }
+
+    abbrev listed : Owner
+    listed = returned_at log2 (length (returned_in store log2))
+
+    twice : 2 ^ (log2 + 1) ≡ 2 ^ log2 + 2 ^ log2
+    twice = let d : ℕ = 2 ^ log2 in let e : 2 ^ (log2 + 1) ≡ d * 2 = pow-add 2 log2 1 in omega arith
+
+    had_whole : has (held_by id) ≡ Some whole
+    had_whole = had ∙ held
+
+    has_first : has' (held_by id) ≡ Some first
+    has_first = gets ∙ kept
+
+    had_none : has listed ≡ None
+    had_none = ap (run_at log2) (beyond (returned_in store log2))
+
+    has_second : has' listed ≡ Some second
+    has_second = ap (λ (ys : List ℕ). run_at log2 (get_elem? ys (length (returned_in store log2)))) last
+        ∙ ap (run_at log2) (at_last (returned_in store log2) (page + 2 ^ log2) (length (returned_in store log2)) refl)
+
+    others : (o : Owner) → o ≢ listed → o ≢ held_by id → has' o ≡ has o
+    others (of_bucket c) n m = ap (λ (e : Extent). run_of e.page e.size.log2) (extents c)
+    others (returned_at l i) n m = ap (run_at l) (before (returned_in store) (returned_in store') log2 (page + 2 ^ log2) last elsewhere l i n)
+    others never_used n m = refl
+    others (held_by j) n m = run_set_other views id j w (λ h. m (ap held_by h))
+
+    owner_cut : ℕ → Owner
+    owner_cut q = choose (dec_le (page + 2 ^ log2) q) (choose (dec_lt q ((page + 2 ^ log2) + 2 ^ log2)) listed (p.owner q)) (p.owner q)
+
+    in_second : (q : ℕ) → IsWithin second q → owner_cut q ≡ listed
+    unfolding owner_cut
+    in_second q h = go (dec_le (page + 2 ^ log2) q) (dec_lt q ((page + 2 ^ log2) + 2 ^ log2))
+      where
+        go : (d : Dec (page + 2 ^ log2 ≤ q)) (e : Dec (q < (page + 2 ^ log2) + 2 ^ log2)) → choose d (choose e listed (p.owner q)) (p.owner q) ≡ listed
+        go (yes _) (yes _) = refl
+        go (yes _) (no n) = absurd (n h.1)
+        go (no n) e = absurd (n h.0)
+
+    beside_second : (q : ℕ) → (IsWithin second q → ⊥) → owner_cut q ≡ p.owner q
+    unfolding owner_cut
+    beside_second q not = go (dec_le (page + 2 ^ log2) q) (dec_lt q ((page + 2 ^ log2) + 2 ^ log2))
+      where
+        go : (d : Dec (page + 2 ^ log2 ≤ q)) (e : Dec (q < (page + 2 ^ log2) + 2 ^ log2)) → choose d (choose e listed (p.owner q)) (p.owner q) ≡ p.owner q
+        go (yes l) (yes h) = absurd (not (l, h))
+        go (yes _) (no _) = refl
+        go (no _) e = refl
+
+    -- a page of the whole block was the seat's
+    was_held : (q : ℕ) → page ≤ q → q < (page + 2 ^ log2) + 2 ^ log2 → p.owner q ≡ held_by id
+    was_held q l h = let e = twice in p.owned (held_by id) whole q had_whole (l, omega arith)
+
+    covered_cut : (q : ℕ) → 1 ≤ q → q ≤ used → (IsWithin second q → ⊥) → (run : PageRun) × (has' (owner_cut q) ≡ Some run) × IsWithin run q
+    covered_cut q l h not = let c = p.covered q l h in dite (same_owner (p.owner q) (held_by id))
+        (λ is. let run : whole ≡ c.0 = (let e : Some whole ≡ Some c.0 = sym had_whole ∙ (ap has (sym is) ∙ c.1) in cc) in
+        let within : IsWithin whole q = subst (λ (k : PageRun). IsWithin k q) (sym run) c.2 in
+        let low : page ≤ q = within.0 in let high = within.1 in let e = twice in (
+          first,
+          ap has' (beside_second q not ∙ is) ∙ has_first,
+          (low, dite (dec_lt q (page + 2 ^ log2)) (λ k. k) (λ n. absurd (not (omega arith, omega arith)))),
+        ))
+        (λ ne. (
+          c.0,
+          ap has' (beside_second q not) ∙ (others (p.owner q) (λ is.
+              let e : None ≡ Some c.0 = sym had_none ∙ (ap has (sym is) ∙ c.1) in cc) ne ∙ c.1),
+          c.2,
+        ))
+
+    pub cuts_held : IsPartition pages used has'
+    cuts_held = let all = p.inside (held_by id) whole had_whole in let some = all.0 in let near = all.1 in let e2 = twice in record {
+      owner = owner_cut;
+      no_run = refl;
+      inside = either listed (held_by id) (λ o. (run : PageRun) → has' o ≡ Some run → (1 ≤ run.page) × (run.page + 2 ^ run.log2 ≤ used + 1))
+          (λ run e. let is : second ≡ run = (let f : Some second ≡ Some run = sym has_second ∙ e in cc) in
+          subst (λ (k : PageRun). (1 ≤ k.page) × (k.page + 2 ^ k.log2 ≤ used + 1)) is (omega arith, omega arith))
+          (λ run e. let is : first ≡ run = (let f : Some first ≡ Some run = sym has_first ∙ e in cc) in
+          subst (λ (k : PageRun). (1 ≤ k.page) × (k.page + 2 ^ k.log2 ≤ used + 1)) is (omega arith, omega arith))
+          (λ o n m run e. p.inside o run (sym (others o n m) ∙ e));
+      owned = either listed (held_by id) (λ o. (run : PageRun) (q : ℕ) → has' o ≡ Some run → IsWithin run q → owner_cut q ≡ o)
+          (λ run q e at. let is : second ≡ run = (let f : Some second ≡ Some run = sym has_second ∙ e in cc) in
+          in_second q (subst (λ (k : PageRun). IsWithin k q) (sym is) at))
+          (λ run q e at. let is : first ≡ run = (let f : Some first ≡ Some run = sym has_first ∙ e in cc) in
+          let within : IsWithin first q = subst (λ (k : PageRun). IsWithin k q) (sym is) at in
+          let low = within.0 in let high = within.1 in
+          beside_second q (λ k. let l = k.0 in omega arith) ∙ was_held q low (omega arith))
+          (λ o n m run q e at. let mine = p.owned o run q (sym (others o n m) ∙ e) at in
+          beside_second q (λ k. let l = k.0 in m (sym mine ∙ was_held q (omega arith) k.1)) ∙ mine);
+      covered = λ q l h. dite (dec_le (page + 2 ^ log2) q)
+          (λ a. dite (dec_lt q ((page + 2 ^ log2) + 2 ^ log2)) (λ b. (second, ap has' (in_second q (a, b)) ∙ has_second, (a, b)))
+          (λ n. covered_cut q l h (λ k. n k.1)))
+          (λ n. covered_cut q l h (λ k. n k.0));
+      above = λ q l. beside_second q (λ k. let h = k.1 in omega arith) ∙ p.above q l;
+      few = p.few;
+    }
+
 -- ---- The page store hands out blocks and takes them back
 
 -- a list is its beginning and its last
@@ -302,6 +410,16 @@ module _ (pages : ℕ) (x : ℕ → BucketState) (store : PageStore) (views : Li
       gives_back pages store.used x x store (relisted store log2 page) views id v w at log2 page (λ c. refl)
       (get_or-set_same store.returned log2 longer [] small) (λ m ne. get_or-set_other store.returned log2 m longer [] ne)
       (held ∙ run_some page log2 some_page) given parted
+
+  -- the second half of a block is given back
+  pub parted_cut : (log2 page : ℕ) → log2 < length store.returned → 1 ≤ page
+      → run_in v.holds.block ≡ run_of page (log2 + 1) → run_in w.holds.block ≡ run_of page log2
+      → IsPartition pages store.used (runs_now x (relisted store log2 (page + 2 ^ log2)) (set views id w))
+  parted_cut log2 page small some_page held kept =
+      let longer : List ℕ = returned_in store log2 ++ (page + 2 ^ log2) ∷ [] in
+      cuts_held pages store.used x x store (relisted store log2 (page + 2 ^ log2)) views id v w at log2 page (λ c. refl)
+      (get_or-set_same store.returned log2 longer [] small) (λ m ne. get_or-set_other store.returned log2 m longer [] ne)
+      (held ∙ run_some page (log2 + 1) some_page) (kept ∙ run_some page log2 some_page) parted
 
   -- the next pages that were never used are taken
   pub parted_grown : (log2 : ℕ) → store.used + 2 ^ log2 ≤ pages → run_in v.holds.block ≡ None

@@ -31,7 +31,7 @@ use Rattle.bihash_rule.specs.declared.view.Write.{Write}
 use Rattle.bihash_steps.proofs.Beginnings.{AreHome, Begins, no_writes, opening_lawful, starts_so}
 use Rattle.bihash_steps.proofs.CountWord.{not_lone}
 use Rattle.bihash_steps.proofs.Frames.{store_keeps}
-use Rattle.bihash_steps.proofs.Homes.{after_home}
+use Rattle.bihash_steps.proofs.Homes.{pairs_after}
 use Rattle.bihash_steps.proofs.OwnedWords.{runs_same}
 use Rattle.bihash_steps.proofs.WholeHistories.{whole_known}
 use Rattle.bihash_steps.proofs.bucket_steps.LoadBucket.{is_found, lone_finds_none}
@@ -128,7 +128,7 @@ module _ (z : Sizes) (v : View) (words : List ℕ) (row : AreRowWords z v words)
   used_is = ap used_mark_of (sym row.are) ∙ r.store.used
 
   home : AreHome z began
-  home b key value inside h = after_home z b (opening_in r.table.openings b) (x b).history key value (r.each_bucket b inside).writes
+  home b key value inside h = pairs_after z b (opening_in r.table.openings b) (x b).history (length (x b).history) key value (r.each_bucket b inside).writes
       (subst (λ (m : Pairs). get m key ≡ Some value) (opening_is b inside ∙ map_is b inside) h)
 
   -- no seat holds a block

@@ -7,3 +7,4 @@ pub mod PoolLock
 pub mod PoolLoad
 pub mod PoolReturn
 pub mod PoolTake
+pub mod PoolCut

@@ -79,11 +79,11 @@ word_in store Used = store.used
 word_in store (Count log2) = length (returned_in store log2)
 word_in store (Listed log2 i) = slice_index (returned_in store log2) i
 
--- a list has room for a block that is held and not in it
+-- a list has room for a block that is held and not in it, and for a half of one
 abbrev pub HasRoomFor : Sizes → Option HeldBlock → PoolWord → ℕ → Type 0
 HasRoomFor z None word n = Unit {0}
 HasRoomFor z (Some h) Used n = Unit {0}
-HasRoomFor z (Some h) (Count log2) n = h.log2 ≡ log2 → n < list_words z log2
+HasRoomFor z (Some h) (Count log2) n = log2 ≤ h.log2 → h.log2 ≤ log2 + 1 → n < list_words z log2
 HasRoomFor z (Some h) (Listed log2 i) n = Unit {0}
 
 -- the word at this address was loaded
@@ -163,14 +163,10 @@ stored_at h k word = record h { words = slice_set h.words k word }
 
 -- ---- A held block is given back
 
--- the page of the held block may be written after the last of its list
-pub record MayList (z : Sizes) (v : View) (log2 count page : ℕ) : Type 0 where
+-- a page may be written after the last of this list
+pub record MayList (z : Sizes) (v : View) (log2 count : ℕ) : Type 0 where
   pub locked : LockedStore
   pub store : v.holds.store ≡ Some locked
-  pub block : HeldBlock
-  pub held : v.holds.block ≡ Some block
-  pub same_page : block.page ≡ page
-  pub same_log2 : block.log2 ≡ log2
   pub small : log2 ≤ z.max_log2
   pub listed : length (returned_in locked.store log2) ≡ count
   pub room : count < list_words z log2
@@ -180,7 +176,7 @@ listing n log2 page = record n { listed = Some (record { log2 = log2; page = pag
 
 -- the page was stored at this address
 abbrev pub TellsListed : Sizes → ℕ → ℕ → ViewOfSeat → ViewOfSeat → Type 0
-TellsListed z at page m m' = (log2 count : ℕ) (n : LockedStore) → MayList z m.0 log2 count page
+TellsListed z at page m m' = (log2 count : ℕ) (n : LockedStore) → MayList z m.0 log2 count
     → at ≡ list_at z log2 + count → m.0.holds.store ≡ Some n
     → m' ≡ (holding m.0 (Some (listing n log2 page)) m.0.holds.block, m.1)
 
@@ -209,6 +205,35 @@ TellsReturned z at number m m' = (log2 count : ℕ) (n : LockedStore) (h : HeldB
     → MayReturn z m.0 log2 count → at ≡ returned_count_at log2 → number ≡ count + 1
     → m.0.holds.store ≡ Some n → m.0.holds.block ≡ Some h
     → m' ≡ (holding m.0 (Some (record { store = relisted n.store log2 h.page; listed = None })) None, m.1)
+
+-- ---- A held block is cut in two
+
+-- the first half of a block, of this log2, with the words that stand in it
+abbrev pub first_half : Sizes → HeldBlock → ℕ → HeldBlock
+first_half z h log2 = record { page = h.page; log2 = log2; words = take (2 ^ log2 * page_words z) h.words }
+
+-- the list of half the size may count the second half of the held block
+pub record MayCut (z : Sizes) (v : View) (log2 count : ℕ) : Type 0 where
+  pub locked : LockedStore
+  pub store : v.holds.store ≡ Some locked
+  pub block : HeldBlock
+  pub held : v.holds.block ≡ Some block
+  pub twice : block.log2 ≡ log2 + 1
+  pub small : log2 ≤ z.max_log2
+  pub page : locked.listed ≡ Some (record { log2 = log2; page = block.page + 2 ^ log2 })
+  pub listed : length (returned_in locked.store log2) ≡ count
+  pub room : count < list_words z log2
+
+-- the second half of the block was returned, and the first is held
+abbrev pub halved : Sizes → View → LockedStore → HeldBlock → ℕ → View
+halved z v n h log2 = holding v (Some (record { store = relisted n.store log2 (h.page + 2 ^ log2); listed = None }))
+    (Some (first_half z h log2))
+
+-- this number was stored where the count of a list stands
+abbrev pub TellsCut : Sizes → ℕ → ℕ → ViewOfSeat → ViewOfSeat → Type 0
+TellsCut z at number m m' = (log2 count : ℕ) (n : LockedStore) (h : HeldBlock) → MayCut z m.0 log2 count
+    → at ≡ returned_count_at log2 → number ≡ count + 1 → m.0.holds.store ≡ Some n → m.0.holds.block ≡ Some h
+    → m' ≡ (halved z m.0 n h log2, m.1)
 
 -- ---- The store that gives a bucket another block
 

@@ -3,6 +3,7 @@
 
 mod create_fault;
 mod event;
+mod loads_ahead;
 mod new_row;
 mod renewed_row;
 mod row_and_callers;

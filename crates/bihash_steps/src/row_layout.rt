@@ -59,7 +59,7 @@ fn bucket_place<S: Shape>(bucket: usize) -> usize
 
 /// How many words of a row stand before the page words.
 #[inline(always)]
-fn pages_front<S: Shape>() -> usize
+pub(crate) fn pages_front<S: Shape>() -> usize
     requires sound { IsSound (sizes_of S.Shape) }
     ensures words { result ≡ Words.front_words (sizes_of S.Shape) + buckets (sizes_of S.Shape) }
     ensures few { result < 2 ^ 31 }

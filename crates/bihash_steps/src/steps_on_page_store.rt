@@ -3,7 +3,7 @@ ghost use Rattle.std.specs.Prelude.{◌≡◌, ◌+◌, Some, None, slice_index}
 ghost use Rattle.bihash_words.specs.Sizes.{sizes_of};
 ghost use Rattle.bihash_rule.specs.PageStores.{returned_in};
 ghost use Rattle.bihash_steps.specs.StoreCalls.{ReadsStore, TriesStoreLock};
-ghost use Rattle.bihash_steps.specs.StoreSteps.{holding, store_opened, IsInStore, unlisted, grown, TakesBlock, MayTakeReturned, MayTakeUnused, IsHeldWord, stored_at, MayList, listing, MayReturn, relisted, MayOpenStore};
+ghost use Rattle.bihash_steps.specs.StoreSteps.{holding, store_opened, IsInStore, unlisted, grown, TakesBlock, MayTakeReturned, MayTakeUnused, IsHeldWord, stored_at, MayList, listing, MayReturn, relisted, MayCut, halved, MayOpenStore};
 ghost use Rattle.bihash_rule.specs.declared.view.LockedStore.{LockedStore};
 ghost use Rattle.bihash_rule.specs.declared.view.HeldBlock.{HeldBlock};
 ghost use Rattle.bihash_steps.specs.Seats.{with_view};
@@ -16,7 +16,7 @@ mod page_store_step_kinds;
 mod word;
 
 use page_store_step_kinds::{
-    HeldStores, Lists, PoolLocks, PoolOpens, PoolWords, Returns, TakesReturned, TakesUnused,
+    Cuts, HeldStores, Lists, PoolLocks, PoolOpens, PoolWords, Returns, TakesReturned, TakesUnused,
 };
 pub use word::PoolWord;
 
@@ -79,10 +79,10 @@ impl<S: Shape> Row<S> {
         shared.store::<HeldStores<S>>(&mut caller.seat, self.page_at(page, k), word);
     }
 
-    /// Writes the page of the block that the caller holds after the `count` returned blocks of its log2.
+    /// Writes the page of a block that is to be returned after the `count` returned blocks of this log2.
     pub fn pool_list(&self, caller: &mut CallerSeat<S>, log2: u64, count: u64, page: u64)
         requires own { caller.old.row ≡ self.now }
-        requires may { MayList (sizes_of S.Shape) caller.old.view log2 count page }
+        requires may { MayList (sizes_of S.Shape) caller.old.view log2 count }
         ensures { (n : LockedStore) → caller.old.view.holds.store ≡ Some n → caller.new ≡ with_view caller.old
             (holding caller.old.view (Some (listing n log2 page)) caller.old.view.holds.block) }
     {
@@ -101,6 +101,19 @@ impl<S: Shape> Row<S> {
     {
         let shared = &self.table.shared;
         shared.store::<Returns<S>>(&mut caller.seat, self.returned_count_at(log2), count + 1);
+    }
+
+    /// Cuts the block of `2^(log2 + 1)` pages that the caller holds: gives back its second half, whose page follows the
+    /// `count` returned blocks of that size. The caller holds the first half.
+    pub fn pool_cut(&self, caller: &mut CallerSeat<S>, log2: u64, count: u64)
+        requires own { caller.old.row ≡ self.now }
+        requires may { MayCut (sizes_of S.Shape) caller.old.view log2 count }
+        ensures { (n : LockedStore) (h : HeldBlock) → caller.old.view.holds.store ≡ Some n
+            → caller.old.view.holds.block ≡ Some h
+            → caller.new ≡ with_view caller.old (halved (sizes_of S.Shape) caller.old.view n h log2) }
+    {
+        let shared = &self.table.shared;
+        shared.store::<Cuts<S>>(&mut caller.seat, self.returned_count_at(log2), count + 1);
     }
 
     /// Opens the allocation lock, once the block that a growth replaced has been given back. What stood in the page store

@@ -1,5 +1,5 @@
 -- A bucket that is given another block, or none, under both locks.
-use Rattle.std.proofs.Common.{◌≡◌, ◌≢◌, ◌∙◌, ◌<◌, ◌≤◌, ◌+◌, ◌^◌, ◌++◌, ℕ, false, List, [], ◌∷◌, Option, Some, None, ap, arith, length, refl, subst, sym, ⊎_elim}
+use Rattle.std.proofs.Common.{◌≡◌, ◌≢◌, ◌∙◌, ◌<◌, ◌≤◌, ◌+◌, ◌^◌, ◌++◌, ℕ, Bool, false, List, [], ◌∷◌, Option, Some, None, ap, arith, length, refl, subst, sym, ⊎_elim}
 use Rattle.std.specs.FinMap.{get, insert, len, remove}
 use Rattle.bihash_words.specs.Maps.{Event, Pairs, most_pairs}
 use Rattle.bihash_words.specs.Patches.{free_mark}
@@ -26,7 +26,8 @@ use Rattle.bihash_rule.specs.declared.view.LockedStore.{LockedStore}
 use Rattle.bihash_rule.specs.declared.view.PageStore.{PageStore}
 use Rattle.bihash_rule.specs.declared.view.View.{View}
 use Rattle.bihash_table.specs.Promise.{IsEntered}
-use Rattle.bihash_table.specs.inner.Copying.{HasBlock, HasStore, LacksPages, TakesPages, with_words}
+use Rattle.bihash_table.specs.inner.Copying.{HasBlock, HasStore, with_words}
+use Rattle.bihash_table.specs.inner.Taking.{LacksPages, TakesPages}
 use Rattle.bihash_table.specs.inner.Locked.{HasLock}
 use Rattle.bihash_rule.specs.Places.{ArePlaces}
 use Rattle.bihash_words.proofs.MapValues.{get_left, get_removed, same_or_other}
@@ -57,9 +58,9 @@ module _ {A K : Type 0} (g : Ghosts A K) (s t : CallerState) (same : t ≡ with_
   pub store_held : HasStore (sizes_of g) t.view (locked_on locks.store)
   store_held = has_store (sizes_of g) s.view t.view none locks
 
-  module _ (u : CallerState) (same_u : u ≡ with_view t u.view)
+  module _ {cuts : Bool} (u : CallerState) (same_u : u ≡ with_view t u.view)
       (takes : (n : LockedStore) → HasStore (sizes_of g) t.view n
-      → TakesPages (sizes_of g) t.view n.store page log2 u.view) where
+      → TakesPages (sizes_of g) cuts t.view n.store page log2 u.view) where
     taken : (left : PageStore) × TakesBlock (sizes_of g) t.view left page log2 u.view
     taken = taken_block (sizes_of g) t.view locks.store page log2 u.view (takes (locked_on locks.store) store_held)
 
@@ -95,7 +96,7 @@ module _ (z : Sizes) (v : View) (b word : ℕ) (l : LockedBucket) (key : List �
     (home : IsKeyOf z b key) (unworn : length (known_at v.known b) < z.limit) where
   -- the larger block may be published
   pub may_enter : (value : ℕ) (n : LockedStore) (page : ℕ) (size : BlockSize) (words : List ℕ)
-      → value ≢ free_mark → len (map_now v b) < most_pairs (bounds_of z) → get (map_now v b) key ≡ None
+      → value < free_mark → len (map_now v b) < most_pairs (bounds_of z) → get (map_now v b) key ≡ None
       → page + 2 ^ size.log2 ≤ z.pages + 1 → IsBlockOf z (extent_of page size) words (insert (map_now v b) key value)
       → (u : View) → u ≡ holding v (Some n) (Some (block_of page size.log2 words))
       → MayReplace z u b word (extent_of page size) (call_of u b 1 (event key None (Set value) (Changed None)))

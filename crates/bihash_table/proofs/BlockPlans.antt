@@ -23,7 +23,7 @@ use Rattle.bihash_rule.specs.declared.view.Extent.{Extent}
 use Rattle.bihash_steps.specs.BucketSteps.{map_now}
 use Rattle.bihash_rule.specs.declared.view.PageStore.{PageStore}
 use Rattle.bihash_rule.specs.declared.view.View.{View}
-use Rattle.bihash_table.specs.inner.Copying.{LacksPages}
+use Rattle.bihash_table.specs.inner.Taking.{LacksPages}
 use Rattle.bihash_rule.specs.Places.{ArePlaces, IsCrowdedFor}
 use Rattle.bihash_plan.specs.Wants.{IsPlanned}
 use Rattle.bihash_table.specs.OutOfPages.{IsOutOfPages}

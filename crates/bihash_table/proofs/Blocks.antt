@@ -15,6 +15,10 @@ use Rattle.bihash_rule.specs.Places.{IsFreeFor, IsOpenTo}
 use Rattle.bihash_table.specs.inner.Stores.{IsPlaceSet}
 use Rattle.bihash_table.proofs.PlaceWords.{key_beside, value_beside}
 
+-- a value that may be stored is no mark of a free place
+pub below_free : (value : ℕ) → value < free → value ≢ free
+below_free value storable none = let low = storable in absurd (omega arith)
+
 -- no other place changed
 module _ (z : Sizes) (e : Extent) (block now : List ℕ) (m : Pairs) (i : ℕ) (pairs : IsBlockOf z e block m)
     (placed : IsPlaceSet z block now i) where
@@ -36,10 +40,10 @@ module _ (z : Sizes) (e : Extent) (block now : List ℕ) (m : Pairs) (i : ℕ) (
   -- the pair of the key is at place i, where its old one stood or none did
   module _ (key : List ℕ) (value : ℕ) (inside : i < places e.page e.size.log2) (open_to : IsOpenTo z e key i)
       (only : (v k : ℕ) → HoldsPair z e block key v k → k ≡ i)
-      (own : (other : List ℕ) (v : ℕ) → HoldsPair z e block other v i → other ≡ key) (storable : value ≢ free)
+      (own : (other : List ℕ) (v : ℕ) → HoldsPair z e block other v i → other ≡ key) (storable : value < free)
       (key_is : key_in z now i ≡ key) (value_is : value_in z now i ≡ value) where
     here : HoldsPair z e now key value i
-    here = record { pair = (inside, λ none. storable (sym value_is ∙ none)); stands = key_is; has = value_is }
+    here = record { pair = (inside, λ none. below_free value storable (sym value_is ∙ none)); stands = key_is; has = value_is }
 
     here_or_had : (other : List ℕ) (v k : ℕ) → HoldsPair z e now other v k
         → ((k ≡ i) × (other ≡ key) × (value ≡ v)) ⊎ ((k ≢ i) × HoldsPair z e block other v k)
@@ -72,7 +76,7 @@ module _ (z : Sizes) (e : Extent) (block now : List ℕ) (m : Pairs) (i : ℕ) (
     }
 
   -- the pair of the key got another value
-  pub overwritten_block : (key : List ℕ) (old value : ℕ) → HoldsPair z e block key old i → value ≢ free
+  pub overwritten_block : (key : List ℕ) (old value : ℕ) → HoldsPair z e block key old i → value < free
       → key_in z now i ≡ key → value_in z now i ≡ value → IsBlockOf z e now (insert m key value)
   overwritten_block key old value has =
       entered_block key value has.pair.0 (pairs.rule.paged key old i has)
@@ -80,7 +84,7 @@ module _ (z : Sizes) (e : Extent) (block now : List ℕ) (m : Pairs) (i : ℕ) (
       (λ other v at. sym at.stands ∙ has.stands)
 
   -- a pair of a new key is at a place that was free
-  pub filled_block : (key : List ℕ) (value : ℕ) → get m key ≡ None → IsFreeFor z e block key i → value ≢ free
+  pub filled_block : (key : List ℕ) (value : ℕ) → get m key ≡ None → IsFreeFor z e block key i → value < free
       → key_in z now i ≡ key → value_in z now i ≡ value → IsBlockOf z e now (insert m key value)
   filled_block key value new vacant =
       entered_block key value vacant.inside vacant.reached
@@ -128,7 +132,7 @@ module _ (z : Sizes) (e : Extent) (block now : List ℕ) (m : Pairs) (i : ℕ) (
     (placed : IsPlaceSet z block now i) (linear : Bool) (gone key : List ℕ) (old value : ℕ)
     (has : HoldsPair z e block gone old i) (new : get m key ≡ None)
     (open_to : IsOpen linear (page_of (word_paging z) e.size.log2 key) i) (stays_linear : e.size.linear ≡ true → linear ≡ true)
-    (storable : value ≢ free) (key_is : key_in z now i ≡ key) (value_is : value_in z now i ≡ value) where
+    (storable : value < free) (key_is : key_in z now i ≡ key) (value_is : value_in z now i ≡ value) where
   abbrev e' : Extent
   e' = marked e linear
 
@@ -143,7 +147,7 @@ module _ (z : Sizes) (e : Extent) (block now : List ℕ) (m : Pairs) (i : ℕ) (
   unmarked k v j h = record { pair = h.pair; stands = h.stands; has = h.has }
 
   entered : HoldsPair z e' now key value i
-  entered = record { pair = (has.pair.0, λ none. storable (sym value_is ∙ none)); stands = key_is; has = value_is }
+  entered = record { pair = (has.pair.0, λ none. below_free value storable (sym value_is ∙ none)); stands = key_is; has = value_is }
 
   entered_or_was : (k : List ℕ) (v j : ℕ) → HoldsPair z e' now k v j → ((j ≡ i) × (k ≡ key) × (value ≡ v)) ⊎ Was k v j
   entered_or_was k v j h = elim (cases_eq j i) [

@@ -1,5 +1,5 @@
 -- A new pair that takes the place of an expired one in a full bucket, and its refusal where no pair is expired.
-use Rattle.std.proofs.Common.{◌≡◌, ◌≢◌, ◌∙◌, ◌<◌, ◌≤◌, ◌/◌, ◌==◌, ◌++◌, ℕ, Bool, true, false, true≢false, not, ap, arith, refl, subst, sym, List, [], ◌∷◌, length, Option, Some, None}
+use Rattle.std.proofs.Common.{◌≡◌, ◌∙◌, ◌<◌, ◌≤◌, ◌/◌, ◌==◌, ◌++◌, ℕ, Bool, true, false, true≢false, not, ap, arith, refl, subst, sym, List, [], ◌∷◌, length, Option, Some, None}
 use Rattle.std.specs.Prelude.{◌||◌}
 use Rattle.std.proofs.lemmas.Bool.{eqb-true}
 use Rattle.std.specs.Cmp.Lexicographic.{slice_cmp}
@@ -123,7 +123,7 @@ goes z key gone is_expired linear i e block m h pairs = record {
 module _ (z : Sizes) (v : View) (b word : ℕ) (l : LockedBucket) (has : HasLock z v b word l) (key : List ℕ)
     (long : length key ≡ z.key_words) (home : bucket_of z key ≡ b) (unworn : length (known_at v.known b) < z.limit)
     (gone : List ℕ) (is_expired : ℕ → Bool) (linear : Bool) (i value : ℕ)
-    (takes : TakesPlace z key gone is_expired linear i l.extent l.now) (storable : value ≢ free_mark)
+    (takes : TakesPlace z key gone is_expired linear i l.extent l.now) (storable : value < free_mark)
     (w : View) (h : HasStored z v w l i key z.key_words) (w' : View)
     (is : IsValueStored z w (record l { now = h.now; stored = h.stored }) i value w') where
   abbrev e : Event

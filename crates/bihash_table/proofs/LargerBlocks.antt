@@ -28,6 +28,7 @@ use Rattle.bihash_table.specs.inner.Locked.{HasLock}
 use Rattle.bihash_rule.specs.Places.{ArePlaces}
 use Rattle.bihash_table.specs.inner.Seen.{HasSeen, IsFullFor, IsNewAndCrowded, LocksSeen, WantsPlace}
 use Rattle.bihash_plan.specs.Wants.{IsPlanned}
+use Rattle.bihash_table.proofs.Blocks.{below_free}
 use Rattle.bihash_table.proofs.Bridge.{AreKeyWords, block_of_rehash, extent_of}
 use Rattle.bihash_table.proofs.PairReads.{pair_value}
 use Rattle.bihash_table.proofs.OpenPlaces.{word_tells}
@@ -98,7 +99,7 @@ module _ {A K : Type 0} (g : Ghosts A K) (keys : AreKeyWords g) (v : View) (b wo
       room_there = has_room g keys k.locked.lock.extent k.locked.lock.now (map_now u b) key has.size has.pairs told.0.1 absent_there ps told.1
           size named
 
-      pub laid_there : (value : ℕ) (new : List (K × ℕ)) → value ≢ free_mark
+      pub laid_there : (value : ℕ) (new : List (K × ℕ)) → value < free_mark
           → (IsNamed (paging_of g) ps key size → value ≢ free_mark → IsRehash (paging_of g) size.log2 size.linear ps key value new)
           → (page : ℕ) (words : List ℕ) → 1 ≤ page → ArePlaces g new words
           → IsBlockOf (sizes_of g) (extent_of page size) words (insert (map_now u b) (g.words_of key) value)
@@ -108,7 +109,7 @@ module _ {A K : Type 0} (g : Ghosts A K) (keys : AreKeyWords g) (v : View) (b wo
           (hold g keys e block m key has.size has.pairs told.0.1 absent_there ps told.1)
           (of_keys g keys e block m key has.size has.pairs told.0.1 absent_there ps told.1)
           absent_there
-          (lays (is_named g keys e block m key has.size has.pairs told.0.1 absent_there ps told.1 size named) storable) words some there
+          (lays (is_named g keys e block m key has.size has.pairs told.0.1 absent_there ps told.1 size named) (below_free value storable)) words some there
 
       pub planned_there : IsPlanned g (map_now u b) key size
       planned_there = is_planned g keys k.locked.lock.extent k.locked.lock.now (map_now u b) key has.size has.pairs told.0.1 absent_there ps told.1

@@ -7,6 +7,7 @@ pub mod CallChains
 pub mod CallerViews
 pub mod Copies
 pub mod Count
+pub mod CutBlocks
 pub mod Decisions
 pub mod ExpiredPairs
 mod ExpiredReads

@@ -1,5 +1,5 @@
 -- What the holder of a bucket's lock may write or answer where a new pair is entered, or the last one goes.
-use Rattle.std.proofs.Common.{◌≡◌, ◌≢◌, ◌∙◌, ◌<◌, ◌≤◌, ◌+◌, ◌^◌, ℕ, List, Option, Some, None, ap, arith, inl, inr, length, refl, subst, sym}
+use Rattle.std.proofs.Common.{◌≡◌, ◌∙◌, ◌<◌, ◌≤◌, ◌+◌, ◌^◌, ℕ, List, Option, Some, None, ap, arith, inl, inr, length, refl, subst, sym}
 use Rattle.std.specs.FinMap.{get, insert, len, remove}
 use Rattle.std.specs.Prelude.{if◌then◌else◌, nat_lt}
 use Rattle.std.proofs.lemmas.Bool.{le-ltb, lt-ltb}
@@ -24,7 +24,7 @@ use Rattle.bihash_rule.specs.declared.view.LockedStore.{LockedStore}
 use Rattle.bihash_rule.specs.declared.view.HeldBlock.{HeldBlock}
 use Rattle.bihash_rule.specs.declared.view.PageStore.{PageStore}
 use Rattle.bihash_rule.specs.declared.view.View.{View}
-use Rattle.bihash_table.specs.inner.Copying.{LacksPages}
+use Rattle.bihash_table.specs.inner.Taking.{LacksPages}
 use Rattle.bihash_table.specs.inner.Locked.{HasLock}
 
 -- ---- The rows of a call
@@ -117,7 +117,7 @@ module _ (z : Sizes) (v : View) (b word : ℕ) (l : LockedBucket) (key : List �
     write = write;
   }
 
-  pub entering : (value : ℕ) → value ≢ free_mark → len (map_now v b) < most_pairs (bounds_of z)
+  pub entering : (value : ℕ) → value < free_mark → len (map_now v b) < most_pairs (bounds_of z)
       → get (map_now v b) key ≡ None
       → IsWrite z b (length (known_at v.known b)) (map_now v b)
       (record { by = acting v.records; key = key; change = Set value; recycling = no_recycling })

@@ -43,7 +43,7 @@ module _ (z : Sizes) (v : View) (b word : ℕ) (l : LockedBucket) (has : HasLock
     (unworn : length (known_at v.known b) < z.limit) where
   -- a pair of a new key at a free place, whose words were stored before
   module _ (i value : ℕ) (vacant : IsFreeFor z l.extent l.now key i) (new : get (map_now v b) key ≡ None)
-      (storable : value ≢ free) (w : View) (h : HasStored z v w l i key z.key_words) (w' : View)
+      (storable : value < free) (w : View) (h : HasStored z v w l i key z.key_words) (w' : View)
       (is : IsValueStored z w (record l { now = h.now; stored = h.stored }) i value w') where
     filled_is : w' ≡ with_lock v (Some (record l { now = with_value z h.now i value; stored = true }))
     filled_is = stored_is z v b word l has w i vacant.inside key z.key_words h w' z.key_words value is
@@ -70,7 +70,7 @@ module _ (z : Sizes) (v : View) (b word : ℕ) (l : LockedBucket) (has : HasLock
     there = sym (has.pairs.map.mapped key old i pair)
 
     -- it gets another value
-    module _ (value : ℕ) (other : value ≢ old) (storable : value ≢ free) (w' : View)
+    module _ (value : ℕ) (other : value ≢ old) (storable : value < free) (w' : View)
         (is : IsValueStored z v l i value w') where
       overwritten_is : w' ≡ with_lock v (Some (record l { now = with_value z l.now i value; stored = true }))
       overwritten_is = stored_is z v b word l has v i pair.pair.0 key z.key_words

@@ -1,6 +1,8 @@
 -- What a bucket's word tells of its block, and what the caller holds of the page store while it gives a
 -- bucket another block.
 use Rattle.std.proofs.Common.{◌≡◌, ◌≢◌, ◌∙◌, ◌≤◌, ◌+◌, ◌*◌, ◌^◌, ℕ, zero, suc, List, [], ◌∷◌, ◌++◌, Bool, true, false, Option, Some, None, ap, append-nil, arith, le_refl, length, refl, subst, sym}
+use mathlib.Core.Logic.{dite}
+use native.Mathlib.Decide.{dec_le}
 use Rattle.std.proofs.lemmas.List.{set-get_or}
 use Rattle.std.specs.List.{last_or}
 use Rattle.bihash_words.specs.Maps.{Event}
@@ -31,7 +33,8 @@ use Rattle.bihash_rule.specs.declared.view.Entry.{Entry}
 use Rattle.bihash_rule.specs.declared.view.View.{View}
 use Rattle.bihash_table.specs.Answers.{locks_of}
 use Rattle.bihash_table.specs.Promise.{IsAnswered, IsContended, IsEntered}
-use Rattle.bihash_table.specs.inner.Copying.{GivenBack, HasBlock, HasStore, HoldsOld, MayGiveBack, Released, TakesPages}
+use Rattle.bihash_table.specs.inner.Copying.{GivenBack, HasBlock, HasStore, HoldsOld, MayGiveBack, Released}
+use Rattle.bihash_table.specs.inner.Taking.{TakesPages}
 use Rattle.bihash_table.specs.inner.Locked.{HasLock}
 use Rattle.bihash_table.specs.inner.Scans.{IsWordOf}
 use Rattle.bihash_table.proofs.NewPairs.{looked_at}
@@ -133,12 +136,14 @@ pub some_words : (z : Sizes) (page log2 : ℕ) → 1 ≤ page → block_words z 
 some_words z zero log2 some = absurd (omega arith)
 some_words z (suc page) log2 some = refl
 
--- a block was taken, of the returned ones or of the pages that were never used
-pub taken_block : (z : Sizes) (v : View) (store : PageStore) (page log2 : ℕ) (w : View)
-    → TakesPages z v store page log2 w → (left : PageStore) × TakesBlock z v left page log2 w
+-- a block was taken, of the returned ones, of the pages that were never used, or of a larger one
+pub taken_block : (z : Sizes) {cuts : Bool} (v : View) (store : PageStore) (page log2 : ℕ) (w : View)
+    → TakesPages z cuts v store page log2 w → (left : PageStore) × TakesBlock z v left page log2 w
 taken_block z v store page log2 w takes =
     elim (returned_in store log2) as (λ xs. returned_in store log2 ≡ xs → (left : PageStore) × TakesBlock z v left page log2 w) [
-      | [] ↦ λ e. (grown store log2, (takes.unused e).1)
+      | [] ↦ λ e. dite (dec_le (store.used + 2 ^ log2) z.pages)
+          (λ few. (grown store log2, (takes.unused e few).1))
+          (λ many. let t = (takes.cut e (omega arith)).1 in (t.left, t.block))
       | x ∷ xs ↦ λ e. (unlisted store log2, (takes.returned (omega (arith, ap length e))).1)
     ] refl
 
@@ -161,6 +166,7 @@ has_store z v w none t = record {
   held = ap (λ (u : View). u.holds.store) t.is;
   block = ap (λ (u : View). u.holds.block) t.is ∙ none;
   few = t.few;
+  wide = t.wide;
   room = t.room;
   settled = t.settled;
 }

@@ -1,5 +1,5 @@
 -- One try of an update: answered without the lock, contended, or answered under the lock.
-use Rattle.std.proofs.Common.{◌≡◌, ◌≢◌, ◌∙◌, ◌<◌, ℕ, Bool, true, false, true≢false, List, length, Option, Some, None, Result, Ok, Err, refl, sym, ap, subst, eq-eqb}
+use Rattle.std.proofs.Common.{◌≡◌, ◌≢◌, ◌∙◌, ◌<◌, ℕ, Bool, true, false, true≢false, List, length, Option, Some, None, Result, Ok, Err, refl, sym, ap, subst, eq-eqb, ◌⊎◌, inl, inr}
 use Rattle.std.specs.Prelude.{IfOk, if◌then◌else◌}
 use Rattle.bihash_words.specs.Maps.{Event, expired_told, effect_of}
 use Rattle.bihash_words.specs.Patches.{IsStorable}
@@ -24,7 +24,7 @@ use Rattle.bihash_table.specs.Promise.{IsAnswered, IsContended, IsRecycled, IsUp
 use Rattle.bihash_table.specs.inner.Locked.{IsPairBeside, UnderLock}
 use Rattle.bihash_table.specs.inner.OpenReads.{HasRead, IsPairIn, OtherPairTells, value_of}
 use Rattle.bihash_table.specs.inner.Seen.{Found, HasSeen, IsValueOf, TellsLockTry, WantsChange}
-use Rattle.bihash_table.specs.OutOfPages.{IsOutOfPages}
+use Rattle.bihash_table.specs.OutOfPages.{IsOutOfPages, LacksLarger}
 use Rattle.bihash_table.specs.Tries.{Finished, FinishedOver, Tried, TriedOver, TookAtMost, is_without_lock, try_locks}
 use Rattle.bihash_table.specs.declared.contended.Contended.{Contended}
 use Rattle.bihash_table.specs.declared.hashed_key.SeenBucket.{SeenBucket}
@@ -343,6 +343,12 @@ over_full g s t b key value is_expired home word h lawful same entered =
       lone = λ _. refl;
       lawful = lawful;
     }
+
+-- a call that is refused for want of room, or made, wants no larger block
+pub wants_no_pages : (z : Sizes) (w : View) (r : Result Reply Contended) → IfOk r (λ reply. (reply ≡ Full) ⊎ (reply ≡ Changed None))
+    → IfOk r (LacksLarger z w)
+wants_no_pages z w (Ok reply) h = λ log2 left e. elim h [ inl full ↦ absurd (let c : ⊥ = cc in c) | inr made ↦ absurd (let c : ⊥ = cc in c) ]
+wants_no_pages z w (Err refused) h = tt
 
 -- ---- Without one
 

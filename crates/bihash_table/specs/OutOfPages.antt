@@ -1,5 +1,8 @@
 -- Why a refusal for want of pages was right.
-use Rattle.std.specs.Prelude.{◌≡◌, ℕ, ◌+◌, ◌<◌, ◌^◌, Bool, [], length, Some}
+use Rattle.std.specs.Prelude.{◌≡◌, ℕ, ◌+◌, ◌<◌, ◌≤◌, ◌^◌, Bool, [], length, Some}
+use Rattle.bihash_words.specs.Sizes.{Sizes}
+use Rattle.bihash_words.specs.declared.patch.Reply.{Reply}
+use Rattle.bihash_words.specs.declared.patch.Reply.TheVariants.{NoPages}
 use Rattle.bihash_words.specs.declared.shape.Shape.{Ghosts}
 use Rattle.bihash_plan.specs.Wants.{IsPlanned}
 use Rattle.bihash_rule.specs.Callers.{known_at}
@@ -21,3 +24,13 @@ pub record IsOutOfPages {A K : Type 0} (g : Ghosts A K) (w : View) (b : ℕ) (ke
   pub none : returned_in store log2 ≡ []
   pub unused : store.used + left ≡ g.PAGES
   pub few : left < 2 ^ log2
+
+-- no block of more than 2 ^ log2 pages was returned
+abbrev pub HasNoLarger : Sizes → PageStore → ℕ → Type 0
+HasNoLarger z store log2 = (size : ℕ) → log2 < size → size ≤ z.max_log2 → returned_in store size ≡ []
+
+-- Where this reply tells that pages are wanting, no larger block was returned either in the page store that the entry
+-- bears: none could be cut.
+abbrev pub LacksLarger : Sizes → View → Reply → Type 0
+LacksLarger z w reply = (log2 left : ℕ) → reply ≡ NoPages log2 left → (c : Call) (store : PageStore)
+    → last_call w.records ≡ Some c → c.store ≡ Some store → HasNoLarger z store log2

@@ -9,3 +9,4 @@ pub mod Scans
 pub mod RowWords
 pub mod Seen
 pub mod Stores
+pub mod Taking

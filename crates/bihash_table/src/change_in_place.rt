@@ -1,7 +1,8 @@
 //! Changes that a bucket's block has room for.
-ghost use Rattle.std.specs.Prelude.{◌≡◌, ◌≢◌, ◌<◌, ◌+◌, ◌*◌, true, None, Some, Ok};
+ghost use Rattle.std.specs.Prelude.{◌≡◌, ◌≢◌, ◌<◌, ◌+◌, ◌*◌, true, None, Some, Ok, IfOk};
 ghost use Rattle.bihash_words.specs.Sizes.{sizes_of};
 ghost use Rattle.bihash_words.specs.declared.patch.Change.TheVariants.{Set, Remove};
+ghost use Rattle.bihash_words.specs.declared.patch.Reply.TheVariants.{Changed};
 ghost use Rattle.bihash_rule.specs.Words.{place_words};
 ghost use Rattle.bihash_steps.specs.BucketSteps.{with_lock, stored_in};
 ghost use Rattle.bihash_rule.specs.declared.view.LockedBucket.{LockedBucket};
@@ -32,7 +33,8 @@ pub(crate) fn overwrite<S: Shape>(
 ) -> Reply
     requires held { UnderLock ⟦<S as Shape>⟧ row.now seat.old seen.now (Set value) (λ z key. IsPairIn z key (Some pair)) }
     requires other { value ≢ pair.1 }
-    ensures { Finished ⟦<S as Shape>⟧ seat.old seat.new seen.now.hashed.key.now (Some pair.1) (Set value) (Ok result) }
+    ensures told { Finished ⟦<S as Shape>⟧ seat.old seat.new seen.now.hashed.key.now (Some pair.1) (Set value) (Ok result) }
+    ensures made { result ≡ Changed (Some pair.1) }
 {
     store_word(row, seat, seen.word, pair.0, S::WORDS, value);
     let event = Event {
@@ -60,7 +62,8 @@ pub(crate) fn fill<S: Shape>(
     value: u64,
 ) -> Reply
     requires { UnderLock ⟦<S as Shape>⟧ row.now seat.old seen.now (Set value) (λ z key. IsPlaceForNew z key place) }
-    ensures { Finished ⟦<S as Shape>⟧ seat.old seat.new seen.now.hashed.key.now None (Set value) (Ok result) }
+    ensures told { Finished ⟦<S as Shape>⟧ seat.old seat.new seen.now.hashed.key.now None (Set value) (Ok result) }
+    ensures made { result ≡ Changed None }
 {
     store_key(row, seat, seen, place);
     store_word(row, seat, seen.word, place, S::WORDS, value);
@@ -89,7 +92,8 @@ pub(crate) fn remove<S: Shape>(
     pair: (usize, u64),
 ) -> Result<Reply, Contended>
     requires { WantsChange ⟦<S as Shape>⟧ row.now seat.old seen.now (Some pair) Remove }
-    ensures { Tried ⟦<S as Shape>⟧ seat.old seat.new seen.now.hashed.key.now (Some pair.1) Remove result }
+    ensures told { Tried ⟦<S as Shape>⟧ seat.old seat.new seen.now.hashed.key.now (Some pair.1) Remove result }
+    ensures made { IfOk result (λ reply. reply ≡ Changed (Some pair.1)) }
 {
     let other = has_other_in_open_bucket(row, seat, seen.word, pair.0);
     if !lock_if_unchanged(row, seat, seen.hashed.bucket, seen.word) {
@@ -109,7 +113,8 @@ fn vacate<S: Shape>(
     pair: (usize, u64),
 ) -> Reply
     requires { UnderLock ⟦<S as Shape>⟧ row.now seat.old seen.now Remove (λ z key. IsPairBeside z key pair true) }
-    ensures { Finished ⟦<S as Shape>⟧ seat.old seat.new seen.now.hashed.key.now (Some pair.1) Remove (Ok result) }
+    ensures told { Finished ⟦<S as Shape>⟧ seat.old seat.new seen.now.hashed.key.now (Some pair.1) Remove (Ok result) }
+    ensures made { result ≡ Changed (Some pair.1) }
 {
     store_word(row, seat, seen.word, pair.0, S::WORDS, FREE);
     let event = Event {

@@ -1,8 +1,10 @@
 //! Changes that give a bucket another block, or none.
-ghost use Rattle.std.specs.Prelude.{◌≡◌, ◌*◌, ◌^◌, false, length, None, Some};
+ghost use Rattle.std.specs.Prelude.{◌≡◌, ◌*◌, ◌^◌, true, false, length, None, Some, IfOk};
 ghost use Rattle.bihash_words.specs.Sizes.{sizes_of};
 ghost use Rattle.bihash_words.specs.declared.patch.Change.TheVariants.{Set, Remove};
+ghost use Rattle.bihash_words.specs.declared.patch.Reply.TheVariants.{Changed};
 ghost use Rattle.bihash_steps.specs.Seats.{with_view};
+ghost use Rattle.bihash_table.specs.OutOfPages.{LacksLarger};
 ghost use Rattle.bihash_table.specs.inner.Copying.{GivenBack, MayLeave, Released};
 ghost use Rattle.bihash_table.specs.inner.Laid.{IsLaidFor};
 ghost use Rattle.bihash_table.specs.inner.Locked.{IsPairBeside, UnderLock};
@@ -17,6 +19,7 @@ use crate::hashed_key::SeenBucket;
 use crate::page_allocation::{give_back, take_block};
 use crate::read_places::read_block;
 use crate::recycling::recycle_or_refuse;
+use crate::shared_table::Sessions;
 use crate::write_places::write_block;
 use bihash_plan::{Plan, larger, lay};
 use bihash_rule::Extent;
@@ -28,35 +31,38 @@ use std::marker::Brand;
 /// expired pair makes room, or the call is refused.
 #[inline(never)]
 pub(crate) fn enter_larger<S: Shape, E: Expiry>(
-    row: &Row<S>,
+    table: &Sessions<S>,
     caller: &mut Caller<S>,
     seen: &SeenBucket<'_, S>,
     entrant: &Entrant<'_, E>,
 ) -> Result<Reply, Contended>
-    requires { WantsRoom ⟦<S as Shape>⟧ row.now caller.old.seat seen.now entrant.now.value }
-    ensures { TriedToEnter ⟦<S as Shape>⟧ ⟦<E as Expiry>⟧ caller.old.seat caller.new.seat seen.now entrant.now result }
+    requires { WantsRoom ⟦<S as Shape>⟧ table.now.row caller.old.seat seen.now entrant.now.value }
+    ensures told { TriedToEnter ⟦<S as Shape>⟧ ⟦<E as Expiry>⟧ caller.old.seat caller.new.seat seen.now entrant.now result }
+    ensures no_larger { table.now.cuts_blocks ≡ true → IfOk result (LacksLarger (sizes_of S.Shape) caller.new.seat.view) }
 {
     let seat = &mut caller.seat;
     let scratch = &mut caller.scratch;
     let old = &mut scratch.old_places;
     let new = &mut scratch.new_places;
-    enter_by_block_change(row, seat, seen, entrant, old, new)
+    enter_by_block_change(table, seat, seen, entrant, old, new)
 }
 
 /// Enters a new pair by a change to a larger block, where the plan is one, and else recycles or refuses. The lists have
 /// room for all pairs of a bucket, as they stand and as they will stand.
 fn enter_by_block_change<S: Shape, E: Expiry>(
-    row: &Row<S>,
+    table: &Sessions<S>,
     seat: &mut CallerSeat<S>,
     seen: &SeenBucket<'_, S>,
     entrant: &Entrant<'_, E>,
     old: &mut [(S::Key, u64)],
     new: &mut [(S::Key, u64)],
 ) -> Result<Reply, Contended>
-    requires wants { WantsRoom ⟦<S as Shape>⟧ row.now seat.old seen.now entrant.now.value }
+    requires wants { WantsRoom ⟦<S as Shape>⟧ table.now.row seat.old seen.now entrant.now.value }
     requires room { (length old.old ≡ 4 * 2 ^ S.MAX_LOG2) × (length new.old ≡ 4 * 2 ^ S.MAX_LOG2) }
-    ensures { TriedToEnter ⟦<S as Shape>⟧ ⟦<E as Expiry>⟧ seat.old seat.new seen.now entrant.now result }
+    ensures told { TriedToEnter ⟦<S as Shape>⟧ ⟦<E as Expiry>⟧ seat.old seat.new seen.now entrant.now result }
+    ensures no_larger { table.now.cuts_blocks ≡ true → IfOk result (LacksLarger (sizes_of S.Shape) seat.new.view) }
 {
+    let row = &table.row;
     row.is_sound();
     let old = &mut old[..place_count::<S>(seen.word)];
     read_block(row, seat, seen.word, old);
@@ -68,21 +74,23 @@ fn enter_by_block_change<S: Shape, E: Expiry>(
     if !lock_if_unchanged(row, seat, seen.hashed.bucket, seen.word) {
         return Err(Contended);
     }
-    enter_in_new_block(row, seat, seen, entrant.value, size, new)
+    enter_in_new_block(table, seat, seen, entrant.value, size, new)
 }
 
 /// By a change of block the bucket gets one of this size, in which its pairs and the new one are laid out.
 fn enter_in_new_block<S: Shape>(
-    row: &Row<S>,
+    table: &Sessions<S>,
     seat: &mut CallerSeat<S>,
     seen: &SeenBucket<'_, S>,
     value: u64,
     size: BlockSize,
     block: &[(S::Key, u64)],
 ) -> Result<Reply, Contended>
-    requires { IsLaidFor ⟦<S as Shape>⟧ row.now seat.old seen.now value size block.now }
-    ensures { Finished ⟦<S as Shape>⟧ seat.old seat.new seen.now.hashed.key.now None (Set value) result }
+    requires { IsLaidFor ⟦<S as Shape>⟧ table.now.row seat.old seen.now value size block.now }
+    ensures told { Finished ⟦<S as Shape>⟧ seat.old seat.new seen.now.hashed.key.now None (Set value) result }
+    ensures no_larger { table.now.cuts_blocks ≡ true → IfOk result (LacksLarger (sizes_of S.Shape) seat.new.view) }
 {
+    let row = &table.row;
     row.is_sound();
     let bucket = seen.hashed.bucket;
     let word = seen.word;
@@ -91,7 +99,7 @@ fn enter_in_new_block<S: Shape>(
         row.release(seat, bucket, word);
         return Err(Contended);
     }
-    match take_block(row, seat, size.log2) {
+    match take_block(table, seat, size.log2) {
         Ok(page) => {
             write_block(row, seat, page, block);
             let extent = Extent { page, size };
@@ -154,7 +162,8 @@ pub(crate) fn remove_last<S: Shape>(
     pair: (usize, u64),
 ) -> Result<Reply, Contended>
     requires { UnderLock ⟦<S as Shape>⟧ row.now seat.old seen.now Remove (λ z key. IsPairBeside z key pair false) }
-    ensures { Finished ⟦<S as Shape>⟧ seat.old seat.new seen.now.hashed.key.now (Some pair.1) Remove result }
+    ensures told { Finished ⟦<S as Shape>⟧ seat.old seat.new seen.now.hashed.key.now (Some pair.1) Remove result }
+    ensures made { IfOk result (λ reply. reply ≡ Changed (Some pair.1)) }
 {
     row.is_sound();
     if !row.pool_lock(seat) {

@@ -35,6 +35,7 @@ impl<S: Shape> Sessions<S> {
         ensures whole { IfOk result (λ _. WasWhole (sizes_of S.Shape) caller.seat.view) }
         ensures refused { IfErr result (λ r. (r.1.row ≡ self.row) × (r.2.seat ≡ with_view caller.seat r.2.seat.view)
             × IsCloseRefused (sizes_of S.Shape) caller.seat.view r.0 r.2.seat.view) }
+        ensures back { IfErr result (λ r. r.1.cuts_blocks ≡ self.cuts_blocks) }
         ensures lawful { IfErr result (λ r. IsLawfulCaller (sizes_of S.Shape) r.2.seat.view) }
     {
         self.row.is_sound();

@@ -1,6 +1,7 @@
 //! A new pair in a full bucket: it takes the place of an expired one, or is refused.
-ghost use Rattle.std.specs.Prelude.{None};
+ghost use Rattle.std.specs.Prelude.{◌≡◌, ◌⊎◌, None, IfOk};
 ghost use Rattle.bihash_words.specs.declared.patch.Change.TheVariants.{Set};
+ghost use Rattle.bihash_words.specs.declared.patch.Reply.TheVariants.{Changed, Full};
 ghost use Rattle.bihash_table.specs.Tries.{FinishedOver};
 ghost use Rattle.bihash_table.specs.inner.Locked.{TakesPlace, UnderLock};
 ghost use Rattle.bihash_table.specs.inner.Seen.{MayRefuse, TriedToEnter, WantsPlace};
@@ -33,7 +34,8 @@ pub(crate) fn recycle_or_refuse<S: Shape, E: Expiry>(
     places: &[(S::Key, u64)],
 ) -> Result<Reply, Contended>
     requires { WantsPlace ⟦<S as Shape>⟧ row.now seat.old seen.now entrant.now.value places.now }
-    ensures { TriedToEnter ⟦<S as Shape>⟧ ⟦<E as Expiry>⟧ seat.old seat.new seen.now entrant.now result }
+    ensures told { TriedToEnter ⟦<S as Shape>⟧ ⟦<E as Expiry>⟧ seat.old seat.new seen.now entrant.now result }
+    ensures made { IfOk result (λ reply. (reply ≡ Full) ⊎ (reply ≡ Changed None)) }
 {
     row.is_sound();
     let size = seen.word.block_size();
@@ -59,7 +61,8 @@ fn refuse_to_recycle<S: Shape, E: Expiry>(
     entrant: &Entrant<'_, E>,
 ) -> Result<Reply, Contended>
     requires { MayRefuse ⟦<S as Shape>⟧ row.now seat.old seen.now entrant.now.value (E.is_expired entrant.now.expiry.now) }
-    ensures { TriedToEnter ⟦<S as Shape>⟧ ⟦<E as Expiry>⟧ seat.old seat.new seen.now entrant.now result }
+    ensures told { TriedToEnter ⟦<S as Shape>⟧ ⟦<E as Expiry>⟧ seat.old seat.new seen.now entrant.now result }
+    ensures made { IfOk result (λ reply. reply ≡ Full) }
 {
     let event = Event {
         key: seen.hashed.key,
@@ -84,8 +87,9 @@ fn recycle_place<S: Shape, E: Expiry>(
 ) -> Reply
     requires { UnderLock ⟦<S as Shape>⟧ row.now seat.old seen.now (Set entrant.now.value) (λ z key. TakesPlace z key
         (S.words_of going.now.key.now) (E.is_expired entrant.now.expiry.now) going.now.linear going.now.place) }
-    ensures { FinishedOver ⟦<S as Shape>⟧ seat.old seat.new seen.now.hashed.key.now None (Set entrant.now.value)
+    ensures told { FinishedOver ⟦<S as Shape>⟧ seat.old seat.new seen.now.hashed.key.now None (Set entrant.now.value)
         (E.is_expired entrant.now.expiry.now) result }
+    ensures made { result ≡ Changed None }
 {
     store_key(row, seat, seen, going.place);
     store_word(row, seat, seen.word, going.place, S::WORDS, entrant.value);

@@ -18,7 +18,8 @@ use std::alloc::{AllocError, Global};
 
 impl<S: Shape> Sessions<S> {
     /// A table of its own that begins with the pairs of this one, which ends, and its caller 1, which is lone and
-    /// has made no call. Pages and returned blocks are as before, and no bucket has been written.
+    /// has made no call. Pages and returned blocks are as before, also whether these are cut, and no bucket has been
+    /// written.
     /// `Strangers`: some caller wasn't joined into this one. `Memory`: memory was refused. Refused, the table
     /// and the caller come back.
     pub fn renew(
@@ -28,18 +29,23 @@ impl<S: Shape> Sessions<S> {
     ) -> Result<(Sessions<S>, Caller<S>), (RenewFault, Sessions<S>, Caller<S>)>
         requires { IsIdle self.row caller.seat }
         ensures own { IfOk result (λ r. r.1.seat.row ≡ r.0.row) }
+        ensures kept { IfOk result (λ r. r.0.cuts_blocks ≡ self.cuts_blocks) }
         ensures renewed { IfOk result (λ r. IsRenewed (sizes_of S.Shape) caller.seat.view r.1.seat.view) }
         ensures whole { IfOk result (λ _. WasWhole (sizes_of S.Shape) caller.seat.view) }
         ensures begun { IfOk result (λ r. IsLawfulCaller (sizes_of S.Shape) r.1.seat.view) }
         ensures refused { IfErr result (λ r. (r.1.row ≡ self.row) × (r.2.seat ≡ with_view caller.seat r.2.seat.view)
             × IsRenewRefused (sizes_of S.Shape) caller.seat.view r.0 r.2.seat.view) }
+        ensures back { IfErr result (λ r. r.1.cuts_blocks ≡ self.cuts_blocks) }
         ensures lawful { IfErr result (λ r. IsLawfulCaller (sizes_of S.Shape) r.2.seat.view) }
     {
         if self.row.load_count(&mut caller.seat) != caller.seat.numbers() {
             return Err((RenewFault::Strangers, self, caller));
         }
         match renew_table(&self.row, &mut caller, alloc) {
-            Ok((row, first)) => Ok((Sessions { row }, first)),
+            Ok((row, first)) => {
+                let cuts_blocks = self.cuts_blocks;
+                Ok((Sessions { row, cuts_blocks }, first))
+            }
             Err(_) => Err((RenewFault::Memory, self, caller)),
         }
     }

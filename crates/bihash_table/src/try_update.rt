@@ -1,10 +1,13 @@
 //! Updates, one try each.
-ghost use Rattle.std.specs.Prelude.{◌≡◌, ◌≢◌, true, false, None, Some};
+ghost use Rattle.std.specs.Prelude.{◌≡◌, ◌≢◌, true, false, None, Some, IfOk};
 ghost use Rattle.bihash_words.specs.Maps.{effect_of};
 ghost use Rattle.bihash_words.specs.Patches.{IsStorable};
+ghost use Rattle.bihash_words.specs.Sizes.{sizes_of};
+ghost use Rattle.bihash_words.specs.declared.patch.Reply.TheVariants.{Changed};
 ghost use Rattle.bihash_words.specs.declared.patch.Change.TheVariants.{Keep};
 ghost use Rattle.bihash_steps.specs.CallerCalls.{IsIdle};
 ghost use Rattle.bihash_table.specs.Calls.{TellsRecycleTry, TellsUpdateTry};
+ghost use Rattle.bihash_table.specs.OutOfPages.{LacksLarger};
 ghost use Rattle.bihash_table.specs.inner.OpenReads.{value_of};
 ghost use Rattle.bihash_table.specs.inner.Seen.{Found, MayReply, WantsChange};
 ghost use Rattle.bihash_table.specs.Tries.{Tried, TriedOver};
@@ -36,7 +39,8 @@ impl<S: Shape> Sessions<S> {
         patch: &P,
     ) -> Result<Reply, Contended>
         requires { IsIdle self.now.row caller.old.seat }
-        ensures { TellsUpdateTry ⟦<S as Shape>⟧ caller.old.seat caller.new.seat key.now (P.decision patch.now) result }
+        ensures told { TellsUpdateTry ⟦<S as Shape>⟧ caller.old.seat caller.new.seat key.now (P.decision patch.now) result }
+        ensures no_larger { self.now.cuts_blocks ≡ true → IfOk result (LacksLarger (sizes_of S.Shape) caller.new.seat.view) }
     {
         self.try_add_or_recycle(caller, &KeyWithHash::of(key), patch, &Never)
     }
@@ -53,8 +57,9 @@ impl<S: Shape> Sessions<S> {
         expiry: &E,
     ) -> Result<Reply, Contended>
         requires { IsIdle self.now.row caller.old.seat }
-        ensures { TellsRecycleTry ⟦<S as Shape>⟧ caller.old.seat caller.new.seat known.now.key.now (P.decision patch.now)
+        ensures told { TellsRecycleTry ⟦<S as Shape>⟧ caller.old.seat caller.new.seat known.now.key.now (P.decision patch.now)
             (E.is_expired expiry.now) result }
+        ensures no_larger { self.now.cuts_blocks ≡ true → IfOk result (LacksLarger (sizes_of S.Shape) caller.new.seat.view) }
     {
         self.row.is_sound();
         let hashed = HashedKey::with_hash(known);
@@ -65,26 +70,28 @@ impl<S: Shape> Sessions<S> {
         let found = value_found(pair);
         let change = patch.decide(found);
         let seen = SeenBucket { word, hashed };
-        make_tried_change(&self.row, caller, &seen, pair, change, expiry)
+        make_tried_change(self, caller, &seen, pair, change, expiry)
     }
 }
 
 // Makes the change that a try of an update decided on what it found, where it is one and the version isn't used up.
 #[inline(always)]
 fn make_tried_change<S: Shape, E: Expiry>(
-    row: &Row<S>,
+    table: &Sessions<S>,
     caller: &mut Caller<S>,
     seen: &SeenBucket<'_, S>,
     pair: Option<(usize, u64)>,
     change: Change,
     expiry: &E,
 ) -> Result<Reply, Contended>
-    requires found { Found ⟦<S as Shape>⟧ row.now caller.old.seat seen.now pair }
+    requires found { Found ⟦<S as Shape>⟧ table.now.row caller.old.seat seen.now pair }
     requires storable { IsStorable change }
-    ensures { TriedOver ⟦<S as Shape>⟧ caller.old.seat caller.new.seat seen.now.hashed.key.now (value_of pair) change
+    ensures told { TriedOver ⟦<S as Shape>⟧ caller.old.seat caller.new.seat seen.now.hashed.key.now (value_of pair) change
         (E.is_expired expiry.now) result }
+    ensures no_larger { table.now.cuts_blocks ≡ true → IfOk result (LacksLarger (sizes_of S.Shape) caller.new.seat.view) }
 {
     let found = value_found(pair);
+    let row = &table.row;
     let seat = &mut caller.seat;
     if is_idle(change, found) {
         return answer_try(row, seat, seen, found, change, Reply::Kept(found));
@@ -94,7 +101,7 @@ fn make_tried_change<S: Shape, E: Expiry>(
     }
     match pair {
         Some(held) => change_pair(row, seat, seen, held, change),
-        None => enter_new(row, caller, seen, change, expiry),
+        None => enter_new(table, caller, seen, change, expiry),
     }
 }
 
@@ -121,7 +128,8 @@ pub(crate) fn answer_try<S: Shape>(
     reply: Reply,
 ) -> Result<Reply, Contended>
     requires { MayReply ⟦<S as Shape>⟧ row.now seat.old seen.now found change reply }
-    ensures { Tried ⟦<S as Shape>⟧ seat.old seat.new seen.now.hashed.key.now found change result }
+    ensures told { Tried ⟦<S as Shape>⟧ seat.old seat.new seen.now.hashed.key.now found change result }
+    ensures given { IfOk result (λ answer. answer ≡ reply) }
 {
     let event = Event {
         key: seen.hashed.key,
@@ -145,7 +153,8 @@ fn change_pair<S: Shape>(
     change: Change,
 ) -> Result<Reply, Contended>
     requires { WantsChange ⟦<S as Shape>⟧ row.now seat.old seen.now (Some pair) change }
-    ensures { Tried ⟦<S as Shape>⟧ seat.old seat.new seen.now.hashed.key.now (Some pair.1) change result }
+    ensures told { Tried ⟦<S as Shape>⟧ seat.old seat.new seen.now.hashed.key.now (Some pair.1) change result }
+    ensures made { IfOk result (λ reply. reply ≡ Changed (Some pair.1)) }
 {
     match change {
         Change::Set(value) => {
@@ -162,19 +171,21 @@ fn change_pair<S: Shape>(
 // Enters a pair of a new key, as a try of an update decided: at a free place that is open to it, or in a larger block.
 #[inline(always)]
 fn enter_new<S: Shape, E: Expiry>(
-    row: &Row<S>,
+    table: &Sessions<S>,
     caller: &mut Caller<S>,
     seen: &SeenBucket<'_, S>,
     change: Change,
     expiry: &E,
 ) -> Result<Reply, Contended>
-    requires { WantsChange ⟦<S as Shape>⟧ row.now caller.old.seat seen.now None change }
-    ensures { TriedOver ⟦<S as Shape>⟧ caller.old.seat caller.new.seat seen.now.hashed.key.now None change
+    requires { WantsChange ⟦<S as Shape>⟧ table.now.row caller.old.seat seen.now None change }
+    ensures told { TriedOver ⟦<S as Shape>⟧ caller.old.seat caller.new.seat seen.now.hashed.key.now None change
         (E.is_expired expiry.now) result }
+    ensures no_larger { table.now.cuts_blocks ≡ true → IfOk result (LacksLarger (sizes_of S.Shape) caller.new.seat.view) }
 {
     let Change::Set(value) = change else {
         unreachable!();
     };
+    let row = &table.row;
     let seat = &mut caller.seat;
     match room_in_open_bucket(row, seat, seen.word, &seen.hashed) {
         Some(place) => {
@@ -183,6 +194,6 @@ fn enter_new<S: Shape, E: Expiry>(
             }
             Ok(fill(row, seat, seen, place, value))
         }
-        None => enter_larger(row, caller, seen, &Entrant { value, expiry }),
+        None => enter_larger(table, caller, seen, &Entrant { value, expiry }),
     }
 }

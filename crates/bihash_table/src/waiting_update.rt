@@ -1,9 +1,11 @@
 //! Updates that are tried until they are answered: one of any decision, and the four fixed ones.
-ghost use Rattle.std.specs.Prelude.{◌≢◌};
+ghost use Rattle.std.specs.Prelude.{◌≡◌, ◌≢◌, true};
 ghost use Rattle.bihash_words.specs.Patches.{free_mark, set_if_absent, set_if_present};
+ghost use Rattle.bihash_words.specs.Sizes.{sizes_of};
 ghost use Rattle.bihash_words.specs.declared.patch.Change.TheVariants.{Set, Remove};
 ghost use Rattle.bihash_steps.specs.CallerCalls.{IsIdle};
 ghost use Rattle.bihash_table.specs.Calls.{TellsRecycle, TellsUpdate};
+ghost use Rattle.bihash_table.specs.OutOfPages.{LacksLarger};
 
 use crate::key_with_hash::KeyWithHash;
 use crate::shared_table::Sessions;
@@ -24,7 +26,8 @@ impl<S: Shape> Sessions<S> {
         patch: &P,
     ) -> Reply
         requires { IsIdle self.now.row caller.old.seat }
-        ensures { TellsUpdate ⟦<S as Shape>⟧ caller.old.seat caller.new.seat key.now (P.decision patch.now) result }
+        ensures told { TellsUpdate ⟦<S as Shape>⟧ caller.old.seat caller.new.seat key.now (P.decision patch.now) result }
+        ensures no_larger { self.now.cuts_blocks ≡ true → LacksLarger (sizes_of S.Shape) caller.new.seat.view result }
     {
         let backoff = Backoff::new();
         for _ in rt.forever() {
@@ -48,8 +51,9 @@ impl<S: Shape> Sessions<S> {
         expiry: &E,
     ) -> Reply
         requires { IsIdle self.now.row caller.old.seat }
-        ensures { TellsRecycle ⟦<S as Shape>⟧ caller.old.seat caller.new.seat known.now.key.now (P.decision patch.now)
+        ensures told { TellsRecycle ⟦<S as Shape>⟧ caller.old.seat caller.new.seat known.now.key.now (P.decision patch.now)
             (E.is_expired expiry.now) result }
+        ensures no_larger { self.now.cuts_blocks ≡ true → LacksLarger (sizes_of S.Shape) caller.new.seat.view result }
     {
         let backoff = Backoff::new();
         for _ in rt.forever() {
@@ -65,7 +69,8 @@ impl<S: Shape> Sessions<S> {
     pub fn add<R: Wait>(&self, rt: &R, caller: &mut Caller<S>, key: &S::Key, value: u64) -> Reply
         requires idle { IsIdle self.now.row caller.old.seat }
         requires storable { value ≢ free_mark }
-        ensures { TellsUpdate ⟦<S as Shape>⟧ caller.old.seat caller.new.seat key.now (λ _. Set value) result }
+        ensures told { TellsUpdate ⟦<S as Shape>⟧ caller.old.seat caller.new.seat key.now (λ _. Set value) result }
+        ensures no_larger { self.now.cuts_blocks ≡ true → LacksLarger (sizes_of S.Shape) caller.new.seat.view result }
     {
         self.update(rt, caller, key, &Add { value })
     }
@@ -80,7 +85,8 @@ impl<S: Shape> Sessions<S> {
     ) -> Reply
         requires idle { IsIdle self.now.row caller.old.seat }
         requires storable { value ≢ free_mark }
-        ensures { TellsUpdate ⟦<S as Shape>⟧ caller.old.seat caller.new.seat key.now (set_if_absent value) result }
+        ensures told { TellsUpdate ⟦<S as Shape>⟧ caller.old.seat caller.new.seat key.now (set_if_absent value) result }
+        ensures no_larger { self.now.cuts_blocks ≡ true → LacksLarger (sizes_of S.Shape) caller.new.seat.view result }
     {
         self.update(rt, caller, key, &AddIfAbsent { value })
     }
@@ -89,7 +95,8 @@ impl<S: Shape> Sessions<S> {
     pub fn touch<R: Wait>(&self, rt: &R, caller: &mut Caller<S>, key: &S::Key, value: u64) -> Reply
         requires idle { IsIdle self.now.row caller.old.seat }
         requires storable { value ≢ free_mark }
-        ensures { TellsUpdate ⟦<S as Shape>⟧ caller.old.seat caller.new.seat key.now (set_if_present value) result }
+        ensures told { TellsUpdate ⟦<S as Shape>⟧ caller.old.seat caller.new.seat key.now (set_if_present value) result }
+        ensures no_larger { self.now.cuts_blocks ≡ true → LacksLarger (sizes_of S.Shape) caller.new.seat.view result }
     {
         self.update(rt, caller, key, &Touch { value })
     }
@@ -97,7 +104,8 @@ impl<S: Shape> Sessions<S> {
     /// Removes the value, by an update that is tried until it is answered.
     pub fn remove<R: Wait>(&self, rt: &R, caller: &mut Caller<S>, key: &S::Key) -> Reply
         requires { IsIdle self.now.row caller.old.seat }
-        ensures { TellsUpdate ⟦<S as Shape>⟧ caller.old.seat caller.new.seat key.now (λ _. Remove) result }
+        ensures told { TellsUpdate ⟦<S as Shape>⟧ caller.old.seat caller.new.seat key.now (λ _. Remove) result }
+        ensures no_larger { self.now.cuts_blocks ≡ true → LacksLarger (sizes_of S.Shape) caller.new.seat.view result }
     {
         self.update(rt, caller, key, &Delete)
     }

@@ -1,5 +1,5 @@
 -- What may be stored, and what the fixed patches decide (this project's profile).
-use Rattle.std.specs.Prelude.{◌≢◌, ℕ, ◌-◌, ◌^◌, Option, Some, None}
+use Rattle.std.specs.Prelude.{ℕ, ◌<◌, ◌-◌, ◌^◌, Option, Some, None}
 use Rattle.bihash_words.specs.declared.patch.Change.{Change}
 use Rattle.bihash_words.specs.declared.patch.Change.TheVariants.{Keep, Set, Remove}
 
@@ -7,10 +7,10 @@ use Rattle.bihash_words.specs.declared.patch.Change.TheVariants.{Keep, Set, Remo
 abbrev pub free_mark : ℕ
 free_mark = 2 ^ 64 - 1
 
--- a value that is set is no mark of a free place
+-- a value that is set is a word, and no mark of a free place
 abbrev pub IsStorable : Change → Type 0
 IsStorable Keep = Unit {0}
-IsStorable (Set value) = value ≢ free_mark
+IsStorable (Set value) = value < free_mark
 IsStorable Remove = Unit {0}
 
 -- sets the value of a key that has none

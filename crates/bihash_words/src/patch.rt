@@ -1,5 +1,5 @@
 //! What an update decides on a stored value, what it answers, and the four fixed decisions.
-ghost use Rattle.std.specs.Prelude.{◌≡◌, ◌≢◌, ℕ, Option};
+ghost use Rattle.std.specs.Prelude.{◌≡◌, ◌<◌, ℕ, Option};
 ghost use Rattle.bihash_words.specs.declared.patch.Change.{Change};
 ghost use Rattle.bihash_words.specs.declared.patch.Change.TheVariants.{Set, Remove};
 ghost use Rattle.bihash_words.specs.Patches.{IsStorable, free_mark, set_if_absent, set_if_present};
@@ -46,7 +46,7 @@ pub trait Patch {
 #[derive(Clone, Copy)]
 pub struct Add {
     pub value: u64,
-    pub ghost storable: { value ≢ free_mark },
+    pub ghost storable: { value < free_mark },
 }
 
 impl Patch for Add {
@@ -62,7 +62,7 @@ impl Patch for Add {
 #[derive(Clone, Copy)]
 pub struct AddIfAbsent {
     pub value: u64,
-    pub ghost storable: { value ≢ free_mark },
+    pub ghost storable: { value < free_mark },
 }
 
 impl Patch for AddIfAbsent {
@@ -94,7 +94,7 @@ impl Patch for Delete {
 #[derive(Clone, Copy)]
 pub struct Touch {
     pub value: u64,
-    pub ghost storable: { value ≢ free_mark },
+    pub ghost storable: { value < free_mark },
 }
 
 impl Patch for Touch {

@@ -102,7 +102,7 @@ module _ (u : Update) (ruling : Ruling) (b : Bounds) (m n : Pairs) (w : ℕ) (e 
   words_are : e.found ≡ get m (words_of u.key)
   words_are = step.found ∙ ap (get m) of.key
 
-  no_room : verdict_of u.patch ruling e.found e.reply ≡ verdict.Full → FindsNoRoom u b m w
+  pub no_room : verdict_of u.patch ruling e.found e.reply ≡ verdict.Full → FindsNoRoom u b m w
   no_room is =
       let (starts, full) = full_told (is_live_for u.patch e.found) u.patch.reflects ruling e.reply is in
       let absent : e.found ≡ None = found_is_told b m n w e step ∙ ap found_by full in
@@ -134,7 +134,7 @@ module _ (u : Update) (ruling : Ruling) (b : Bounds) (m n : Pairs) (w : ℕ) (e 
       let clash = sym is ∙ named ∙ ap (spare m) words ∙ none_while_live u.patch m stuck.live in
       absurd (let f : ⊥ = cc in f)
 
-  is_full : (reflects ruling ≡ true) → FindsNoRoom u b m w → verdict_of u.patch ruling e.found e.reply ≡ verdict.Full
+  pub is_full : (reflects ruling ≡ true) → FindsNoRoom u b m w → verdict_of u.patch ruling e.found e.reply ≡ verdict.Full
   is_full rules stuck =
       let absent : e.found ≡ None = words_are ∙ stuck.absent in
       let at = no_room_case stuck absent in

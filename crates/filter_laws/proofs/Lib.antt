@@ -6,3 +6,4 @@ pub mod NumberLemmas
 pub mod OrderLemmas
 pub mod PartedMaps
 pub mod RecyclingLemmas
+pub mod RowLemmas

@@ -55,7 +55,7 @@ own_events l times u e j after is at =
     ∙ ap (λ t. if t then e ∷ events_at l times home after else events_at l times home after) (same_as_itself home)
 
 -- the packet's one event, between what was left before it and what it leaves
-record IsPlaced (l : Layout) (times : Timeouts) (opening : Home → Pairs) (before : List Judged) (j : Judged)
+pub record IsPlaced (l : Layout) (times : Timeouts) (opening : Home → Pairs) (before : List Judged) (j : Judged)
     (u : Update) : Type 0 where
   pub event : Event
   pub is : j.event ≡ Some event
@@ -67,7 +67,7 @@ record IsPlaced (l : Layout) (times : Timeouts) (opening : Home → Pairs) (befo
       (events_at l times (home_of l u.key) before) left count
   pub step : IsEvent (bounds_in l (home_of l u.key).family) left count event leaves
 
-placed : (l : Layout) (times : Timeouts) (opening : Home → Pairs) (before after : List Judged) (j : Judged) (u : Update)
+pub placed : (l : Layout) (times : Timeouts) (opening : Home → Pairs) (before after : List Judged) (j : Judged) (u : Update)
     → IsOneThread l times opening (before ++ j ∷ after) → update_of times j.reading ≡ Some u
     → IsPlaced l times opening before j u
 placed l times opening before after j u thread is =
@@ -85,7 +85,7 @@ placed l times opening before after j u thread is =
     record { event = e; is = at; of = of; left = m; count = v; leaves = n; before_it = first; step = step }
 
 -- what is left after the packet
-leaves_behind : (l : Layout) (times : Timeouts) (opening : Home → Pairs) (before : List Judged) (j : Judged)
+pub leaves_behind : (l : Layout) (times : Timeouts) (opening : Home → Pairs) (before : List Judged) (j : Judged)
     (u : Update) → update_of times j.reading ≡ Some u → (p : IsPlaced l times opening before j u)
     → Leave l times opening (before ++ j ∷ []) (home_of l u.key) p.leaves
 leaves_behind l times opening before j u is p =

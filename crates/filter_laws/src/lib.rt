@@ -3,6 +3,7 @@
 
 mod ageing_laws;
 mod verdict_laws;
+mod verdict_table_laws;
 
 pub use ageing_laws::{
     ageing_filter_says_the_same, removed_sessions_are_live_for_no_later_packet,
@@ -13,3 +14,4 @@ pub use verdict_laws::{
     full_buckets_hold_live_sessions, interfaces_are_apart, only_expired_sessions_make_room,
     packets_pass_by_rule_or_session,
 };
+pub use verdict_table_laws::each_verdict_has_its_row;

@@ -1,7 +1,7 @@
 -- The call of each packet, and the step of each call.
-use Rattle.std.proofs.Common.{◌≡◌, ◌⊎◌, ◌∙◌, ◌+◌, ◌<◌, ℕ, zero, suc, Bool, true, false, cond, List, [], ◌∷◌, Option, Some, None, All, ap, ap₂, refl, sym, subst, arith, inl, inr}
+use Rattle.std.proofs.Common.{◌≡◌, ◌⊎◌, ◌∙◌, ◌+◌, ◌<◌, ℕ, zero, suc, Bool, true, false, cond, List, [], ◌∷◌, ◌++◌, length, Option, Some, None, All, ap, ap₂, refl, sym, subst, arith, inl, inr}
 use Rattle.std.specs.Prelude.{if◌then◌else◌, ◌==◌, ◌&&◌, option_map}
-use Rattle.std.proofs.lemmas.Bool.{and_parts, eqb-true}
+use Rattle.std.proofs.lemmas.Bool.{and_parts, eq-eqb, eqb-true}
 use Rattle.std.proofs.lemmas.Bool.Decides.{eqb_tells}
 use Rattle.std.proofs.lemmas.List.Elements.{All-head, All-tail}
 use lib.ListN.{get_elem?}
@@ -12,7 +12,7 @@ use Rattle.bihash_rule.specs.Histories.{event_of}
 use Rattle.bihash_rule.specs.declared.view.Call.{Call}
 use Rattle.bihash_rule.specs.declared.view.Record.{Record}
 use Rattle.bihash_rule.specs.declared.view.View.{View}
-use Rattle.bihash_steps.proofs.Lists.{there}
+use Rattle.bihash_steps.proofs.Lists.{at_after, there}
 use Rattle.session_state.specs.declared.flow.Flow.{Flow}
 use Rattle.session_state.specs.declared.timeouts.Timeouts.{Timeouts}
 use Rattle.session_state.specs.Flows.{flow_of}
@@ -23,6 +23,7 @@ use Rattle.flow_filter.specs.Judged.{AreAsked, IsAsked, IsAskedBy, Judged}
 use Rattle.flow_filter.specs.OneThread.{Home, Layout, add_event, family_of, home_of, same_family, same_home}
 use Rattle.flow_filter.proofs.HomeLemmas.{families_are_one, family_as_itself}
 use Rattle.packet_dealing.specs.Dealings.{Deal, flow_of_reading, worker_of}
+use Rattle.flow_dealing.specs.Places.{AreStepsBefore}
 use Rattle.flow_dealing.specs.WorkerRecords.{AreRecorded, IsByOwner, add_in, events_by}
 use Rattle.flow_dealing.proofs.DealtEvents.{events_by-judges, events_by-nil, events_by-removes, worker_few}
 use Rattle.flow_dealing.proofs.Places.{before_map}
@@ -88,6 +89,44 @@ pub events_by-flow : (d : Deal) (times : Timeouts) (family : Family) (w n : ℕ)
 events_by-flow d times family w n j steps = events_by-judges d times family w n j steps
     ∙ ap (λ es. cond (worker_of d n (flow_of_reading j.reading) == w) es (events_by d times family w (n + 1) steps))
     (add_in-flow family times j.reading j.event (events_by d times family w (n + 1) steps))
+
+-- ---- The steps before a packet
+
+pub steps_before : (steps : List Step) (k : ℕ) (j : Judged) → get_elem? (packets_in steps) k ≡ some j
+    → (earlier : List Step) × AreStepsBefore steps k j earlier
+steps_before [] k j at = absurd (some-ne-none j (sym at))
+steps_before (Removes r ∷ steps) k j at =
+    let (earlier, before) = steps_before steps k j at in (
+      Removes r ∷ earlier,
+      record { later = before.later; whole = ap (λ s. Removes r ∷ s) before.whole; count = before.count },
+    )
+steps_before (Judges x ∷ steps) zero j at =
+    ([], record { later = steps; whole = ap (λ y. Judges y ∷ steps) (some-injective x j at); count = refl })
+steps_before (Judges x ∷ steps) (suc k) j at =
+    let (earlier, before) = steps_before steps k j at in (
+      Judges x ∷ earlier,
+      record { later = before.later; whole = ap (λ s. Judges x ∷ s) before.whole; count = ap suc before.count },
+    )
+
+-- the steps before a packet are among those before one that comes later
+pub steps_between : (earlier next : List Step) (j i : Judged) (later last : List Step)
+    → earlier ++ (Judges j ∷ later) ≡ next ++ (Judges i ∷ last) → length (packets_in earlier) < length (packets_in next)
+    → (between : List Step) × (next ≡ earlier ++ (Judges j ∷ between))
+steps_between earlier [] j i later last same fewer = absurd (omega arith)
+steps_between [] (s ∷ next) j i later last same fewer =
+    let head : s ≡ Judges j = cc in (next, ap (λ x. x ∷ next) head)
+steps_between (r ∷ earlier) (s ∷ next) j i later last same fewer =
+    let head : s ≡ r = cc in
+    let tail : earlier ++ (Judges j ∷ later) ≡ next ++ (Judges i ∷ last) = cc in
+    let (between, whole) =
+    steps_between earlier next j i later last tail
+    (fewer_left r (subst (λ x. length (packets_in (r ∷ earlier)) < length (packets_in (x ∷ next))) head fewer)) in
+    (between, ap₂ (λ x xs. x ∷ xs) head whole)
+  where
+    fewer_left : (x : Step) → length (packets_in (x ∷ earlier)) < length (packets_in (x ∷ next))
+        → length (packets_in earlier) < length (packets_in next)
+    fewer_left (Judges y) less = omega arith
+    fewer_left (Removes y) less = less
 
 module _ (d : Deal) (times : Timeouts) (family : Family) where
   -- ---- The step of an event
@@ -177,75 +216,103 @@ module _ (d : Deal) (times : Timeouts) (family : Family) where
 
   -- ---- The event of a packet
 
-  abbrev Stands : List Event → Event → Type 0
-  Stands es e = (p : ℕ) × (get_elem? es p ≡ some e)
-
-  behind : (f : Option Flow) (event : Option Event) (E : List Event) (e : Event) → Stands E e
-      → Stands (add_flow family f event E) e
-  behind None event E e s = s
-  behind (Some flow) None E e s = s
-  behind (Some flow) (Some x) E e s = go (same_family family (family_of flow.key))
+  -- a worker's events of steps that follow others
+  add_flow-append : (f : Option Flow) (event : Option Event) (E F : List Event)
+      → add_flow family f event (E ++ F) ≡ add_flow family f event E ++ F
+  add_flow-append None event E F = refl
+  add_flow-append (Some flow) None E F = refl
+  add_flow-append (Some flow) (Some x) E F = go (same_family family (family_of flow.key))
     where
-      go : (t : Bool) → Stands (if t then x ∷ E else E) e
-      go true = (suc s.0, s.1)
-      go false = s
+      go : (t : Bool) → (if t then x ∷ (E ++ F) else (E ++ F)) ≡ (if t then x ∷ E else E) ++ F
+      go true = refl
+      go false = refl
 
-  pub event_of_packet : (w n : ℕ) (steps : List Step) (k : ℕ) (j : Judged) (flow : Flow) (e : Event)
-      → get_elem? (packets_in steps) k ≡ some j
-      → flow_of_reading j.reading ≡ Some flow → family_of flow.key ≡ family → j.event ≡ Some e
-      → worker_of d (n + k) (Some flow) ≡ w → Stands (events_by d times family w n steps) e
-  event_of_packet w n [] k j flow e at has inside its mine = absurd (some-ne-none j (sym at))
-  event_of_packet w n (Removes r ∷ steps) k j flow e at has inside its mine =
-      subst (λ es. Stands es e) (sym (events_by-removes d times family w n r steps))
-      (later (same_family family r.family && (r.worker == w)) (event_of_packet w n steps k j flow e at has inside its mine))
+  events_by-append : (w n : ℕ) (steps more : List Step) → events_by d times family w n (steps ++ more)
+      ≡ events_by d times family w n steps ++ events_by d times family w (n + length (packets_in steps)) more
+  events_by-append w n [] more =
+      let none : n ≡ n + 0 = omega arith in
+      ap (λ m. events_by d times family w m more) none
+      ∙ ap (λ es. es ++ events_by d times family w (n + 0) more) (sym (events_by-nil d times family w n))
+  events_by-append w n (Removes r ∷ steps) more =
+      events_by-removes d times family w n r (steps ++ more)
+      ∙ (go (same_family family r.family && (r.worker == w)) (events_by-append w n steps more)
+      ∙ ap (λ es. es ++ F) (sym (events_by-removes d times family w n r steps)))
     where
       E : List Event
       E = events_by d times family w n steps
 
-      later : (b : Bool) → Stands E e → Stands (cond b (r.event ∷ E) E) e
-      later true s = (suc s.0, s.1)
-      later false s = s
-  event_of_packet w n (Judges x ∷ steps) zero j flow e at has inside its mine =
-      let same : x ≡ j = some-injective x j at in
-      let own : worker_of d n (flow_of_reading x.reading) ≡ w = ap (λ (y : Judged). worker_of d n (flow_of_reading y.reading)) same
-      ∙ (ap (worker_of d n) has ∙ (let z : n ≡ n + 0 = omega arith in ap (λ m. worker_of d m (Some flow)) z ∙ mine)) in
-      let E : List Event = events_by d times family w (n + 1) steps in
-      let first : add_flow family (flow_of_reading x.reading) x.event E ≡ e ∷ E =
-      ap₂ (λ f ev. add_flow family f ev E) (ap (λ (y : Judged). flow_of_reading y.reading) same ∙ has)
-      (ap (λ (y : Judged). y.event) same ∙ its)
-      ∙ ap (λ (b : Bool). if b then e ∷ E else E) (ap (same_family family) inside ∙ family_as_itself family) in (
-        0,
-        ap (λ es. get_elem? es 0) (events_by-flow d times family w n x steps)
-            ∙ (ap (λ (b : Bool). get_elem? (cond b (add_flow family (flow_of_reading x.reading) x.event E) E) 0)
-            (elim (eqb_tells (worker_of d n (flow_of_reading x.reading)) w) [
-              | inl (test, _) ↦ test
-              | inr (test, other) ↦
-                  absurd (other own)
-            ])
-            ∙ ap (λ es. get_elem? es 0) first),
-      )
-  event_of_packet w n (Judges x ∷ steps) (suc k) j flow e at has inside its mine =
-      subst (λ es. Stands es e) (sym (events_by-flow d times family w n x steps))
-      (later (worker_of d n (flow_of_reading x.reading) == w)
-      (event_of_packet w (n + 1) steps k j flow e at has inside its
-      (let z : n + 1 + k ≡ n + suc k = omega arith in ap (λ m. worker_of d m (Some flow)) z ∙ mine)))
+      F : List Event
+      F = events_by d times family w (n + length (packets_in steps)) more
+
+      all : List Event
+      all = events_by d times family w n (steps ++ more)
+
+      go : (t : Bool) → all ≡ E ++ F → cond t (r.event ∷ all) all ≡ cond t (r.event ∷ E) E ++ F
+      go true both = ap (λ es. r.event ∷ es) both
+      go false both = both
+  events_by-append w n (Judges x ∷ steps) more =
+      events_by-flow d times family w n x (steps ++ more)
+      ∙ (go (worker_of d n (flow_of_reading x.reading) == w) (events_by-append w (n + 1) steps more)
+      ∙ ap₂ (λ es fs. es ++ fs) (sym (events_by-flow d times family w n x steps))
+      (let number : n + 1 + length (packets_in steps) ≡ n + suc (length (packets_in steps)) = omega arith in
+      ap (λ m. events_by d times family w m more) number))
     where
       E : List Event
       E = events_by d times family w (n + 1) steps
 
-      later : (b : Bool) → Stands E e → Stands (cond b (add_flow family (flow_of_reading x.reading) x.event E) E) e
-      later true s = behind (flow_of_reading x.reading) x.event E e s
-      later false s = s
+      F : List Event
+      F = events_by d times family w (n + 1 + length (packets_in steps)) more
+
+      all : List Event
+      all = events_by d times family w (n + 1) (steps ++ more)
+
+      add : List Event → List Event
+      add es = add_flow family (flow_of_reading x.reading) x.event es
+
+      go : (t : Bool) → all ≡ E ++ F → cond t (add all) all ≡ cond t (add E) E ++ F
+      go true both = ap add both ∙ add_flow-append (flow_of_reading x.reading) x.event E F
+      go false both = both
+
+  -- a packet of this worker has its event before those of the steps that follow
+  event_first : (w n : ℕ) (j : Judged) (flow : Flow) (e : Event) (later : List Step)
+      → flow_of_reading j.reading ≡ Some flow → family_of flow.key ≡ family → j.event ≡ Some e
+      → worker_of d n (Some flow) ≡ w → events_by d times family w n (Judges j ∷ later) ≡ e ∷ events_by d times family w (n + 1) later
+  event_first w n j flow e later has inside its mine =
+      events_by-flow d times family w n j later
+      ∙ (ap (λ (b : Bool). cond b (add_flow family (flow_of_reading j.reading) j.event E) E)
+      (eq-eqb (worker_of d n (flow_of_reading j.reading)) w (ap (worker_of d n) has ∙ mine))
+      ∙ (ap₂ (λ f ev. add_flow family f ev E) has its
+      ∙ ap (λ (b : Bool). if b then e ∷ E else E) (ap (same_family family) inside ∙ family_as_itself family)))
+    where
+      E : List Event
+      E = events_by d times family w (n + 1) later
+
+  -- the packet's event stands behind those of the steps before it
+  pub event_of_packet : (w : ℕ) (steps earlier : List Step) (k : ℕ) (j : Judged) (flow : Flow) (e : Event)
+      → (before : AreStepsBefore steps k j earlier)
+      → flow_of_reading j.reading ≡ Some flow → family_of flow.key ≡ family → j.event ≡ Some e → worker_of d k (Some flow) ≡ w
+      → events_by d times family w 0 steps
+      ≡ events_by d times family w 0 earlier ++ (e ∷ events_by d times family w (k + 1) before.later)
+  event_of_packet w steps earlier k j flow e before has inside its mine =
+      let number : 0 + length (packets_in earlier) ≡ k = let c = before.count in omega arith in
+      ap (events_by d times family w 0) before.whole
+      ∙ (events_by-append w 0 earlier (Judges j ∷ before.later)
+      ∙ ap (λ es. events_by d times family w 0 earlier ++ es)
+      (ap (λ m. events_by d times family w m (Judges j ∷ before.later)) number
+      ∙ event_first w k j flow e before.later has inside its mine))
 
   -- ---- The call of a packet
 
-  pub record IsCallFor (v : View) (worker : ℕ) (e : Event) : Type 0 where
+  pub record IsCallFor (steps : List Step) (v : View) (number : ℕ) (j : Judged) (worker : ℕ) (e : Event) : Type 0 where
     pub record_at : Record
     pub stands : get_elem? v.records worker ≡ some record_at
+    pub earlier : List Step
+    pub are_earlier : AreStepsBefore steps number j earlier
     pub place : ℕ
     pub call : Call
     pub called : get_elem? record_at.calls place ≡ some call
     pub event : event_of call ≡ e
+    pub behind : place ≡ length (events_by d times family worker 0 earlier)
 
   module _ (steps : List Step) (v : View) (recorded : AreRecorded d times family steps v) where
     pub some_worker : 0 < d.workers
@@ -253,13 +320,27 @@ module _ (d : Deal) (times : Timeouts) (family : Family) where
 
     pub call_of_packet : (k : ℕ) (j : Judged) (flow : Flow) (e : Event)
         → get_elem? (packets_in steps) k ≡ some j → flow_of_reading j.reading ≡ Some flow → family_of flow.key ≡ family → j.event ≡ Some e
-        → IsCallFor v (worker_of d k (Some flow)) e
+        → IsCallFor steps v k j (worker_of d k (Some flow)) e
     call_of_packet k j flow e at has inside its =
         let w : ℕ = worker_of d k (Some flow) in
         let r =
         there v.records w (let few = worker_few d k (Some flow) some_worker in let count = recorded.count in
         omega arith) in
-        let number : 0 + k ≡ k = omega arith in
-        let s = event_of_packet w 0 steps k j flow e at has inside its (ap (λ m. worker_of d m (Some flow)) number) in
-        let c = before_map event_of r.0.calls s.0 e (ap (λ es. get_elem? es s.0) (recorded.each w r.0 r.1) ∙ s.1) in
-        record { record_at = r.0; stands = r.1; place = s.0; call = c.0; called = c.1; event = c.2 }
+        let (earlier, before) = steps_before steps k j at in
+        let E : List Event = events_by d times family w 0 earlier in
+        let F : List Event = e ∷ events_by d times family w (k + 1) before.later in
+        let last : length E + 0 ≡ length E = omega arith in
+        let c = before_map event_of r.0.calls (length E) e (ap (λ es. get_elem? es (length E))
+        (recorded.each w r.0 r.1 ∙ event_of_packet w steps earlier k j flow e before has inside its refl)
+        ∙ (ap (get_elem? (E ++ F)) (sym last) ∙ at_after E F 0 e refl)) in
+        record {
+          record_at = r.0;
+          stands = r.1;
+          earlier = earlier;
+          are_earlier = before;
+          place = length E;
+          call = c.0;
+          called = c.1;
+          event = c.2;
+          behind = refl;
+        }

@@ -7,14 +7,14 @@ ghost use Rattle.packet_view.specs.declared.tuple.Family.{Family};
 ghost use Rattle.acl_policy.specs.Policies.{PolicyFacts};
 ghost use Rattle.session_state.specs.declared.timeouts.Timeouts.{Timeouts};
 ghost use Rattle.session_state.specs.declared.verdict.Verdict.{Verdict};
-ghost use Rattle.flow_filter.specs.Ageing.{Removal};
+ghost use Rattle.flow_filter.specs.Ageing.{Removal, Step};
 ghost use Rattle.flow_filter.specs.OneThread.{AreVerdicts};
 ghost use Rattle.packet_dealing.specs.declared.dealing.Dealing.TheVariants.{Bucket};
 ghost use Rattle.flow_dealing.specs.Views.{Views, view_in};
 ghost use Rattle.flow_dealing.specs.AgeingTraces.{AreAllDeeds, Deed, HaveDone, items_in};
 ghost use Rattle.packet_dealing.specs.Dealings.{Deal};
 ghost use Rattle.flow_dealing.specs.Traces.{ArePlaced};
-ghost use Rattle.flow_dealing.specs.Places.{PassAtPlaces};
+ghost use Rattle.flow_dealing.specs.Places.{HaveOwnCalls, PassAtPlaces};
 ghost use Rattle.flow_dealing.specs.WorkerRecords.{AreFew, AreFewBetween, AreInTimeOrder, AreJudged, AreJudgedAgeing, AreJudgedBetween, AreWithinLimit, HasPagesIn, HavePages, RemoveInTime};
 
 /// Where each worker judged the packets that were dealt to it, and where workers age removed sessions that had ended between
@@ -68,10 +68,12 @@ pub fn few_packets_have_pages()
         → AreFewBetween d.layout times family removals are.judged → All (HasPagesIn times family) are.judged }
 {}
 
-/// The main promise. Whatever packets are dealt by, whichever sessions are removed, and whatever verdicts say: each packet of a flow has its event in the
-/// record of the worker that it is dealt to, at one place in the history of its bucket, and passes exactly where the map
-/// there holds a live session of its flow, or the first rule that matches lets it through.
+/// The main promise. Whatever packets are dealt by, whichever sessions are removed, and whatever verdicts say: each packet
+/// of a flow has its event in the record of the worker that it is dealt to, as a call of its own, at one place in the
+/// history of its key's bucket, and passes exactly where the map there holds a live session of its flow, or the first rule
+/// that matches lets it through.
 pub fn packets_pass_at_their_places()
-    ensures { (d : Deal) (times : Timeouts) (policy : PolicyFacts) (packets : List PacketFacts)
+    ensures places { (d : Deal) (times : Timeouts) (policy : PolicyFacts) (packets : List PacketFacts)
         (verdicts : List Verdict) → PassAtPlaces d times policy packets verdicts }
+    ensures own { (d : Deal) (times : Timeouts) (steps : List Step) (views : Views) → HaveOwnCalls d times steps views }
 {}

@@ -88,7 +88,7 @@ abbrev verdict_by_session : Bool → Update → Ruling → Event → Verdict
 verdict_by_session live u ruling e = if live then verdict.Session else unlive_verdict u.patch.reflects ruling e.reply
 
 -- the call of a packet that reflects without a live session is taken exactly where its session stands then
-taken_starts : (u : Update) (b : Bounds) (m n : Pairs) (w : ℕ) (e : Event) → IsEventOf u e → IsEvent b m w e n
+pub taken_starts : (u : Update) (b : Bounds) (m n : Pairs) (w : ℕ) (e : Event) → IsEventOf u e → IsEvent b m w e n
     → is_live_for u.patch e.found ≡ false → u.patch.reflects ≡ true → IsTaken e.reply ↔ HoldsStarted u n
 taken_starts u b m n w e of step none starts =
     let value : ℕ = session_word (started_session u.patch) in

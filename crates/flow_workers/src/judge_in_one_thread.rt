@@ -6,6 +6,7 @@ ghost use Rattle.flow_workers.specs.inner.Together.{HasJudgedNext, HaveJudgedBat
 ghost use Rattle.flow_workers.specs.inner.Turns.{MayJudgeBatch};
 
 use crate::gate::Gate;
+use crate::loads_ahead::load_ahead_at;
 use crate::worker_packet_verdict::{judge_other, judge_packet, judge_sighting};
 use crate::worker_share::{Batch, JudgedBatch, Share};
 use bihash_words::Shape;
@@ -50,6 +51,7 @@ fn judge_by_one<A: Shape, B: Shape, R: Wait, G: Gate>(
     let mut packets = PacketBursts::new(batch.packets);
     let mut taken = 0;
     'packets: while let Some(packet) = packets.next() {
+        load_ahead_at(taken, batch.setup.tables, packets.found_ahead());
         judge_packet(batch, 0, taken, &packet, share)?;
         taken += 1;
     }

@@ -1,11 +1,16 @@
 //! The verdict on one packet, by one update at most.
 ghost use Rattle.std.specs.Prelude.{Ok};
 ghost use Rattle.std.specs.declared.convert.Infallible.{Infallible};
+ghost use Rattle.packet_view.specs.Captures.{packet_facts};
 ghost use Rattle.packet_view.specs.Frames.{frame_facts};
+ghost use Rattle.acl_policy.specs.Policies.{policy_facts};
 ghost use Rattle.bihash_table.specs.Tries.{TookByTries};
 ghost use Rattle.flow_filter.specs.Filters.{section_in};
+ghost use Rattle.flow_filter.specs.InterfaceFilters.{IsReadyAt};
+ghost use Rattle.flow_filter.specs.declared.filter.Filter.{Filter};
 ghost use Rattle.flow_filter.specs.Liveness.{IsForeseen};
 ghost use Rattle.flow_filter.specs.OneThread.{layout_of};
+ghost use Rattle.flow_filter.specs.Readings.{IsSeenAt};
 ghost use Rattle.packet_dealing.specs.HashedFlows.{IsHashed};
 ghost use Rattle.flow_workers.specs.Calls.{MayAsk, TellsVerdict};
 ghost use Rattle.flow_workers.specs.Judging.{TookByOneTry};
@@ -21,7 +26,7 @@ use bihash_table::Contended;
 use bihash_words::Shape;
 use flow_filter::{Filter, HasReading, InterfaceFilter};
 use packet_dealing::{HashedFlow, flow_of_frame};
-use packet_view::{Packet, view};
+use packet_view::{Frame, Packet, view};
 use session_state::{SessionExpiry, Verdict};
 use std::marker::Brand;
 use std::sync::Wait;
@@ -82,6 +87,26 @@ pub fn judge<A: Shape, B: Shape, R: Wait>(
     verdict
 }
 
+/// The verdict on a packet whose frame turned out to be this, by a filter that is ready at its interface, by one try.
+/// `Contended`: another caller's change or lock was met.
+#[inline(always)]
+pub fn try_judge_at<A: Shape, B: Shape>(
+    filter: &InterfaceFilter<'_>,
+    tables: &Tables<A, B>,
+    callers: &mut Callers<A, B>,
+    packet: &Packet<'_>,
+    frame: &Frame,
+) -> Result<Verdict, Contended>
+    requires asks { MayAsk tables.now callers.old }
+    requires seen { IsSeenAt filter.now.own (packet_facts packet.now) (frame_facts frame.now) }
+    ensures { (whole : Filter) → IsReadyAt (policy_facts whole.policy) whole.times packet.now.interface filter.now
+        → TellsVerdict TookByOneTry whole packet.now tables.now callers.old callers.new result }
+{
+    let hashed = HashedFlow::of::<A, B>(flow_of_frame(frame));
+    let packet = ViewedPacket::new(packet.moment, frame, &hashed);
+    judge_as::<A, B, Brand, OneTry>(&OneTry, filter, tables, callers, &packet)
+}
+
 /// The verdict on a packet, by one try. `Contended`: another caller's change or lock was met.
 pub fn try_judge<A: Shape, B: Shape>(
     filter: &Filter,
@@ -94,7 +119,5 @@ pub fn try_judge<A: Shape, B: Shape>(
 {
     let filter = filter.ready(packet.interface);
     let frame = view(packet.frame, packet.interface, filter.own);
-    let hashed = HashedFlow::of::<A, B>(flow_of_frame(&frame));
-    let packet = ViewedPacket::new(packet.moment, &frame, &hashed);
-    judge_as::<A, B, Brand, OneTry>(&OneTry, &filter, tables, callers, &packet)
+    try_judge_at(&filter, tables, callers, packet, &frame)
 }

@@ -1,7 +1,8 @@
 -- Packets that are taken one after another, or put into places and taken from there.
 use Rattle.std.proofs.Common.{◌≡◌, ◌∙◌, ◌<◌, ◌≤◌, ◌+◌, ◌-◌, ◌++◌, ℕ, zero, suc, List, [], ◌∷◌, Option, Some, None, add-one, append_assoc, ap, ap₂, arith, refl}
 use Rattle.std.proofs.Common.{drop, length, map, slice_index_or, slice_set, sym, take}
-use Rattle.std.proofs.lemmas.List.{drop_all, drop_more, get_or-take, length-drop, length-take-le, map-append}
+use Rattle.std.proofs.Math.Seq.{take-append_seam}
+use Rattle.std.proofs.lemmas.List.{drop-take, drop_all, drop_more, get_or-take, length-drop, length-map, length-take-le, map-append}
 use Rattle.std.proofs.lemmas.List.{take-append-drop, take_at, take_more_set, take_rest}
 use Rattle.packet_view.specs.declared.packet.Packet.{Packet}
 use Rattle.packet_view.specs.Captures.{PacketFacts, Takes, packet_facts}
@@ -78,3 +79,17 @@ found_at found at end unused left more fits =
     ap (λ (ps : List Packet). map packet_facts ps ++ left) (drop_more (take end found) at unused (omega arith))
     ∙ ap (λ (p : Packet). packet_facts p ∷ (map packet_facts (drop (at + 1) (take end found)) ++ left))
     (get_or-take end found at unused more)
+
+-- the packets that were found and are not yet taken, in front of those that are left
+pub found_front : (found : List Packet) (at end : ℕ) (rest : List PacketFacts) → at ≤ end → end ≤ length found
+    → map packet_facts (take (end - at) (drop at found)) ≡ take (end - at) (map packet_facts (drop at (take end found)) ++ rest)
+found_front found at end rest order inside =
+    let e : at + (end - at) ≡ end = omega arith in
+    let same : drop at (take end found) ≡ take (end - at) (drop at found) =
+    ap (λ n. drop at (take n found)) (sym e) ∙ drop-take at (end - at) found in
+    let size : length (map packet_facts (take (end - at) (drop at found))) ≡ end - at =
+    length-map (take (end - at) (drop at found)) packet_facts
+    ∙ length-take-le (end - at) (drop at found) (let d = length-drop at found in omega arith) in
+    sym (ap (λ xs. take (end - at) (map packet_facts xs ++ rest)) same
+    ∙ ap (λ n. take n (map packet_facts (take (end - at) (drop at found)) ++ rest)) (sym size)
+    ∙ take-append_seam (map packet_facts (take (end - at) (drop at found))) rest)

@@ -65,6 +65,14 @@ impl<'a> PacketBursts<'a> {
         Some(packet)
     }
 
+    /// The next packets, as many as were found and are not yet taken, in their order.
+    #[inline]
+    pub fn found_ahead(&self) -> &[Packet<'a>]
+        ensures { map packet_facts result.now ≡ take self.now.ready self.now.left }
+    {
+        &self.found[self.at..self.end]
+    }
+
     // Finds the next packets, where all that were found are taken.
     #[inline(never)]
     fn fill(&mut self)

@@ -1,9 +1,9 @@
 -- What is right in a policy, but unlikely to be meant.
-use Rattle.std.specs.Prelude.{◌≡◌, ◌≢◌, ◌<◌, ℕ, ◌+◌, ◌-◌, ◌%◌, ◌^◌, List, [], All, slice_get, Some, None}
+use Rattle.std.specs.Prelude.{◌≡◌, ◌≢◌, ◌≤◌, ◌<◌, ◌⊎◌, ℕ, ◌+◌, ◌-◌, ◌%◌, ◌^◌, bit_and, List, [], All, slice_get, Some, None}
 use Rattle.packet_view.specs.Tuples.{TupleFacts}
 use Rattle.packet_view.specs.declared.tuple.Direction.{Direction}
 use Rattle.packet_view.specs.declared.tuple.Family.{Family}
-use Rattle.acl_policy.specs.Matching.{Matches}
+use Rattle.acl_policy.specs.Matching.{HoldsPrefix, Matches}
 use Rattle.acl_policy.specs.Policies.{PolicyFacts, SectionFacts, rules_of}
 use Rattle.acl_policy.specs.Rules.{RuleFacts}
 use Rattle.policy_words.specs.Widths.{width}
@@ -14,15 +14,49 @@ use Rattle.policy_check.specs.declared.remark_kinds.Remark.TheVariants.{NoMac, N
 abbrev pub TakesAll : RuleFacts → RuleFacts → Type 0
 TakesAll earlier later = (tuple : TupleFacts) → Matches later tuple → Matches earlier tuple
 
+-- A prefix is no longer than another, and has its address.
+abbrev pub CoversPrefix : Family → ℕ × ℕ → ℕ × ℕ → Type 0
+CoversPrefix family earlier later = (earlier.1 ≤ later.1) × HoldsPrefix family earlier later.0
+
+-- A range has both ends of another.
+abbrev pub CoversRange : ℕ × ℕ → ℕ × ℕ → Type 0
+CoversRange earlier later = (earlier.0 ≤ later.0) × (later.1 ≤ earlier.1)
+
+-- Flags whose bits under the later mask are the later value have the earlier value under the earlier mask.
+abbrev pub CoversFlags : RuleFacts → RuleFacts → Type 0
+CoversFlags earlier later =
+    (bit_and later.mask earlier.mask ≡ earlier.mask) × (bit_and later.value earlier.mask ≡ earlier.value)
+
+abbrev pub CoversFields : RuleFacts → RuleFacts → Type 0
+CoversFields earlier later = CoversRange earlier.first later.first × CoversRange earlier.second later.second × CoversFlags earlier later
+
+-- A rule covers another: the same family; prefixes that hold those of the other; and no protocol, or the same one,
+-- ranges that hold those of the other, and flags that follow from those of the other.
+pub record Covers (earlier later : RuleFacts) : Type 0 where
+  pub family : earlier.family ≡ later.family
+  pub source : CoversPrefix earlier.family earlier.source later.source
+  pub dest : CoversPrefix earlier.family earlier.dest later.dest
+  pub fields : (earlier.proto ≡ 0) ⊎ ((earlier.proto ≡ later.proto) × CoversFields earlier later)
+
+-- No rule before a place covers this one.
+abbrev pub NoneCovers : List RuleFacts → ℕ → RuleFacts → Type 0
+NoneCovers rules place later = (k : ℕ) → k < place → (other : RuleFacts) → slice_get rules k ≡ Some other → Covers other later → ⊥
+
 -- A prefix with bits behind its length, which aren't looked at.
 abbrev pub HasBits : Family → ℕ × ℕ → Type 0
 HasBits family prefix = prefix.0 % 2 ^ (width family - prefix.1) ≢ 0
 
--- The rule at a place, counted from 0, is never the first that matches: one before it takes all its packets.
-abbrev pub IsShadowed : List RuleFacts → ℕ → ℕ → Type 0
-IsShadowed rules place first =
-    (first < place)
-    × ((earlier later : RuleFacts) × (slice_get rules first ≡ Some earlier) × (slice_get rules place ≡ Some later) × TakesAll earlier later)
+-- The rule at a place, counted from 0, is never the first that matches: the first before it that covers it takes all its
+-- packets.
+pub record IsShadowed (rules : List RuleFacts) (place first : ℕ) : Type 0 where
+  pub before : first < place
+  pub earlier : RuleFacts
+  pub later : RuleFacts
+  pub stands : slice_get rules first ≡ Some earlier
+  pub is : slice_get rules place ≡ Some later
+  pub takes : TakesAll earlier later
+  pub covers : Covers earlier later
+  pub none : NoneCovers rules first later
 
 -- What is said of the rule at a place of a section; rules are told by their numbers from 1.
 abbrev pub IsRuleRemark : SectionFacts → Direction → ℕ → Remark → Type 0

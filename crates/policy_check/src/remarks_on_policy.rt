@@ -1,9 +1,9 @@
 //! The remarks on a policy.
-ghost use Rattle.std.specs.Prelude.{◌≡◌, ◌≤◌, ◌<◌, ◌++◌, All, IfOk, IfSome, IsTrue, None, OnOk, length, map, option_to_list};
+ghost use Rattle.std.specs.Prelude.{◌≡◌, ◌≤◌, ◌<◌, ◌++◌, All, IfOk, IfSome, IsTrue, None, OnOk, Some, length, map, option_to_list, slice_get};
 ghost use Rattle.acl_policy.specs.Policies.{policy_facts, rules_of, section_facts};
-ghost use Rattle.acl_policy.specs.Rules.{rule_facts};
+ghost use Rattle.acl_policy.specs.Rules.{RuleFacts, rule_facts};
 ghost use Rattle.policy_words.specs.Widths.{width};
-ghost use Rattle.policy_check.specs.Remarks.{HasBits, HasNoRule, IsRemark, IsRuleRemark, IsSectionRemark, IsShadowed, LacksMac};
+ghost use Rattle.policy_check.specs.Remarks.{HasBits, HasNoRule, IsRemark, IsRuleRemark, IsSectionRemark, IsShadowed, LacksMac, NoneCovers};
 ghost use Rattle.policy_check.specs.declared.remark_kinds.Remark.TheVariants.{NoMac};
 ghost use Rattle.policy_check.specs.inner.Added.{Adds};
 
@@ -36,10 +36,12 @@ fn rules_for_remarks(section: &Section, direction: Direction) -> &[Rule]
     }
 }
 
-// The first rule before this one that takes all its packets, by its place, for the remark that this one never decides.
+// The first rule before this one that covers it, by its place, for the remark that this one never decides.
 fn taker(rules: &[Rule], place: usize) -> Option<usize>
     requires { place < length rules.now }
-    ensures { IfSome result (IsShadowed (map rule_facts rules.now) place) }
+    ensures first { IfSome result (IsShadowed (map rule_facts rules.now) place) }
+    ensures none { result ≡ None → (later : RuleFacts) → slice_get (map rule_facts rules.now) place ≡ Some later
+        → NoneCovers (map rule_facts rules.now) place later }
 {
     for i in 0..place {
         if takes_all(&rules[i], &rules[place]) {

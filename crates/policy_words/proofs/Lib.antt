@@ -9,5 +9,6 @@ pub mod PieceLaws
 pub mod PlaceLemmas
 pub mod PrefixLaws
 pub mod RangeLaws
+pub mod ReaderLaws
 pub mod TrafficLaws
 pub mod WordLemmas

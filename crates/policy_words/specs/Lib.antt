@@ -1,5 +1,6 @@
 pub mod Numerals
 pub mod Prefixes
+pub mod Readers
 pub mod Traffic
 pub mod Widths
 pub mod Words

@@ -1,5 +1,5 @@
 -- A session and its word give each other back.
-use Rattle.std.proofs.Common.{◌≡◌, ◌≢◌, ◌∙◌, ◌≤◌, ◌<◌, ◌+◌, ◌*◌, ◌/◌, ◌%◌, ◌^◌, ℕ, Bool, true, false, ap, ap₂, arith, sym, subst, refl, inl, inr, Some, None, if◌then◌else◌, ◌==◌, ◌&&◌, nat_lt}
+use Rattle.std.proofs.Common.{◌≡◌, ◌∙◌, ◌≤◌, ◌<◌, ◌+◌, ◌*◌, ◌/◌, ◌%◌, ◌^◌, ℕ, Bool, true, false, ap, ap₂, arith, sym, subst, refl, inl, inr, Some, None, if◌then◌else◌, ◌==◌, ◌&&◌, nat_lt}
 use Rattle.std.proofs.lemmas.Bool.{eq-eqb, eqb-true, ltb-true}
 use Rattle.std.proofs.lemmas.Bool.Decides.{eqb_tells}
 use Rattle.std.proofs.lemmas.Nat.{and_le_r}
@@ -77,16 +77,15 @@ bit_fits : (tcp : Bool) → (if tcp then 1 else 0) ≤ 1
 bit_fits true = omega arith
 bit_fits false = omega arith
 
--- the word of a session is no mark of a free place
-pub word_is_storable : (session : SessionFacts) → IsSession session → session_word session ≢ free_mark
-word_is_storable session fits free =
+-- the word of a session may be stored
+pub word_is_storable : (session : SessionFacts) → IsSession session → session_word session < free_mark
+word_is_storable session fits =
     omega (
       arith,
       fits.moment,
       flags_fit session.first_flags fits.first,
       flags_fit session.second_flags fits.second,
       bit_fits session.tcp,
-      free,
     )
 
 -- a session is the session of its word

@@ -1,5 +1,5 @@
 -- A load of a bucket's word: what the word says, and what the caller then knows.
-use Rattle.std.proofs.Common.{◌≡◌, ℕ, ◌+◌, ◌^◌, ◌<◌, ◌≤◌, Bool, true, false, List, length, refl, sym, ap, ◌∙◌, subst, inl, inr, arith, le_refl, pow_pos, Option, Some, None}
+use Rattle.std.proofs.Common.{◌≡◌, ℕ, ◌<◌, ◌≤◌, true, false, List, length, refl, sym, ap, ◌∙◌, subst, inl, inr, arith, le_refl, Option, Some, None}
 use mathlib.Core.Logic.{dite}
 use mathlib.Core.Option.{some, some-ne-none}
 use native.Mathlib.Decide.{ℕ_discrete}
@@ -7,22 +7,19 @@ use lib.ListN.{get_elem?}
 use Rattle.std.specs.Prelude.{slice_index, is_some}
 use Rattle.atomic_table.specs.Table.{State, Act, keeps, Valid, stepped, carried_after, Allows}
 use Rattle.bihash_words.specs.Sizes.{Sizes}
-use Rattle.bihash_words.specs.Words.{FitsWord, packed}
+use Rattle.bihash_words.specs.Words.{packed}
 use Rattle.bihash_rule.specs.Words.{count_of, buckets, bucket_at}
 use Rattle.bihash_rule.specs.Histories.{IsWriteList, after}
 use Rattle.bihash_rule.specs.Callers.{known_at, opening_in}
 use Rattle.bihash_rule.specs.declared.view.Openings.{Openings}
 use Rattle.bihash_rule.specs.Blocks.{IsBlockOf}
-use Rattle.bihash_rule.specs.Partition.{of_bucket}
-use Rattle.bihash_rule.specs.Buckets.{AreReadIn, BucketState, HoldsBucketIf, StandsStillIf, open_word, word_of}
-use Rattle.bihash_rule.specs.PageStores.{runs_now}
+use Rattle.bihash_rule.specs.Buckets.{AreReadIn, BucketState, HoldsBucketIf, StandsStillIf, word_of}
 use Rattle.bihash_rule.specs.Views.{no_notes}
 use Rattle.bihash_rule.specs.WordRule.{TableState, IsView, WordRule}
 use Rattle.bihash_steps.specs.Steps.{ViewOfSeat}
 use Rattle.bihash_steps.specs.BucketSteps.{without_notes, with_history, open_on, IsFound, RestsOpen, SeesOpen, TellsBucket}
 use Rattle.bihash_rule.specs.declared.view.Holdings.{Holdings}
 use Rattle.bihash_rule.specs.declared.view.LockedBucket.{LockedBucket}
-use Rattle.bihash_rule.specs.declared.view.OpenBucket.{OpenBucket}
 use Rattle.bihash_rule.specs.declared.view.View.{View}
 use Rattle.bihash_steps.proofs.KnownLists.{lawful_here, logged_at}
 use Rattle.bihash_steps.proofs.Lists.{there, no_row}

@@ -38,9 +38,8 @@ module _ (z : Sizes) where
         → HasRoomFor z block word found
     has_room word found is None e = tt
     has_room Used found is (Some h) e = tt
-    has_room (Count log2) found is (Some h) e = λ of. subst (λ (k : ℕ). k < list_words z log2) (sym is)
-        (subst (λ (k : PageStore). length (returned_in k log2) < list_words z log2) (sym same)
-        (subst (λ (log2 : ℕ). length (returned_in q.store log2) < list_words z log2) of (room_for z s r id v h at e)))
+    has_room (Count log2) found is (Some h) e = λ small near. subst (λ (k : ℕ). k < list_words z log2) (sym is)
+        (subst (λ (k : PageStore). length (returned_in k log2) < list_words z log2) (sym same) (room_for z s r id v h at e log2 small near))
     has_room (Listed log2 i) found is (Some h) e = tt
 
   pub loads_pool : (slots id at : ℕ) (m : ViewOfSeat) → Allows (WordRule z) slots id m at (λ n. n) (TellsPoolWord z at m)

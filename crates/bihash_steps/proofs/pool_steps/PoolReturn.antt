@@ -3,12 +3,14 @@ use Rattle.std.proofs.Common.{◌≡◌, ◌≢◌, ℕ, zero, suc, ◌+◌, ◌
 use mathlib.Core.Logic.{dite}
 use native.Mathlib.Decide.{ℕ_discrete}
 use Rattle.std.specs.Prelude.{slice_index, slice_set}
-use Rattle.atomic_table.specs.Table.{keeps, Allows}
+use lib.ListN.{get_elem?}
+use mathlib.Core.Option.{some}
+use Rattle.atomic_table.specs.Table.{State, keeps, Allows}
 use Rattle.bihash_words.specs.Sizes.{Sizes}
 use Rattle.bihash_words.specs.Words.{bit}
 use Rattle.bihash_rule.specs.Words.{returned_count_at, list_words, list_at, front_words, page_words, all_words, Stands}
 use Rattle.bihash_rule.specs.Partition.{IsPartition, run_of}
-use Rattle.bihash_rule.specs.PageStores.{StoreState, IsStore, returned_in, all_used, IsListed, IsListedIf, HoldsStore, HoldsBlock, HoldsBlockIf, run_in}
+use Rattle.bihash_rule.specs.PageStores.{StoreState, IsStore, returned_in, all_used, IsListed, IsListedIf, HoldsBlock, HoldsBlockIf, run_in}
 use Rattle.bihash_rule.specs.WordRule.{WordRule}
 use Rattle.bihash_steps.specs.Steps.{ViewOfSeat}
 use Rattle.bihash_steps.specs.StoreSteps.{holding, MayList, listing, TellsListed, MayReturn, relisted, TellsReturned}
@@ -55,7 +57,7 @@ module _ (z : Sizes) where
         settled = ok.settled;
       }
 
-  pub lists_page : (slots id at log2 count page : ℕ) (m : ViewOfSeat) → MayList z m.0 log2 count page → at ≡ list_at z log2 + count
+  pub lists_page : (slots id at log2 count page : ℕ) (m : ViewOfSeat) → MayList z m.0 log2 count → at ≡ list_at z log2 + count
       → 1 ≤ length m.0.records → Allows (WordRule z) slots id m at (λ _. page) (λ _. TellsListed z at page m)
   lists_page slots id at log2 count page m may is acts s r deep seat fits = (
     holding v (Some known) v.holds.block,
@@ -135,6 +137,29 @@ module _ (z : Sizes) where
         settled = settled;
       }
 
+  -- a list counts the page that stands after its last
+  pub counts_listed : (words : List ℕ) (most log2 page : ℕ) (q : StoreState) → length words ≡ all_words z
+      → IsListed z words q.store (record { log2 = log2; page = page }) → IsStore z words most q
+      → IsStore z (set words (returned_count_at log2) (length (returned_in q.store log2 ++ page ∷ []))) most
+      (record q { store = relisted q.store log2 page })
+  counts_listed words most log2 page q whole item ok =
+      let xs : List ℕ = returned_in q.store log2 in
+      let all = length-append xs (page ∷ []) in let fits = item.room in
+      relist words most log2 (xs ++ page ∷ []) q.store.unpublished q whole item.small (omega arith)
+      (λ k lt. dite (ℕ_discrete k (length xs))
+      (λ e. ap (λ (t : ℕ). slice_index words (list_at z log2 + t)) e
+      ∙ (item.stands ∙ (sym (last_at xs page) ∙ ap (slice_index (xs ++ page ∷ [])) (sym e))))
+      (λ ne. ok.lists log2 item.small k (omega arith) ∙ sym (first_at xs page k (omega arith))))
+      ok.bound ok.settled ok
+
+  -- the page that the holder of the allocation lock wrote stands there
+  pub listed_page : (s : State (Unit {0}) View) (r : WordRule z s) (id : ℕ) (v : View) → get_elem? s.views id ≡ some v
+      → (n : LockedStore) → v.holds.store ≡ Some n → (log2 page : ℕ) → n.listed ≡ Some (record { log2 = log2; page = page })
+      → IsListed z s.words n.store (record { log2 = log2; page = page })
+  listed_page s r id v at n held log2 page is = let has = held_store z s r id v at n held in
+      subst (λ (store : PageStore). IsListed z s.words store (record { log2 = log2; page = page })) (sym has.store)
+      (subst (IsListedIf z s.words r.table.store.store) is has.listed)
+
   pub returns_block : (slots id at number log2 count : ℕ) (m : ViewOfSeat) → MayReturn z m.0 log2 count → at ≡ returned_count_at log2
       → number ≡ count + 1 → 1 ≤ length m.0.records → Allows (WordRule z) slots id m at (λ _. number) (λ _. TellsReturned z at number m)
   returns_block slots id at number log2 count m may is more acts s r deep seat fits = (
@@ -173,30 +198,15 @@ module _ (z : Sizes) where
       ok : IsStore z s.words (all_used z r.table.openings r.table.bucket) (record { store = n.store; lock = Some id })
       ok = known_store z s r id v seat n may.store
 
-      has : HoldsStore z s.words r.table.store id n
-      has = held_store z s r id v seat n may.store
-
-      item : IsListed z s.words n.store (record { log2 = log2; page = b.page })
-      item = subst (λ (store : PageStore). IsListed z s.words store (record { log2 = log2; page = b.page })) (sym has.store)
-          (subst (IsListedIf z s.words r.table.store.store) may.page has.listed)
-
       has_block : HoldsBlock z s.words b
       has_block = subst (HoldsBlockIf z s.words) may.held (r.each_view id v seat).block
-
-      stands : Stands s.words (list_at z log2) (xs ++ b.page ∷ [])
-      stands k lt = dite (ℕ_discrete k (length xs))
-          (λ e. ap (λ (t : ℕ). slice_index s.words (list_at z log2 + t)) e
-          ∙ (item.stands ∙ (sym (last_at xs b.page) ∙ ap (slice_index (xs ++ b.page ∷ [])) (sym e))))
-          (λ ne. let all = length-append xs (b.page ∷ []) in
-          ok.lists log2 may.small k (omega arith) ∙ sym (first_at xs b.page k (omega arith)))
 
       rule : WordRule z (after_store s id (holding v (Some known) None) (returned_count_at log2) (length (xs ++ b.page ∷ [])))
       rule = let top = front z in let small = may.small in
           held_moved z s r id v seat n may.store (returned_count_at log2) (length (xs ++ b.page ∷ [])) known.store None None acts (omega arith)
           (omega arith)
-          (relist s.words (all_used z r.table.openings r.table.bucket) log2 (xs ++ b.page ∷ []) n.store.unpublished (record { store = n.store; lock = Some id })
-          r.wide may.small
-          (let all = length-append xs (b.page ∷ []) in let fits = item.room in omega arith) stands ok.bound ok.settled ok)
+          (counts_listed s.words (all_used z r.table.openings r.table.bucket) log2 b.page (record { store = n.store; lock = Some id }) r.wide
+          (listed_page s r id v seat n may.store log2 b.page may.page) ok)
           tt tt
           (parted_relisted z.pages r.table.bucket n.store s.views id v (holding v (Some known) None) seat (known_runs z s r id v seat n may.store)
           log2 b.page (let wide = ok.wide in omega arith) has_block.some_page

@@ -29,7 +29,7 @@ few_bit true = omega arith
 few_bit false = omega arith
 
 module _ (z : Sizes) where
-  block_is : (page log2 : ℕ) → 1 ≤ page → block_words z page log2 ≡ 2 ^ log2 * page_words z
+  pub block_is : (page log2 : ℕ) → 1 ≤ page → block_words z page log2 ≡ 2 ^ log2 * page_words z
   block_is zero log2 h = absurd (omega arith)
   block_is (suc page) log2 h = refl
 

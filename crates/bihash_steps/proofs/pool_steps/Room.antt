@@ -2,7 +2,7 @@
 use Rattle.std.proofs.Common.{◌≡◌, ◌≢◌, ℕ, zero, suc, ◌+◌, ◌-◌, ◌*◌, ◌/◌, ◌%◌, ◌^◌, ◌<◌, ◌≤◌, eqb, ◌||◌, Bool, true, false, List, [], ◌∷◌, ◌++◌, length, set, refl, sym, ap, ◌∙◌, subst, arith, ne_eqb, le_trans, length-append, div-add-mod', mul-le-mul_right, suc-mul, get_or-set_same, Some, None}
 use mathlib.Core.Option.{some}
 use mathlib.Core.Logic.{dite}
-use native.Mathlib.Decide.{dec_le}
+use native.Mathlib.Decide.{ℕ_discrete, dec_le}
 use native.Mathlib.Nat.{mod-lt}
 use lib.ListN.{get_elem?}
 use Rattle.std.proofs.lemmas.Nat.{pow_pos}
@@ -13,16 +13,16 @@ use Rattle.std.specs.Prelude.{slice_index}
 use Rattle.atomic_table.specs.Table.{State}
 use Rattle.bihash_words.specs.Sizes.{Sizes}
 use Rattle.bihash_rule.specs.Words.{list_words}
-use Rattle.bihash_rule.specs.Partition.{PageRun, returned_at, IsPartition}
+use Rattle.bihash_rule.specs.Partition.{PageRun, returned_at, IsPartition, run_of}
 use Rattle.bihash_rule.specs.Buckets.{BucketState}
-use Rattle.bihash_rule.specs.PageStores.{returned_in, HoldsBlockIf, run_in, runs_now}
-use Rattle.bihash_steps.specs.StoreSteps.{relisted}
+use Rattle.bihash_rule.specs.PageStores.{returned_in, HoldsBlock, HoldsBlockIf, run_in, runs_now}
+use Rattle.bihash_steps.specs.StoreSteps.{first_half, relisted}
 use Rattle.bihash_rule.specs.WordRule.{WordRule}
 use Rattle.bihash_rule.specs.declared.view.PageStore.{PageStore}
 use Rattle.bihash_rule.specs.declared.view.HeldBlock.{HeldBlock}
 use Rattle.bihash_rule.specs.declared.view.View.{View}
 use Rattle.bihash_steps.proofs.OwnedWords.{page_below}
-use Rattle.bihash_steps.proofs.Exchange.{returned_run, parted_relisted}
+use Rattle.bihash_steps.proofs.Exchange.{returned_run, parted_relisted, parted_cut}
 
 -- ---- n numbers below m that differ are at most m
 
@@ -103,20 +103,36 @@ module _ (z : Sizes) where
   list_fits used x store views log2 p = at_most_quotient (length (returned_in store log2)) (2 ^ log2) z.pages (pow_pos log2)
       (le_trans (list_room z.pages used x store views p log2) p.few)
 
-  -- there is room for a block that a seat holds: after its return the list would fit
-  pub room_for : (s : State (Unit {0}) View) (r : WordRule z s) (id : ℕ) (v : View) (h : HeldBlock) → get_elem? s.views id ≡ some v
-      → v.holds.block ≡ Some h → length (returned_in r.table.store.store h.log2) < list_words z h.log2
-  room_for s r id v h at held =
-      let store = r.table.store.store in
-      let block = subst (HoldsBlockIf z s.words) held (r.each_view id v at).block in
-      let wide = r.store.wide in let small = block.small in
-      let listed : h.log2 < length store.returned = omega arith in
-      let w : View = record v { holds = record v.holds { block = None } } in
-      let parted = parted_relisted z.pages r.table.bucket store s.views id v w at r.parted h.log2 h.page listed block.some_page
-      (ap run_in held) refl in
-      let fits : length (returned_in (relisted store h.log2 h.page) h.log2) ≤ list_words z h.log2 =
-      list_fits store.used r.table.bucket (relisted store h.log2 h.page) (set s.views id w) h.log2 parted in
-      let longer : List ℕ = returned_in store h.log2 ++ h.page ∷ [] in
-      let more : length longer ≤ list_words z h.log2 =
-      subst (λ (l : List ℕ). length l ≤ list_words z h.log2) (get_or-set_same store.returned h.log2 longer [] listed) fits in
-      let one = length-append (returned_in store h.log2) (h.page ∷ []) in omega arith
+  module _ (s : State (Unit {0}) View) (r : WordRule z s) (id : ℕ) (v : View) (h : HeldBlock) (at : get_elem? s.views id ≡ some v)
+      (held : v.holds.block ≡ Some h) where
+    abbrev store : PageStore
+    store = r.table.store.store
+
+    block : HoldsBlock z s.words h
+    block = subst (HoldsBlockIf z s.words) held (r.each_view id v at).block
+
+    listed : (log2 : ℕ) → log2 ≤ h.log2 → log2 < length store.returned
+    listed log2 small = let wide = r.store.wide in let most = block.small in omega arith
+
+    -- the list would fit after it counts one page more, where this other view leaves the pages parted
+    room_if : (w : View) (log2 page : ℕ) → log2 ≤ h.log2
+        → IsPartition z.pages store.used (runs_now r.table.bucket (relisted store log2 page) (set s.views id w))
+        → length (returned_in store log2) < list_words z log2
+    room_if w log2 page small parted =
+        let fits : length (returned_in (relisted store log2 page) log2) ≤ list_words z log2 =
+        list_fits store.used r.table.bucket (relisted store log2 page) (set s.views id w) log2 parted in
+        let longer : List ℕ = returned_in store log2 ++ page ∷ [] in
+        let more : length longer ≤ list_words z log2 =
+        subst (λ (l : List ℕ). length l ≤ list_words z log2) (get_or-set_same store.returned log2 longer [] (listed log2 small)) fits in
+        let one = length-append (returned_in store log2) (page ∷ []) in omega arith
+
+    -- there is room for a block that a seat holds, and for half of it
+    pub room_for : (log2 : ℕ) → log2 ≤ h.log2 → h.log2 ≤ log2 + 1 → length (returned_in store log2) < list_words z log2
+    room_for log2 small near = dite (ℕ_discrete h.log2 log2)
+        (λ e. room_if (record v { holds = record v.holds { block = None } }) log2 h.page small
+        (parted_relisted z.pages r.table.bucket store s.views id v (record v { holds = record v.holds { block = None } }) at r.parted log2 h.page
+        (listed log2 small) block.some_page (ap run_in held ∙ ap (run_of h.page) e) refl))
+        (λ ne. room_if (record v { holds = record v.holds { block = Some (first_half z h log2) } }) log2 (h.page + 2 ^ log2) small
+        (parted_cut z.pages r.table.bucket store s.views id v (record v { holds = record v.holds { block = Some (first_half z h log2) } }) at r.parted
+        log2 h.page (listed log2 small) block.some_page
+        (ap run_in held ∙ ap (run_of h.page) (let e : h.log2 ≡ log2 + 1 = omega arith in e)) refl))

@@ -2,7 +2,7 @@
 ghost use Rattle.std.specs.Prelude.{◌≡◌, ℕ, ◌+◌, Some};
 ghost use Rattle.bihash_words.specs.Sizes.{sizes_of};
 ghost use Rattle.bihash_rule.specs.Words.{page_at};
-ghost use Rattle.bihash_steps.specs.StoreSteps.{holding, TellsStoreLock, TellsStoreOpened, TellsPoolWord, TellsTakenReturned, TellsTakenUnused, IsHeldWord, stored_at, TellsListed, TellsReturned};
+ghost use Rattle.bihash_steps.specs.StoreSteps.{holding, TellsStoreLock, TellsStoreOpened, TellsPoolWord, TellsTakenReturned, TellsTakenUnused, IsHeldWord, stored_at, TellsListed, TellsReturned, TellsCut};
 ghost use Rattle.bihash_rule.specs.declared.view.HeldBlock.{HeldBlock};
 
 use atomic_table::Play;
@@ -80,4 +80,13 @@ pub(crate) struct Returns<S> {
 
 impl<S: Shape> Play<(), View> for Returns<S> {
     ghost then = { λ step me _ next. TellsReturned (sizes_of S.Shape) step.word step.first me next };
+}
+
+/// A store of the count of a list to which the second half of a block is given back.
+pub(crate) struct Cuts<S> {
+    shape: PhantomData<S>,
+}
+
+impl<S: Shape> Play<(), View> for Cuts<S> {
+    ghost then = { λ step me _ next. TellsCut (sizes_of S.Shape) step.word step.first me next };
 }

@@ -1,17 +1,16 @@
--- What copies of a block to places and back rest on, and what taking and giving back a block leaves.
-use Rattle.std.specs.Prelude.{◌≡◌, ◌≢◌, ℕ, ◌+◌, ◌-◌, ◌*◌, ◌^◌, ◌<◌, ◌≤◌, List, [], length, slice_index, false, Some, None, Result, IfOk, IfErr}
+-- What copies of a block to places and back rest on, and what giving back a block leaves.
+use Rattle.std.specs.Prelude.{◌≡◌, ◌≢◌, ℕ, ◌+◌, ◌*◌, ◌^◌, ◌<◌, ◌≤◌, List, length, slice_index, false, Some, None}
 use Rattle.bihash_words.specs.Sizes.{IsSound, Sizes, sizes_of}
 use Rattle.bihash_words.specs.declared.shape.Shape.{Ghosts}
 use Rattle.bihash_rule.specs.Words.{block_words, list_words, place_words}
 use Rattle.bihash_rule.specs.Blocks.{free, key_in, places, value_in}
 use Rattle.bihash_rule.specs.PageStores.{returned_in}
 use Rattle.bihash_rule.specs.Views.{no_notes, nothing_held}
-use Rattle.bihash_steps.specs.StoreSteps.{TakesBlock, grown, holding, old_block, unlisted}
+use Rattle.bihash_steps.specs.StoreSteps.{holding, old_block}
 use Rattle.bihash_steps.specs.Seats.{CallerState, with_view}
 use Rattle.bihash_rule.specs.declared.view.Extent.{Extent}
 use Rattle.bihash_rule.specs.declared.view.LockedStore.{LockedStore}
 use Rattle.bihash_rule.specs.declared.view.HeldBlock.{HeldBlock}
-use Rattle.bihash_rule.specs.declared.view.PageStore.{PageStore}
 use Rattle.bihash_rule.specs.declared.view.View.{View}
 use Rattle.bihash_table.specs.inner.Scans.{IsWordOf}
 
@@ -51,36 +50,9 @@ pub record HasStore (z : Sizes) (v : View) (n : LockedStore) : Type 0 where
   pub held : v.holds.store ≡ Some n
   pub block : v.holds.block ≡ None
   pub few : n.store.used ≤ z.pages
+  pub wide : length n.store.returned ≡ z.max_log2 + 1
   pub room : (log2 : ℕ) → log2 ≤ z.max_log2 → length (returned_in n.store log2) ≤ list_words z log2
   pub settled : n.store.unpublished ≡ false
-
--- The last of the returned blocks of this log2 was taken, or the next pages that were never used where
--- there is none.
-pub record TakesPages (z : Sizes) (v : View) (store : PageStore) (page log2 : ℕ) (w : View) : Type 0 where
-  pub returned : 1 ≤ length (returned_in store log2)
-      → (page ≡ slice_index (returned_in store log2) (length (returned_in store log2) - 1))
-      × TakesBlock z v (unlisted store log2) page log2 w
-  pub unused : returned_in store log2 ≡ []
-      → (page ≡ store.used + 1) × TakesBlock z v (grown store log2) page log2 w
-
--- no block of this log2 was returned, and fewer pages than it has were never used
-pub record LacksPages (z : Sizes) (store : PageStore) (log2 left : ℕ) : Type 0 where
-  pub none : returned_in store log2 ≡ []
-  pub unused : store.used + left ≡ z.pages
-  pub few : left < 2 ^ log2
-
--- The caller of this row has the allocation lock, and may take a block of this log2.
-pub record MayTake (z : Sizes) (row : _) (s : CallerState) (log2 : ℕ) : Type 0 where
-  pub own : s.row ≡ row
-  pub sound : IsSound z
-  pub store : (n : LockedStore) × HasStore z s.view n
-  pub small : log2 ≤ z.max_log2
-
--- a block was taken, or pages are wanting and nothing changed
-pub record TellsTake (z : Sizes) (s t : CallerState) (log2 : ℕ) (r : Result ℕ ℕ) : Type 0 where
-  pub same : t ≡ with_view s t.view
-  pub taken : IfOk r (λ page. (n : LockedStore) → HasStore z s.view n → TakesPages z s.view n.store page log2 t.view)
-  pub refused : IfErr r (λ left. (t ≡ s) × ((n : LockedStore) → HasStore z s.view n → LacksPages z n.store log2 left))
 
 -- under the allocation lock the caller holds this block, which no bucket waits for
 pub record MayGiveBack (v : View) (log2 page : ℕ) (n : LockedStore) (h : HeldBlock) : Type 0 where

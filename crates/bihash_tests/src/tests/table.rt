@@ -12,6 +12,7 @@ use std::test::Fail;
 mod ageing;
 mod block_growth;
 mod closing;
+mod cut_blocks;
 mod exhaustion;
 mod open_reads;
 mod recycling;

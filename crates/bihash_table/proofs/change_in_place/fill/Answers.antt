@@ -49,8 +49,8 @@ publish-requires-clause-may g c =
     c.args.place c.args.value c.WORDS.result c.WORDS.ensures step)
     c.linear.result c.linear.ensures
 
-pub returns : goal.returns
-returns g c =
+pub returns-clause-told : goal.returns-clause-told
+returns-clause-told g c =
     let z = sizes_of g.S.Shape in let v = c.args.seat.now.view in let hashed = c.args.seen.now.hashed in
     let h = c.requires in
     let k = c.store_key.ensures.stored h.lock h.has in

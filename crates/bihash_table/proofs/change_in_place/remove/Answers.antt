@@ -16,8 +16,8 @@ lock_if_unchanged-requires-clause-own g c = own_through c.args.seat.now _ _ c.ha
 pub lock_if_unchanged-requires-clause-seen : goal.lock_if_unchanged-requires-clause-seen
 lock_if_unchanged-requires-clause-seen g c = (seen_more (sizes_of g.S.Shape) _ _ _ _ c.has_other_in_open_bucket-other.ensures.saw c.requires.seen).seen
 
-pub returns-then-not-lock_if_unchanged : goal.returns-then-not-lock_if_unchanged
-returns-then-not-lock_if_unchanged g c = let hashed = c.args.seen.now.hashed in
+pub returns-then-not-lock_if_unchanged-clause-told : goal.returns-then-not-lock_if_unchanged-clause-told
+returns-then-not-lock_if_unchanged-clause-told g c = let hashed = c.args.seen.now.hashed in
     tried_read g.S.Shape c.args.seat.now c.has_other_in_open_bucket-other.new.seat c.lock_if_unchanged.new.seat hashed.bucket hashed.key.now (Some c.args.pair.1)
     Remove c.has_other_in_open_bucket-other.ensures (sym hashed.home) (Err _)
     (tried_not g.S.Shape _ _ _ _ _ _ (sym hashed.home) _ c.lock_if_unchanged.ensures c.if-not-lock_if_unchanged.true)
@@ -31,12 +31,12 @@ remove_last-requires g c =
     c.if-not-lock_if_unchanged.false
     (λ told. beside z (g.S.Shape.words_of c.args.seen.now.hashed.key.now) c.args.pair c.if-not-other.true _ _ told)
 
-pub returns-then-not-other : goal.returns-then-not-other
-returns-then-not-other g c = let hashed = c.args.seen.now.hashed in
+pub returns-then-not-other-clause-told : goal.returns-then-not-other-clause-told
+returns-then-not-other-clause-told g c = let hashed = c.args.seen.now.hashed in
     tried_read g.S.Shape c.args.seat.now c.has_other_in_open_bucket-other.new.seat c.remove_last.new.seat hashed.bucket hashed.key.now
     (Some c.args.pair.1) Remove c.has_other_in_open_bucket-other.ensures (sym hashed.home) c.remove_last.result
     (tried_locked g.S.Shape c.has_other_in_open_bucket-other.new.seat c.lock_if_unchanged.new.seat c.remove_last.new.seat hashed.bucket c.args.seen.now.word
-    hashed.key.now _ _ c.lock_if_unchanged.ensures c.if-not-lock_if_unchanged.false (sym hashed.home) c.remove_last.result c.remove_last.ensures)
+    hashed.key.now _ _ c.lock_if_unchanged.ensures c.if-not-lock_if_unchanged.false (sym hashed.home) c.remove_last.result c.remove_last.ensures.told)
 
 pub vacate-requires : goal.vacate-requires
 vacate-requires g c =
@@ -47,9 +47,9 @@ vacate-requires g c =
     c.if-not-lock_if_unchanged.false
     (λ told. beside z (g.S.Shape.words_of c.args.seen.now.hashed.key.now) c.args.pair c.if-not-other.false _ _ told)
 
-pub returns : goal.returns
-returns g c = let hashed = c.args.seen.now.hashed in
+pub returns-clause-told : goal.returns-clause-told
+returns-clause-told g c = let hashed = c.args.seen.now.hashed in
     tried_read g.S.Shape c.args.seat.now c.has_other_in_open_bucket-other.new.seat c.vacate.new.seat hashed.bucket
     hashed.key.now (Some c.args.pair.1) Remove c.has_other_in_open_bucket-other.ensures (sym hashed.home) (Ok c.vacate.result)
     (tried_locked g.S.Shape c.has_other_in_open_bucket-other.new.seat c.lock_if_unchanged.new.seat c.vacate.new.seat hashed.bucket c.args.seen.now.word hashed.key.now _ _
-    c.lock_if_unchanged.ensures c.if-not-lock_if_unchanged.false (sym hashed.home) (Ok c.vacate.result) c.vacate.ensures)
+    c.lock_if_unchanged.ensures c.if-not-lock_if_unchanged.false (sym hashed.home) (Ok c.vacate.result) c.vacate.ensures.told)

@@ -36,8 +36,8 @@ publish-requires-clause-may g c =
     (value_is_stored z c.args.seat.now c.store_word.new.seat h.lock c.args.pair.0 _ c.WORDS.result c.WORDS.ensures step)
     c.linear.result c.linear.ensures
 
-pub returns : goal.returns
-returns g c =
+pub returns-clause-told : goal.returns-clause-told
+returns-clause-told g c =
     let z = sizes_of g.S.Shape in
     let hashed = c.args.seen.now.hashed in
     let h = c.requires in

@@ -12,7 +12,7 @@ use Rattle.bihash_table.proofs.OpenReadLemmas.{may_read, names_block, word_notes
 use Rattle.bihash_table.proofs.SeenBuckets.{seen_more}
 use Rattle.bihash_table.proofs.StoreLemmas.{log2_is}
 use Rattle.bihash_table.proofs.BlockPlans.{places_read}
-use Rattle.bihash_table.proofs.Tries.{over, over_read, tried_locked, tried_not, tried_read, under_lock, unworn_read}
+use Rattle.bihash_table.proofs.Tries.{over, over_read, tried_locked, tried_not, tried_read, under_lock, unworn_read, wants_no_pages}
 use Rattle.bihash_table.proofs.change_of_block.enter_by_block_change.Goals as goal
 
 pub place_count-requires : goal.place_count-requires
@@ -64,12 +64,12 @@ recycle_or_refuse-requires g c =
     c.block_size.ensures c.larger.result c.larger.ensures.lawful c.in_default.not-Grow count)
     (unworn_read g.S.Shape c.args.seat.now y hashed.bucket read w.unworn) w.storable
 
-pub returns-in_default : goal.returns-in_default
-returns-in_default g c =
+pub returns-in_default-clause-told : goal.returns-in_default-clause-told
+returns-in_default-clause-told g c =
     let hashed = c.args.seen.now.hashed in
     over_read g.S.Shape c.args.seat.now c.read_block.new.seat c.recycle_or_refuse.new.seat hashed.bucket hashed.key.now None
     (Set c.args.entrant.now.value) (g.E.Expiry.is_expired c.args.entrant.now.expiry.now)
-    c.read_block.ensures.read (sym hashed.home) c.recycle_or_refuse.result c.recycle_or_refuse.ensures
+    c.read_block.ensures.read (sym hashed.home) c.recycle_or_refuse.result c.recycle_or_refuse.ensures.told
 
 pub slice_bounds-new-end : goal.slice_bounds-new-end
 slice_bounds-new-end g c =
@@ -99,8 +99,8 @@ pub lock_if_unchanged-requires-clause-seen : goal.lock_if_unchanged-requires-cla
 lock_if_unchanged-requires-clause-seen g c =
     (seen_more (sizes_of g.S.Shape) _ _ _ _ c.read_block.ensures.read.saw c.requires.wants.seen).seen
 
-pub returns-then-not-lock_if_unchanged : goal.returns-then-not-lock_if_unchanged
-returns-then-not-lock_if_unchanged g c =
+pub returns-then-not-lock_if_unchanged-clause-told : goal.returns-then-not-lock_if_unchanged-clause-told
+returns-then-not-lock_if_unchanged-clause-told g c =
     let hashed = c.args.seen.now.hashed in
     over g.S.Shape _ _ _ _ _ _ (Err _)
     (tried_read g.S.Shape c.args.seat.now c.read_block.new.seat c.lock_if_unchanged.new.seat hashed.bucket hashed.key.now None (Set c.args.entrant.now.value)
@@ -133,12 +133,16 @@ enter_in_new_block-requires g c =
           c.block_size.ensures (Grow c.in-Grow.size) c.in-Grow.ensures.lawful c.lock_if_unchanged.new.seat.view k c.in-Grow.size refl;
     }
 
-pub returns : goal.returns
-returns g c =
+pub returns-clause-told : goal.returns-clause-told
+returns-clause-told g c =
     let hashed = c.args.seen.now.hashed in
     let y = c.read_block.new.seat in
     over g.S.Shape _ _ _ _ _ _ c.enter_in_new_block.result
     (tried_read g.S.Shape c.args.seat.now y c.enter_in_new_block.new.seat hashed.bucket hashed.key.now None (Set c.args.entrant.now.value)
     c.read_block.ensures.read (sym hashed.home) c.enter_in_new_block.result
     (tried_locked g.S.Shape y c.lock_if_unchanged.new.seat c.enter_in_new_block.new.seat hashed.bucket c.args.seen.now.word hashed.key.now None (Set c.args.entrant.now.value)
-    c.lock_if_unchanged.ensures c.if-not-lock_if_unchanged.false (sym hashed.home) c.enter_in_new_block.result c.enter_in_new_block.ensures))
+    c.lock_if_unchanged.ensures c.if-not-lock_if_unchanged.false (sym hashed.home) c.enter_in_new_block.result c.enter_in_new_block.ensures.told))
+
+pub returns-in_default-clause-no_larger : goal.returns-in_default-clause-no_larger
+returns-in_default-clause-no_larger g c = λ cuts. wants_no_pages (sizes_of g.S.Shape) c.recycle_or_refuse.new.seat.view c.recycle_or_refuse.result
+    c.recycle_or_refuse.ensures.made

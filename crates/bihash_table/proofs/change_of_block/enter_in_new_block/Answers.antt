@@ -7,10 +7,11 @@ use Rattle.bihash_steps.specs.BucketSteps.{call_of, map_now, without_lock}
 use Rattle.bihash_steps.specs.Seats.{CallerState, with_view}
 use Rattle.bihash_rule.specs.declared.view.HeldBlock.{HeldBlock}
 use Rattle.bihash_rule.specs.declared.view.Holdings.{Holdings}
+use Rattle.bihash_rule.specs.declared.view.PageStore.{PageStore}
 use Rattle.bihash_rule.specs.declared.view.View.{View}
 use Rattle.bihash_steps.specs.BucketCalls.{event}
 use Rattle.bihash_table.specs.Answers.{locks_of}
-use Rattle.bihash_table.specs.OutOfPages.{IsOutOfPages}
+use Rattle.bihash_table.specs.OutOfPages.{HasNoLarger, IsOutOfPages}
 use Rattle.bihash_table.proofs.NewPairs.{looked_at}
 use Rattle.bihash_table.proofs.Copies.{same_block}
 use Rattle.bihash_table.proofs.PairReads.{pair_value}
@@ -23,8 +24,8 @@ use Rattle.bihash_table.proofs.StoreLemmas.{bears_noted, holds_old, left_answere
 use Rattle.bihash_table.proofs.Tries.{finished, finished_away, finished_write}
 use Rattle.bihash_table.proofs.change_of_block.enter_in_new_block.Goals as goal
 
-pub returns-then-not-pool_lock : goal.returns-then-not-pool_lock
-returns-then-not-pool_lock g c =
+pub returns-then-not-pool_lock-clause-told : goal.returns-then-not-pool_lock-clause-told
+returns-then-not-pool_lock-clause-told g c =
     let hashed = c.args.seen.now.hashed in
     let s = c.args.seat.now in
     let h = c.requires.held in
@@ -122,8 +123,8 @@ end_block_change-requires g c =
           (call_of s.view hashed.bucket 1 (event key None (Set c.args.value) (Changed None))) h.has done;
     }
 
-pub returns-in-Ok : goal.returns-in-Ok
-returns-in-Ok g c =
+pub returns-in-Ok-clause-told : goal.returns-in-Ok-clause-told
+returns-in-Ok-clause-told g c =
     let z = sizes_of g.S.Shape in let s = c.args.seat.now in let hashed = c.args.seen.now.hashed in
     let key = g.S.Shape.words_of hashed.key.now in
     let h = c.requires.held in
@@ -184,8 +185,8 @@ cancel-requires-clause-may g c =
     (looked z c.args.seat.now c.pool_lock.new.caller c.take_block.new.seat c.pool_unlock.new.caller
     c.pool_lock.ensures.same locks c.in-Err.ensures.refused.0 c.pool_unlock.ensures)
 
-pub returns-in-Err : goal.returns-in-Err
-returns-in-Err g c =
+pub returns-in-Err-clause-told : goal.returns-in-Err-clause-told
+returns-in-Err-clause-told g c =
     let z = sizes_of g.S.Shape in let s = c.args.seat.now in let hashed = c.args.seen.now.hashed in
     let key = g.S.Shape.words_of hashed.key.now in
     let h = c.requires.held in
@@ -218,3 +219,20 @@ returns-in-Err g c =
     locks.store c.requires.planned (c.in-Err.ensures.refused.1 (locked_on locks.store) store)
     (bears_noted s.view t.view hashed.bucket locks.store key None (Set c.args.value) c.args.size.log2 c.in-Err.left refused))))
     refl
+
+pub returns-in-Err-clause-no_larger : goal.returns-in-Err-clause-no_larger
+returns-in-Err-clause-no_larger g c = λ cuts wanted left e k store last is.
+    let z = sizes_of g.S.Shape in let s = c.args.seat.now in let hashed = c.args.seen.now.hashed in
+    let key = g.S.Shape.words_of hashed.key.now in
+    let locks = c.pool_lock.ensures.taken c.if-not-pool_lock.false in
+    let held = store_held g.S.Shape s c.pool_lock.new.caller c.pool_lock.ensures.same locks
+    (ap (λ (k : Holdings). k.block) c.requires.held.has.held) 0 c.args.size.log2 in
+    let opened = looked z s c.pool_lock.new.caller c.take_block.new.seat c.pool_unlock.new.caller
+    c.pool_lock.ensures.same locks c.in-Err.ensures.refused.0 c.pool_unlock.ensures in
+    let refused = was_answered c.pool_unlock.new.caller c.cancel.new.caller hashed.bucket key None (Set c.args.value)
+    (NoPages c.args.size.log2 c.in-Err.left) (looked_at s.view locks.store) opened (entered_as c.cancel.ensures) in
+    let bears = bears_noted s.view c.cancel.new.caller.view hashed.bucket locks.store key None (Set c.args.value) c.args.size.log2 c.in-Err.left refused in
+    let borne = (bears k last).1 in
+    let size : c.args.size.log2 ≡ wanted = cc in
+    let same : locks.store ≡ store = cc in
+    subst (λ (x : PageStore × ℕ). HasNoLarger z x.0 x.1) (λ i. (same i, size i)) (c.in-Err.ensures.no_larger cuts (locked_on locks.store) held)

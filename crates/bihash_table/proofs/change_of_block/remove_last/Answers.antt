@@ -16,8 +16,8 @@ use Rattle.bihash_table.proofs.StoreLemmas.{holds_old, left_written, still_lawfu
 use Rattle.bihash_table.proofs.Tries.{finished_away, finished_write}
 use Rattle.bihash_table.proofs.change_of_block.remove_last.Goals as goal
 
-pub returns-then-not-pool_lock : goal.returns-then-not-pool_lock
-returns-then-not-pool_lock g c =
+pub returns-then-not-pool_lock-clause-told : goal.returns-then-not-pool_lock-clause-told
+returns-then-not-pool_lock-clause-told g c =
     let hashed = c.args.seen.now.hashed in
     let s = c.args.seat.now in
     let h = c.requires in
@@ -72,8 +72,8 @@ end_block_change-requires g c =
           (call_of s.view hashed.bucket 1 (event key (Some c.args.pair.1) Remove (Changed (Some c.args.pair.1)))) h.has done;
     }
 
-pub returns : goal.returns
-returns g c =
+pub returns-clause-told : goal.returns-clause-told
+returns-clause-told g c =
     let z = sizes_of g.S.Shape in let s = c.args.seat.now in let hashed = c.args.seen.now.hashed in
     let key = g.S.Shape.words_of hashed.key.now in
     let h = c.requires in

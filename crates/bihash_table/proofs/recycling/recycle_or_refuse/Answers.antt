@@ -50,8 +50,8 @@ refuse_to_recycle-requires g c =
       ));
     }
 
-pub returns-then-not-lock_if_unchanged : goal.returns-then-not-lock_if_unchanged
-returns-then-not-lock_if_unchanged g c = over g.S.Shape _ _ _ _ _ _ (Err _)
+pub returns-then-not-lock_if_unchanged-clause-told : goal.returns-then-not-lock_if_unchanged-clause-told
+returns-then-not-lock_if_unchanged-clause-told g c = over g.S.Shape _ _ _ _ _ _ (Err _)
     (tried_not g.S.Shape _ _ _ _ _ _ (sym c.args.seen.now.hashed.home) _ c.lock_if_unchanged.ensures c.if-not-lock_if_unchanged.true)
 
 pub offset_bounds-places-spare : goal.offset_bounds-places-spare
@@ -88,9 +88,9 @@ recycle_place-requires g c =
           (ap (λ p. p.0) (get_or_from_slice_get c.args.places.now r.place (least.key, least.value) c.index-places-spare.result least.pair.at)),
     ))
 
-pub returns : goal.returns
-returns g c =
+pub returns-clause-told : goal.returns-clause-told
+returns-clause-told g c =
     let hashed = c.args.seen.now.hashed in
     over_locked g.S.Shape c.args.seat.now c.lock_if_unchanged.new.seat c.recycle_place.new.seat hashed.bucket c.args.seen.now.word hashed.key.now None
     (Set c.args.entrant.now.value) (g.E.Expiry.is_expired c.args.entrant.now.expiry.now) c.lock_if_unchanged.ensures c.if-not-lock_if_unchanged.false
-    (sym hashed.home) c.recycle_place.result c.recycle_place.ensures
+    (sym hashed.home) c.recycle_place.result c.recycle_place.ensures.told

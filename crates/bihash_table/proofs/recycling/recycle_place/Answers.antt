@@ -44,8 +44,8 @@ publish-requires-clause-may g c =
     (value_is_stored z c.store_key.new.seat c.store_word.new.seat (record h.lock { now = k.now; stored = k.stored })
     c.args.going.now.place c.args.entrant.now.value c.WORDS.result c.WORDS.ensures step)
 
-pub returns : goal.returns
-returns g c =
+pub returns-clause-told : goal.returns-clause-told
+returns-clause-told g c =
     let z = sizes_of g.S.Shape in let v = c.args.seat.now.view in let hashed = c.args.seen.now.hashed in
     let h = c.requires in
     let k = c.store_key.ensures.stored h.lock h.has in

@@ -21,12 +21,12 @@ validate-requires-clause-may g c =
     (record { long = hashed.counted; home = sym hashed.home }) refl (λ log2 left e. let c : ⊥ = cc in c)
     (λ told. told (map_now c.args.seat.now.view hashed.bucket) h.seen.pairs)
 
-pub returns-then-not-validate : goal.returns-then-not-validate
-returns-then-not-validate g c = over g.S.Shape _ _ _ _ _ _ (Err _)
+pub returns-then-not-validate-clause-told : goal.returns-then-not-validate-clause-told
+returns-then-not-validate-clause-told g c = over g.S.Shape _ _ _ _ _ _ (Err _)
     (tried_invalid g.S.Shape _ _ _ _ _ _ (sym c.args.seen.now.hashed.home) _ c.requires.seen c.validate.ensures.lawful _
     (c.validate.ensures.not c.if-not-validate.true)
     (λ lone. true≢false (sym (c.validate.ensures.lone lone) ∙ c.if-not-validate.true)))
 
-pub returns : goal.returns
-returns g c = over_full g.S.Shape _ _ _ _ c.args.entrant.now.value _ (sym c.args.seen.now.hashed.home) _ c.requires.seen
+pub returns-clause-told : goal.returns-clause-told
+returns-clause-told g c = over_full g.S.Shape _ _ _ _ c.args.entrant.now.value _ (sym c.args.seen.now.hashed.home) _ c.requires.seen
     c.validate.ensures.lawful c.validate.ensures.same (c.validate.ensures.valid c.if-not-validate.false)

@@ -18,11 +18,11 @@ validate-requires-clause-may g c =
     (record { long = hashed.counted; home = sym hashed.home }) c.requires.reads c.requires.paged
     (λ told. told (map_now c.args.seat.now.view hashed.bucket) h.seen.pairs)
 
-pub returns-then-not-validate : goal.returns-then-not-validate
-returns-then-not-validate g c = tried_invalid g.S.Shape _ _ _ _ _ _ (sym c.args.seen.now.hashed.home) _ c.requires.seen c.validate.ensures.lawful _
+pub returns-then-not-validate-clause-told : goal.returns-then-not-validate-clause-told
+returns-then-not-validate-clause-told g c = tried_invalid g.S.Shape _ _ _ _ _ _ (sym c.args.seen.now.hashed.home) _ c.requires.seen c.validate.ensures.lawful _
     (c.validate.ensures.not c.if-not-validate.true)
     (λ lone. true≢false (sym (c.validate.ensures.lone lone) ∙ c.if-not-validate.true))
 
-pub returns : goal.returns
-returns g c = tried_valid g.S.Shape _ _ _ _ _ _ (sym c.args.seen.now.hashed.home) _ c.requires.seen c.validate.ensures.lawful
+pub returns-clause-told : goal.returns-clause-told
+returns-clause-told g c = tried_valid g.S.Shape _ _ _ _ _ _ (sym c.args.seen.now.hashed.home) _ c.requires.seen c.validate.ensures.lawful
     c.args.reply c.requires.reads c.validate.ensures.same (c.validate.ensures.valid c.if-not-validate.false) c.requires.paged c.requires.roomy

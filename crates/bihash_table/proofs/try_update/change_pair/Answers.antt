@@ -11,8 +11,8 @@ lock_if_unchanged-requires-clause-own g c = c.requires.own
 pub lock_if_unchanged-requires-clause-seen : goal.lock_if_unchanged-requires-clause-seen
 lock_if_unchanged-requires-clause-seen g c = c.requires.seen.seen
 
-pub returns-then-not-lock_if_unchanged : goal.returns-then-not-lock_if_unchanged
-returns-then-not-lock_if_unchanged g c =
+pub returns-then-not-lock_if_unchanged-clause-told : goal.returns-then-not-lock_if_unchanged-clause-told
+returns-then-not-lock_if_unchanged-clause-told g c =
     tried_not g.S.Shape _ _ _ _ _ _ (sym c.args.seen.now.hashed.home) _ c.lock_if_unchanged.ensures c.if-not-lock_if_unchanged.true
 
 pub overwrite-requires-clause-held : goal.overwrite-requires-clause-held
@@ -26,17 +26,17 @@ overwrite-requires-clause-other g c =
     let h = subst (λ (d : Change). WantsChange g.S.Shape c.args.row.now c.args.seat.now c.args.seen.now (Some c.args.pair) d) c.in-Set.is c.requires in
     other_value c.in-Set.value c.args.pair.1 h.wanted
 
-pub returns-else-not-lock_if_unchanged : goal.returns-else-not-lock_if_unchanged
-returns-else-not-lock_if_unchanged g c = let hashed = c.args.seen.now.hashed in
+pub returns-else-not-lock_if_unchanged-clause-told : goal.returns-else-not-lock_if_unchanged-clause-told
+returns-else-not-lock_if_unchanged-clause-told g c = let hashed = c.args.seen.now.hashed in
     subst (λ (d : Change). Tried g.S.Shape c.args.seat.now c.overwrite.new.seat hashed.key.now (Some c.args.pair.1) d
     (Ok c.overwrite.result)) (sym c.in-Set.is)
     (tried_locked g.S.Shape c.args.seat.now c.lock_if_unchanged.new.seat c.overwrite.new.seat hashed.bucket c.args.seen.now.word hashed.key.now _ _
-    c.lock_if_unchanged.ensures c.if-not-lock_if_unchanged.false (sym hashed.home) (Ok c.overwrite.result) c.overwrite.ensures)
+    c.lock_if_unchanged.ensures c.if-not-lock_if_unchanged.false (sym hashed.home) (Ok c.overwrite.result) c.overwrite.ensures.told)
 
 pub remove-requires : goal.remove-requires
 remove-requires g c = subst (λ (d : Change). WantsChange g.S.Shape c.args.row.now c.args.seat.now c.args.seen.now (Some c.args.pair) d) c.in-Remove.is c.requires
 
-pub returns-in-Remove : goal.returns-in-Remove
-returns-in-Remove g c = let hashed = c.args.seen.now.hashed in
+pub returns-in-Remove-clause-told : goal.returns-in-Remove-clause-told
+returns-in-Remove-clause-told g c = let hashed = c.args.seen.now.hashed in
     subst (λ (d : Change). Tried g.S.Shape c.args.seat.now c.remove.new.seat hashed.key.now (Some c.args.pair.1) d c.remove.result)
-    (sym c.in-Remove.is) c.remove.ensures
+    (sym c.in-Remove.is) c.remove.ensures.told

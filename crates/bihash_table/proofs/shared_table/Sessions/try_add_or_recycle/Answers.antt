@@ -18,8 +18,8 @@ make_tried_change-requires-clause-found g c = record {
   seen = seen_first (sizes_of g.S.Shape) _ _ _ _ c.pair_in_open_bucket-pair.ensures.saw c.in-Some.ensures.opened.has;
 }
 
-pub returns : goal.returns
-returns g c =
+pub returns-clause-told : goal.returns-clause-told
+returns-clause-told g c =
     let z = sizes_of g.S.Shape in
     let s = c.args.caller.now.seat in
     let x = c.load_unlocked.new.seat in
@@ -34,7 +34,7 @@ returns g c =
     let locks = ap locks_of (seen_records z s.view x.view y.view hashed.bucket c.in-Some.word c.in-Some.ensures.opened c.pair_in_open_bucket-pair.ensures.saw) in
     let is_expired = g.E.Expiry.is_expired c.args.expiry.now in
     let all : TriedOver g.S.Shape s t hashed.key.now found change is_expired r
-    = over_seen g.S.Shape s y t hashed.bucket hashed.key.now found change is_expired same ahead (sym hashed.home) locks r c.make_tried_change.ensures in
+    = over_seen g.S.Shape s y t hashed.bucket hashed.key.now found change is_expired same ahead (sym hashed.home) locks r c.make_tried_change.ensures.told in
     let key = c.args.known.now.key.now in
     let tried : TriedOver g.S.Shape s t key found change is_expired r
     = subst (λ k. TriedOver g.S.Shape s t k found change is_expired r) c.with_hash-hashed.ensures.key all in

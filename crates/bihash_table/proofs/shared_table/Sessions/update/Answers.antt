@@ -10,10 +10,10 @@ use Rattle.bihash_table.proofs.shared_table.Sessions.update.Goals as goal
 pub loop-init : goal.loop-init
 loop-init g c = record { next = tt; finite = tt; same = refl; tried = not_yet_tried (sizes_of g.S.Shape) _ _ c.requires.free; tries = (0, took_no_lock _ _ refl 0, λ _. refl); lone = λ _. refl }
 
-pub returns-in-Ok : goal.returns-in-Ok
-returns-in-Ok g c =
+pub returns-in-Ok-clause-told : goal.returns-in-Ok-clause-told
+returns-in-Ok-clause-told g c =
     let s = c.args.caller.now.seat in
-    let told = c.in-Ok.ensures in record {
+    let told = c.in-Ok.ensures.told in record {
       same = same_through s c.loop.caller.seat c.try_update.new.caller.seat _ c.loop.invariant.same told.same;
       answered = again_updated (sizes_of g.S.Shape) _ _ _ _ _ _ _ refl c.loop.invariant.tried told.answered;
       locks = let before = c.loop.invariant.tries in took_by_tries _ _ _ before.0 _ before.1 before.2 told.locks;
@@ -25,12 +25,12 @@ pub loop-preserved : goal.loop-preserved
 loop-preserved g c = record {
   next = tt;
   finite = tt;
-  same = c.try_update.ensures.same ∙ ap (λ (k : CallerState). with_view k c.try_update.new.caller.seat.view) c.loop.invariant.same;
-  tried = again_contended (sizes_of g.S.Shape) _ _ _ _ c.loop.invariant.tried c.in_default.ensures.contended;
+  same = c.try_update.ensures.told.same ∙ ap (λ (k : CallerState). with_view k c.try_update.new.caller.seat.view) c.loop.invariant.same;
+  tried = again_contended (sizes_of g.S.Shape) _ _ _ _ c.loop.invariant.tried c.in_default.ensures.told.contended;
   tries = let before = c.loop.invariant.tries in (
     before.0 + 1,
-    took_then _ _ _ before.0 1 before.1 c.in_default.ensures.locks,
-    λ lone. absurd (true≢false (sym (c.in_default.ensures.lone (ap (λ (v : View). v.lone) (c.loop.invariant.lone lone) ∙ lone)))),
+    took_then _ _ _ before.0 1 before.1 c.in_default.ensures.told.locks,
+    λ lone. absurd (true≢false (sym (c.in_default.ensures.told.lone (ap (λ (v : View). v.lone) (c.loop.invariant.lone lone) ∙ lone)))),
   );
-  lone = λ lone. absurd (true≢false (sym (c.in_default.ensures.lone (ap (λ (v : View). v.lone) (c.loop.invariant.lone lone) ∙ lone))));
+  lone = λ lone. absurd (true≢false (sym (c.in_default.ensures.told.lone (ap (λ (v : View). v.lone) (c.loop.invariant.lone lone) ∙ lone))));
 }

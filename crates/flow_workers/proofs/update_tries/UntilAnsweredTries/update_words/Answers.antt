@@ -8,7 +8,7 @@ pub returns : goal.returns
 returns g c =
     let key : g.S.Shape.words_of c.key-words.result ≡ c.args.key.now.words.now
     = ap g.S.Shape.words_of c.key-words.ensures ∙ g.met.S.Shape.words_of_key c.args.key.now.words.now c.requires.counted in
-    let tells = c.add_or_recycle.ensures in record {
+    let tells = c.add_or_recycle.ensures.told in record {
       same = tells.same;
       answered = as_told _ _ _ _ _ _ _ c.add_or_recycle.result key tells.answered tells.lawful;
       locks = (tells.locks, tt);

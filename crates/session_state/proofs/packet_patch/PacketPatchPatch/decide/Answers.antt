@@ -1,5 +1,6 @@
 -- What is decided in each case is the decision of a packet, and may be stored.
-use Rattle.std.proofs.Common.{◌≡◌, ◌∙◌, ap, sym, Some, None}
+use Rattle.std.proofs.Common.{◌≡◌, ◌∙◌, ◌<◌, ℕ, ap, subst, sym, Some, None}
+use Rattle.bihash_words.specs.Patches.{free_mark}
 use Rattle.bihash_words.specs.declared.patch.Change.TheVariants.{Set, Remove, Keep}
 use Rattle.session_state.specs.Decisions.{decision_at, live_session, patch_facts, removal_of, started_session}
 use Rattle.session_state.specs.Sessions.{session_word}
@@ -22,7 +23,7 @@ returns-then-self c =
     c.word.ensures.word ∙ ap session_word c.new-session.ensures in
     told packet c.args.old (Set c.word.result)
     (ap Set value ∙ sym (ap (decision_at packet c.args.old) none ∙ ap (without_live packet c.args.old) c.if-self.true))
-    (λ free. word_is_storable _ c.word.ensures.session (sym c.word.ensures.word ∙ free))
+    (subst (λ (n : ℕ). n < free_mark) (sym c.word.ensures.word) (word_is_storable _ c.word.ensures.session))
 
 pub returns-in-Some-old : goal.returns-in-Some-old
 returns-in-Some-old c =

@@ -4,7 +4,7 @@ use Rattle.session_state.specs.Decisions.{is_live_for}
 use Rattle.flow_filter.specs.Filters.{section_in}
 use Rattle.flow_filter.specs.Liveness.{packet_at}
 use Rattle.flow_workers.proofs.JudgedPackets.{ruling_on}
-use Rattle.flow_workers.proofs.packet_verdict.try_judge.Given as goal
+use Rattle.flow_workers.proofs.packet_verdict.try_judge_at.Given as goal
 
 abbrev pub ghosts-judge_as : goal.ghosts-judge_as
 ghosts-judge_as g a = record {

@@ -1,0 +1,26 @@
+//! Why a table could not be closed or renewed, from what the table itself answers.
+ghost use Rattle.std.specs.Prelude.{◌≡◌};
+ghost use Rattle.bihash_c.specs.EndFaults;
+
+use crate::end_fault::EndFault;
+use bihash_table::{CloseFault, RenewFault};
+
+/// The same of a close.
+pub fn end_of_close(fault: CloseFault) -> EndFault
+    ensures { result ≡ EndFaults.end_of_close fault }
+{
+    match fault {
+        CloseFault::Strangers => EndFault::Strangers,
+        CloseFault::Memory => EndFault::Memory,
+    }
+}
+
+/// The same of a renewal.
+pub fn end_of_renewal(fault: RenewFault) -> EndFault
+    ensures { result ≡ EndFaults.end_of_renewal fault }
+{
+    match fault {
+        RenewFault::Strangers => EndFault::Strangers,
+        RenewFault::Memory => EndFault::Memory,
+    }
+}

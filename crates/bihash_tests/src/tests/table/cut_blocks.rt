@@ -1,0 +1,107 @@
+//! Larger returned blocks that are cut for smaller ones, beside tables that cut none.
+ghost use Rattle.std.specs.Prelude.{◌≡◌};
+ghost use Rattle.bihash_rule.specs.Views.{nothing_held};
+
+use super::Call::{Add, Remove};
+use super::{add_keys_to_table, block, has, table_answer, table_refused};
+use bihash_table::{Caller, Contended, Sessions, create, create_cutting};
+use bihash_words::Reply::{Changed, NoPages};
+use bihash_words::{Reply, Tiny};
+use std::test::Fail;
+
+// For tests of cut blocks: removes keys of these numbers, each with its number as value.
+fn remove_keys_from_table<const P: u64>(
+    table: &Sessions<Tiny<P, 1000>>,
+    caller: &mut Caller<Tiny<P, 1000>>,
+    keys: &[u32],
+) -> bool
+    requires own { caller.old.seat.row ≡ table.now.row }
+    requires free { caller.old.seat.view.holds ≡ nothing_held }
+    ensures own { caller.new.seat.row ≡ table.now.row }
+    ensures free { caller.new.seat.view.holds ≡ nothing_held }
+{
+    let mut all_gone = true;
+    for key in keys {
+        let key = u64::from(*key);
+        let reply = table_answer(table, caller, Remove, &[key, 0]);
+        all_gone &= reply == Ok(Changed(Some(key)));
+    }
+    all_gone
+}
+
+// For tests of cut blocks: a block of four pages is returned, and the only page that is left taken. Then each page of a
+// table of five was used, and bucket 1 wants one.
+fn one_page_after_four(
+    table: &Sessions<Tiny<5, 1000>>,
+    caller: &mut Caller<Tiny<5, 1000>>,
+) -> Option<Result<Reply, Contended>>
+    requires own { caller.old.seat.row ≡ table.now.row }
+    requires free { caller.old.seat.view.holds ≡ nothing_held }
+    ensures own { caller.new.seat.row ≡ table.now.row }
+    ensures free { caller.new.seat.view.holds ≡ nothing_held }
+{
+    const SPREAD: [u32; 5] = [0, 4, 8, 12, 16];
+    let mut all_done = add_keys_to_table(table, caller, &SPREAD);
+    all_done &= remove_keys_from_table(table, caller, &SPREAD);
+    all_done &= add_keys_to_table(table, caller, &[0, 8, 16, 24]);
+    if !all_done {
+        return None;
+    }
+    Some(table_answer(table, caller, Add(1), &[1, 0]))
+}
+
+// Cut blocks: pages 2 to 5 were one block. Bucket 1 gets page 2 of them, page 3 and the block of pages 4 and 5 are returned,
+// and bucket 0 grows into these two. Then none of two pages is left, nor a larger one.
+#[test]
+fn block_of_four_pages_is_cut_until_no_larger_is_left(rt: HostRuntime) -> Result<(), Fail> {
+    let Ok((table, mut caller)) = create_cutting::<Tiny<5, 1000>>(rt.alloc()) else {
+        return table_refused();
+    };
+    assert!(rt; one_page_after_four(&table, &mut caller) == Some(Ok(Changed(None))));
+    assert!(rt; block(&table, &mut caller, 0) == (1, 0, false));
+    assert!(rt; block(&table, &mut caller, 1) == (2, 0, false));
+    assert!(rt; add_keys_to_table(&table, &mut caller, &[32, 9, 17, 25]));
+    assert!(rt; block(&table, &mut caller, 0) == (4, 1, true));
+    let refused = table_answer(&table, &mut caller, Add(33), &[33, 0]);
+    assert!(rt; refused == Ok(NoPages { log2: 1, left: 0 }));
+    assert!(rt; has(&table, &mut caller, &[0, 8, 16, 24, 32, 1, 9, 17, 25]));
+    Ok(())
+}
+
+// Blocks that aren't cut: the same calls find no page.
+#[test]
+fn block_of_four_pages_stays_whole(rt: HostRuntime) -> Result<(), Fail> {
+    let Ok((table, mut caller)) = create::<Tiny<5, 1000>>(rt.alloc()) else {
+        return table_refused();
+    };
+    let refused = Some(Ok(NoPages { log2: 0, left: 0 }));
+    assert!(rt; one_page_after_four(&table, &mut caller) == refused);
+    assert!(rt; block(&table, &mut caller, 1) == (0, 0, false));
+    Ok(())
+}
+
+// Cut blocks: a table of nine pages whose buckets have blocks of four pages each, then of two, then one of four again. Of
+// the blocks at pages 2 and 6 the last returned one is cut.
+#[test]
+fn load_changes_by_sizes(rt: HostRuntime) -> Result<(), Fail> {
+    let Ok((table, mut caller)) = create_cutting::<Tiny<9, 1000>>(rt.alloc()) else {
+        return table_refused();
+    };
+    const EVEN: [u32; 5] = [0, 4, 8, 12, 16];
+    const ODD: [u32; 5] = [1, 5, 9, 13, 17];
+    assert!(rt; add_keys_to_table(&table, &mut caller, &EVEN));
+    assert!(rt; block(&table, &mut caller, 0) == (2, 2, false));
+    assert!(rt; add_keys_to_table(&table, &mut caller, &ODD));
+    assert!(rt; block(&table, &mut caller, 1) == (6, 2, false));
+    assert!(rt; remove_keys_from_table(&table, &mut caller, &ODD));
+    assert!(rt; remove_keys_from_table(&table, &mut caller, &EVEN));
+    assert!(rt; add_keys_to_table(&table, &mut caller, &[0, 8, 16, 24, 32]));
+    assert!(rt; block(&table, &mut caller, 0) == (2, 1, true));
+    assert!(rt; add_keys_to_table(&table, &mut caller, &[1, 9, 17, 25, 33]));
+    assert!(rt; block(&table, &mut caller, 1) == (4, 1, true));
+    assert!(rt; remove_keys_from_table(&table, &mut caller, &[1, 9, 17, 25, 33]));
+    assert!(rt; add_keys_to_table(&table, &mut caller, &ODD));
+    assert!(rt; block(&table, &mut caller, 1) == (6, 2, false));
+    assert!(rt; has(&table, &mut caller, &[0, 8, 16, 24, 32, 1, 5, 9, 13, 17]));
+    Ok(())
+}
