@@ -16,7 +16,7 @@ pub mod LargerBlocks
 pub mod LockCounts
 pub mod LockReleases
 pub mod LocklessCalls
-mod LooksInTurn
+pub mod LooksInTurn
 pub mod NewPairs
 pub mod OpenPlaces
 pub mod OpenReadLemmas

@@ -87,14 +87,14 @@ look_free : (z : Sizes) (v w : View) (b : ℕ) (is_expired : ℕ → Bool) (foun
 look_free z v w b is_expired None h = h.learned.free
 look_free z v w b is_expired (Some reply) h = h.answered.free
 
-looks_join : (z : Sizes) (is_expired : ℕ → Bool) (v u w : View) (looks more : List Look) → LookInTurn z is_expired v looks u
+pub looks_join : (z : Sizes) (is_expired : ℕ → Bool) (v u w : View) (looks more : List Look) → LookInTurn z is_expired v looks u
     → LookInTurn z is_expired u more w → LookInTurn z is_expired v (looks ++ more) w
 looks_join z is_expired v u w [] more same h = subst (λ (x : View). LookInTurn z is_expired x more w) same h
-looks_join z is_expired v u w (first ∷ looks) more (x, one, rest) h = (x, one, looks_join z is_expired x u w looks more rest h)
+looks_join z is_expired v u w (first ∷ looks) more (x, one, lawful, rest) h = (x, one, lawful, looks_join z is_expired x u w looks more rest h)
 
 one_look : (z : Sizes) (is_expired : ℕ → Bool) (v w : View) (b : ℕ) (found : Option Reply) → Ages z v w b is_expired found
-    → LookInTurn z is_expired v (look_at b found ∷ []) w
-one_look z is_expired v w b found h = (w, h, refl)
+    → IsLawfulCaller z w → LookInTurn z is_expired v (look_at b found ∷ []) w
+one_look z is_expired v w b found h lawful = (w, h, lawful, refl)
 
 count_join : (xs ys : List Look) → count_by removes (xs ++ ys) ≡ count_by removes xs + count_by removes ys
 count_join xs ys = sum_by-append (λ look. cond (removes look) 1 0) xs ys
@@ -145,7 +145,7 @@ module _ (z : Sizes) (b : ℕ) (is_expired : ℕ → Bool) where
           looks = h.looks ++ look_at b (Some reply) ∷ [];
           within = All-append (Between b (b + 1)) h.looks (look_at b (Some reply) ∷ []) h.within (one_within (Some reply));
           ages = looks_join z is_expired s.view u.view t.view h.looks (look_at b (Some reply) ∷ []) h.ages
-              (one_look z is_expired u.view t.view b (Some reply) told.answered);
+              (one_look z is_expired u.view t.view b (Some reply) told.answered told.lawful);
           counted = omega arith;
           written = omega arith;
           few = omega arith;
@@ -163,7 +163,7 @@ module _ (z : Sizes) (b : ℕ) (is_expired : ℕ → Bool) where
           looks = h.looks ++ look_at b found ∷ [];
           within = All-append (Between b (b + 1)) h.looks (look_at b found ∷ []) h.within (one_within found);
           ages = looks_join z is_expired s.view u.view t.view h.looks (look_at b found ∷ []) h.ages
-              (one_look z is_expired u.view t.view b found told.answered);
+              (one_look z is_expired u.view t.view b found told.answered told.lawful);
           each = λ c low high. record {
             before = h.looks;
             after = [];

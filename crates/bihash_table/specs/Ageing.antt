@@ -74,11 +74,11 @@ is_removal (Some reply) = is_changed reply
 abbrev pub removes : Look → Bool
 removes look = is_removal look.found
 
--- looks one after the other, from the view v to w
+-- looks one after the other, from the view v to w; after each the caller is lawful
 abbrev pub LookInTurn : Sizes → (ℕ → Bool) → View → List Look → View → Type 0
 LookInTurn z is_expired v [] w = w ≡ v
 LookInTurn z is_expired v (look ∷ looks) w =
-    (u : View) × Ages z v u look.bucket is_expired look.found × LookInTurn z is_expired u looks w
+    (u : View) × Ages z v u look.bucket is_expired look.found × IsLawfulCaller z u × LookInTurn z is_expired u looks w
 
 -- The last look at bucket b removed nothing: none was found that is expired, or its version is used up. What comes after
 -- are looks at later buckets.

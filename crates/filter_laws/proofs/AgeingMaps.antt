@@ -429,7 +429,7 @@ module _ (u : Update) (b : Bounds) where
 -- ---- Time goes on
 
 -- what has ended has ended later too
-later_by : (times : Timeouts) (t t' : ℕ) (session : Option SessionFacts) → t ≤ t' → has_ended times t session ≡ true
+pub later_by : (times : Timeouts) (t t' : ℕ) (session : Option SessionFacts) → t ≤ t' → has_ended times t session ≡ true
     → has_ended times t' session ≡ true
 later_by times t t' None goes ended = refl
 later_by times t t' (Some session) goes ended =

@@ -1,5 +1,5 @@
 -- The report of all workers is that of one thread.
-use Rattle.std.proofs.Common.{◌≡◌, ◌≢◌, ◌⊎◌, ◌∙◌, ℕ, List, [], ◌∷◌, Option, Some, None, All, ap, refl, sym, subst}
+use Rattle.std.proofs.Common.{◌≡◌, ◌≢◌, ◌⊎◌, ◌∙◌, ◌+◌, ◌≤◌, ℕ, suc, Bool, List, [], ◌∷◌, length, Option, Some, None, All, ap, arith, refl, sym, subst}
 use Rattle.std.proofs.lemmas.List.Elements.{All-cons, All-head, All-nil, All-tail}
 use Rattle.std.specs.FinMap.{empty}
 use lib.ListN.{get_elem?}
@@ -19,17 +19,17 @@ use Rattle.session_state.specs.declared.verdict.Verdict.TheVariants as verdict
 use Rattle.flow_filter.specs.Ageing.{IsAgedThread, IsOfExpired, IsRightStep, Judges, Removal, Removes, Step, packets_in, removals_in, steps_at}
 use Rattle.flow_filter.specs.Judged.{IsAsked, Judged, readings_of, verdict_on, verdicts_on}
 use Rattle.flow_filter.specs.OneThread.{AreVerdicts, HasPages, Home, IsHome, IsOneThread, Layout, add_event, bounds_in, events_at, family_of, nothing, sizes_in}
-use Rattle.flow_filter.specs.Readings.{AreReadings}
+use Rattle.flow_filter.specs.Readings.{AreReadings, IsReading}
 use Rattle.flow_filter.specs.Updates.{update_of}
 use Rattle.flow_filter.proofs.OneThreadLemmas.{some_verdicts}
 use Rattle.filter_laws.proofs.AgeingLemmas.{aged_verdicts}
 use Rattle.packet_dealing.specs.declared.dealing.Dealing.TheVariants.{Bucket}
-use Rattle.flow_dealing.specs.Views.{view_in}
+use Rattle.flow_dealing.specs.Views.{Views, view_in}
 use Rattle.packet_dealing.specs.Dealings.{Deal, flow_of_reading, worker_of}
-use Rattle.flow_dealing.specs.WorkerRecords.{AreJudged, AreJudgedBetween, HavePages, IsByOwner, RemoveInTime}
+use Rattle.flow_dealing.specs.WorkerRecords.{AreInTimeOrder, AreJudged, AreJudgedAgeing, AreJudgedBetween, AreWithinLimit, HavePages, IsByOwner, RemoveInTime}
 use Rattle.flow_dealing.proofs.OneOwner.{owner, runs_at}
 use Rattle.flow_dealing.proofs.PacketCalls.{IsFlowEvent, asked_flow, call_of_packet, some_worker}
-use Rattle.flow_dealing.proofs.Places.{after_map, all_at, all_from}
+use Rattle.flow_dealing.proofs.Places.{after_map, all_at, all_from, zip_count}
 use Rattle.flow_dealing.proofs.Refusals.{IsWant, refusal_is_verdict, wants}
 
 -- ---- Steps
@@ -151,3 +151,34 @@ module _ (d : Deal) (times : Timeouts) (policy : PolicyFacts) (packets : List Pa
       → AreVerdicts d.layout times policy packets verdicts
   one_report one paged =
       record { judged = are.judged; read = are.read; one_thread = judged_by_one one paged; said = are.said }
+
+-- ---- Workers that age
+
+step_count : (steps : List Step) → length steps ≡ length (packets_in steps) + length (removals_in steps)
+step_count [] = refl
+step_count (Judges j ∷ steps) = let more = step_count steps in omega arith
+step_count (Removes r ∷ steps) = let more = step_count steps in omega arith
+
+readings_counted : (js : List Judged) → length (readings_of js) ≡ length js
+readings_counted [] = refl
+readings_counted (j ∷ js) = ap suc (readings_counted js)
+
+pub one_report_ageing : (d : Deal) (times : Timeouts) (ages : Bool) (policy : PolicyFacts) (packets : List PacketFacts)
+    (verdicts : List Verdict) (v : Views) (are : AreJudgedAgeing d times ages policy packets verdicts v)
+    → (d.dealing ≡ Bucket) ⊎ (d.workers ≡ 1) → HavePages verdicts → AreInTimeOrder packets
+    → AreWithinLimit d packets are.removals → AreVerdicts d.layout times policy packets verdicts
+one_report_ageing d times ages policy packets verdicts v are one paged order few =
+    one_aged_report d times policy packets verdicts are.removals are.judged one paged (record {
+      own = subst (All (IsByOwner d)) (sym are.judged.removals_are) are.own;
+      in_time = are.in_time order;
+      few = λ family. subst (λ n. n ≤ (bounds_in d.layout family).limit) (sym count) (few family);
+    })
+  where
+    count : length are.judged.steps ≡ length packets + length are.removals
+    count =
+        let n = step_count are.judged.steps in
+        let p = ap length are.judged.packets_are in
+        let r = ap length are.judged.removals_are in
+        let q = zip_count (IsReading policy) packets (readings_of are.judged.judged) are.judged.read in
+        let k = readings_counted are.judged.judged in
+        omega arith

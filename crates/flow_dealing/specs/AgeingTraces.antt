@@ -1,11 +1,12 @@
--- What one worker did that removes sessions too: the packets that were dealt to it, and its removals, in its order.
-use Rattle.std.specs.Prelude.{◌≡◌, ◌≤◌, ℕ, ◌+◌, if◌then◌else◌, List, [], ◌∷◌, length, map, Some, All, slice_get}
+-- What one worker did: the packets that were dealt to it, and the sessions that it removed, in its order.
+use Rattle.std.specs.Prelude.{◌≡◌, ◌≤◌, ℕ, ◌+◌, Bool, true, if◌then◌else◌, List, [], ◌∷◌, length, Some, All, slice_get}
 use Rattle.std.specs.List.{AllZip}
 use lib.ListN.{get_elem?}
 use mathlib.Core.Option.{some}
 use Rattle.packet_view.specs.Captures.{PacketFacts}
 use Rattle.packet_view.specs.declared.tuple.Family.{Family}
 use Rattle.acl_policy.specs.Policies.{PolicyFacts}
+use Rattle.bihash_words.specs.Sizes.{Sizes}
 use Rattle.bihash_rule.specs.Views.{no_openings}
 use Rattle.bihash_rule.specs.Callers.{IsLawfulCaller}
 use Rattle.bihash_rule.specs.Histories.{event_of}
@@ -13,15 +14,13 @@ use Rattle.bihash_steps.specs.Steps.{IsToldWhole}
 use Rattle.bihash_rule.specs.declared.view.Call.{Call}
 use Rattle.bihash_rule.specs.declared.view.View.{View}
 use Rattle.session_state.specs.declared.timeouts.Timeouts.{Timeouts}
-use Rattle.session_state.specs.declared.verdict.Verdict.{Verdict}
-use Rattle.flow_filter.specs.Ageing.{IsOfExpired, NeverFall, Removal, moment_of}
+use Rattle.flow_filter.specs.Ageing.{Removal}
 use Rattle.flow_filter.specs.OneThread.{same_family, sizes_in}
 use Rattle.flow_filter.specs.Updates.{update_of}
 use Rattle.packet_dealing.specs.Dealings.{Deal}
 use Rattle.flow_dealing.specs.Traces.{IsTrace, Item}
-use Rattle.flow_dealing.specs.Views.{Views}
 use Rattle.flow_dealing.specs.Wanted.{HaveWanted}
-use Rattle.flow_dealing.specs.WorkerRecords.{AreJudgedBetween, IsByOwner, add_in}
+use Rattle.flow_dealing.specs.WorkerRecords.{HasLongExpired, IsByOwner, add_in}
 
 -- a removal: how many of all packets stand before it, its moment, the family of its table, and the call that it made
 pub record Aged : Type 0 where
@@ -66,46 +65,39 @@ AreInOrder packets at [] = Unit {0}
 AreInOrder packets at (Takes i ∷ deeds) = (at ≤ i.packet) × AreInOrder packets (i.packet + 1) deeds
 AreInOrder packets at (Ages a ∷ deeds) = (at ≤ a.behind) × (a.behind ≤ packets) × AreInOrder packets a.behind deeds
 
--- the deeds are a worker's packets, all of them, and removals of sessions that had ended, in the order of all packets
-pub record AreDeeds (d : Deal) (times : Timeouts) (worker : ℕ) (policy : PolicyFacts) (packets : List PacketFacts)
-    (deeds : List Deed) : Type 0 where
+-- A removal of a worker whose workers age: of a session that had ended, for so long that a late packet loses none, in a bucket
+-- of its own, at the moment of the packet before which it stands.
+pub record IsRemovalOf (d : Deal) (times : Timeouts) (ages : Bool) (packets : List PacketFacts) (worker : ℕ) (a : Aged)
+    : Type 0 where
+  pub may : ages ≡ true
+  pub late : HasLongExpired times (removal_by worker a)
+  pub own : IsByOwner d (removal_by worker a)
+  pub packet : PacketFacts
+  pub there : slice_get packets a.behind ≡ Some packet
+  pub timed : a.moment ≡ packet.moment
+
+-- the deeds are a worker's packets, all of them, and its removals, in the order of all packets
+pub record AreDeeds (d : Deal) (times : Timeouts) (ages : Bool) (worker : ℕ) (policy : PolicyFacts)
+    (packets : List PacketFacts) (deeds : List Deed) : Type 0 where
   pub trace : IsTrace d times worker policy packets (items_in deeds)
-  pub ended : All (λ a. IsOfExpired times (removal_by worker a)) (aged_in deeds)
+  pub removals : All (IsRemovalOf d times ages packets worker) (aged_in deeds)
   pub order : AreInOrder (length packets) 0 deeds
 
 -- so they are of all workers, in their order
-pub record AreAllDeeds (d : Deal) (times : Timeouts) (policy : PolicyFacts) (packets : List PacketFacts)
+pub record AreAllDeeds (d : Deal) (times : Timeouts) (ages : Bool) (policy : PolicyFacts) (packets : List PacketFacts)
     (all : List (List Deed)) : Type 0 where
   pub count : length all ≡ d.workers
-  pub each : (w : ℕ) (deeds : List Deed) → get_elem? all w ≡ some deeds → AreDeeds d times w policy packets deeds
+  pub each : (w : ℕ) (deeds : List Deed) → get_elem? all w ≡ some deeds → AreDeeds d times ages w policy packets deeds
 
--- One family's callers of these workers, all of them, as one caller that is lawful and whole, of a table whose buckets began
--- empty: its records are those of the workers in their order, each with the calls of its worker's deeds, and calls that were
--- refused for want of a block had wanted it.
+-- The records are those of the workers in their order, each with the calls of its worker's deeds, of a table whose buckets
+-- began empty; calls that were refused for want of a block had wanted it.
+pub record HaveDeeds (z : Sizes) (times : Timeouts) (family : Family) (all : List (List Deed)) (v : View) : Type 0 where
+  pub records : AllZip (λ deeds r. r.calls ≡ calls_by times family deeds) all v.records
+  pub openings : v.known.openings ≡ no_openings
+  pub wanted : HaveWanted z v
+
+-- one family's callers of these workers, all of them, as one caller that is lawful and whole
 pub record HaveDone (d : Deal) (times : Timeouts) (family : Family) (all : List (List Deed)) (v : View) : Type 0 where
   pub lawful : IsLawfulCaller (sizes_in d.layout family) v
   pub told : IsToldWhole (sizes_in d.layout family) v
-  pub records : AllZip (λ deeds r. r.calls ≡ calls_by times family deeds) all v.records
-  pub openings : v.known.openings ≡ no_openings
-  pub wanted : HaveWanted (sizes_in d.layout family) v
-
--- something is so of each removal, with its worker's number
-abbrev pub AreAllAged : (ℕ → Aged → Type 0) → List (List Deed) → Type 0
-AreAllAged P all = (w : ℕ) (deeds : List Deed) → get_elem? all w ≡ some deeds → All (P w) (aged_in deeds)
-
--- A clock that never falls has each packet's moment between two of its own, and each removal at one.
-pub record KeepTime (packets : List PacketFacts) (all : List (List Deed)) : Type 0 where
-  pub clock : ℕ → ℕ
-  pub packets_keep : (k : ℕ) (packet : PacketFacts) → slice_get packets k ≡ Some packet
-      → (clock k ≤ packet.moment) × (packet.moment ≤ clock (k + 1))
-  pub removals_keep : AreAllAged (λ w a. a.moment ≡ clock a.behind) all
-
--- What comes of all workers' deeds: the packets were judged, and between them sessions removed. Where the deeds keep time
--- the moments of all steps never fall, and where each session was removed by the worker of its bucket it is so in the steps.
-pub record CameOf (d : Deal) (times : Timeouts) (policy : PolicyFacts) (packets : List PacketFacts) (all : List (List Deed))
-    (v : Views) (verdicts : List Verdict) : Type 0 where
-  pub removals : List Removal
-  pub judged : AreJudgedBetween d times policy packets removals verdicts
-  pub known : judged.views ≡ v
-  pub in_time : KeepTime packets all → NeverFall 0 (map moment_of judged.steps)
-  pub own : AreAllAged (λ w a. IsByOwner d (removal_by w a)) all → All (IsByOwner d) removals
+  pub did : HaveDeeds (sizes_in d.layout family) times family all v

@@ -7,21 +7,15 @@ use Rattle.packet_view.specs.Captures.{PacketFacts}
 use Rattle.packet_view.specs.Frames as frames
 use Rattle.packet_view.specs.declared.tuple.Family.{Family}
 use Rattle.acl_policy.specs.Policies.{PolicyFacts}
-use Rattle.bihash_words.specs.Sizes.{Sizes}
-use Rattle.bihash_rule.specs.Views.{no_openings}
-use Rattle.bihash_rule.specs.Callers.{IsLawfulCaller}
 use Rattle.bihash_rule.specs.Histories.{event_of}
-use Rattle.bihash_steps.specs.Steps.{IsToldWhole}
 use Rattle.bihash_rule.specs.declared.view.Call.{Call}
-use Rattle.bihash_rule.specs.declared.view.View.{View}
 use Rattle.session_state.specs.declared.timeouts.Timeouts.{Timeouts}
 use Rattle.session_state.specs.declared.verdict.Verdict.{Verdict}
 use Rattle.flow_filter.specs.Readings.{IsReading, IsSeen, Reading}
 use Rattle.flow_filter.specs.Updates.{Update, update_of}
 use Rattle.flow_filter.specs.Judged.{IsAsked, Judged, verdict_on}
-use Rattle.flow_filter.specs.OneThread.{Layout, home_of, sizes_in}
+use Rattle.flow_filter.specs.OneThread.{Layout, home_of}
 use Rattle.packet_dealing.specs.Dealings.{Deal, flow_of_reading, flow_of_frame, worker_of}
-use Rattle.flow_dealing.specs.Wanted.{HaveWanted}
 use Rattle.flow_dealing.specs.WorkerRecords.{add_in}
 
 -- a packet by its number, from 0, its reading, and the call that it made
@@ -71,26 +65,11 @@ pub record IsTrace (d : Deal) (times : Timeouts) (worker : ℕ) (policy : Policy
   pub dealt : (views : List frames.FrameFacts) → AreFrames policy packets views
       → map (λ i. i.packet) trace ≡ numbers_from d worker 0 views
 
--- The records are those of the workers in their order, each with the calls of its worker's trace, of a table whose buckets
--- began empty; calls that were refused for want of a block had wanted it.
-pub record HaveTraces (z : Sizes) (times : Timeouts) (family : Family) (traces : List (List Item)) (v : View)
-    : Type 0 where
-  pub records : AllZip (λ trace r. r.calls ≡ calls_in times family trace) traces v.records
-  pub openings : v.known.openings ≡ no_openings
-  pub wanted : HaveWanted z v
-
 -- the traces are those of all workers, in their order
 pub record AreTraces (d : Deal) (times : Timeouts) (policy : PolicyFacts) (packets : List PacketFacts)
     (traces : List (List Item)) : Type 0 where
   pub count : length traces ≡ d.workers
   pub each : (w : ℕ) (trace : List Item) → get_elem? traces w ≡ some trace → IsTrace d times w policy packets trace
-
--- one family's callers of these workers, all of them, as one caller that is lawful and whole
-pub record AreGathered (d : Deal) (times : Timeouts) (family : Family) (traces : List (List Item))
-    (v : View) : Type 0 where
-  pub lawful : IsLawfulCaller (sizes_in d.layout family) v
-  pub told : IsToldWhole (sizes_in d.layout family) v
-  pub did : HaveTraces (sizes_in d.layout family) times family traces v
 
 -- each packet's verdict is at its place
 pub record ArePlaced (times : Timeouts) (packets : List PacketFacts) (traces : List (List Item))

@@ -1,6 +1,6 @@
 -- What many workers leave: one event for each packet of a flow, in the record of the worker that it was dealt to, and one for
 -- each session that they remove.
-use Rattle.std.specs.Prelude.{◌≡◌, ◌≢◌, ◌≤◌, ◌<◌, ◌*◌, ◌%◌, ◌^◌, ℕ, ◌+◌, ◌==◌, ◌&&◌, Bool, true, false, count_by, if◌then◌else◌, List, [], ◌∷◌, length, map, Option, Some, None, All}
+use Rattle.std.specs.Prelude.{◌≡◌, ◌≢◌, ◌≤◌, ◌<◌, ◌*◌, ◌%◌, ◌^◌, ◌-◌, ℕ, ◌+◌, ◌==◌, ◌&&◌, Bool, true, false, count_by, if◌then◌else◌, List, [], ◌∷◌, length, map, Option, Some, None, All}
 use lib.ListN.{get_elem?}
 use mathlib.Core.Option.{some}
 use Rattle.packet_view.specs.Captures.{PacketFacts}
@@ -115,6 +115,35 @@ HavePages verdicts = All (λ v. v ≢ NoPages) verdicts
 -- a session is removed by the worker to whom packets of its bucket are dealt
 abbrev pub IsByOwner : Deal → Removal → Type 0
 IsByOwner d r = r.worker ≡ (removed_from d.layout r).bucket % d.workers
+
+-- how many seconds after a session has ended workers remove it
+abbrev pub removal_delay : ℕ
+removal_delay = 60
+
+-- what was removed was expired for so long already
+abbrev pub HasLongExpired : Timeouts → Removal → Type 0
+HasLongExpired times r = IsOfExpired times (record r { moment = r.moment - removal_delay })
+
+-- the moments of packets never fall
+abbrev pub AreInTimeOrder : List PacketFacts → Type 0
+AreInTimeOrder packets = NeverFall 0 (map (λ p. Some p.moment) packets)
+
+-- The packets were judged by workers, and this is what all of them know together. Where they age, each removes, between its own
+-- packets, sessions of its own buckets that ended so long before that a packet which is late by less loses none; where they don't,
+-- none is removed. Where the packets' moments never fall, those of all steps don't either.
+pub record AreJudgedAgeing (d : Deal) (times : Timeouts) (ages : Bool) (policy : PolicyFacts) (packets : List PacketFacts)
+    (verdicts : List Verdict) (views : Views) : Type 0 where
+  pub removals : List Removal
+  pub judged : AreJudgedBetween d times policy packets removals verdicts
+  pub known : judged.views ≡ views
+  pub none : ages ≡ false → removals ≡ []
+  pub own : All (IsByOwner d) removals
+  pub late : All (HasLongExpired times) removals
+  pub in_time : AreInTimeOrder packets → NeverFall 0 (map moment_of judged.steps)
+
+-- packets and removals are no more than the writes that a bucket may have
+abbrev pub AreWithinLimit : Deal → List PacketFacts → List Removal → Type 0
+AreWithinLimit d packets removals = (family : Family) → length packets + length removals ≤ (bounds_in d.layout family).limit
 
 -- Each session is removed by the worker of its bucket, moments never fall, and packets and removals are no more than the
 -- writes that a bucket may have.

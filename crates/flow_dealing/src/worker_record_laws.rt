@@ -1,7 +1,7 @@
 //! What traces and records of all workers mean for the verdicts.
 //!
 //! The functions do nothing: their contracts are the laws.
-ghost use Rattle.std.specs.Prelude.{◌≡◌, ◌⊎◌, ◌<◌, List, All, map};
+ghost use Rattle.std.specs.Prelude.{◌≡◌, ◌⊎◌, ◌<◌, Bool, List, All, map};
 ghost use Rattle.packet_view.specs.Captures.{PacketFacts};
 ghost use Rattle.packet_view.specs.declared.tuple.Family.{Family};
 ghost use Rattle.acl_policy.specs.Policies.{PolicyFacts};
@@ -11,31 +11,21 @@ ghost use Rattle.flow_filter.specs.Ageing.{Removal, Step};
 ghost use Rattle.flow_filter.specs.OneThread.{AreVerdicts};
 ghost use Rattle.packet_dealing.specs.declared.dealing.Dealing.TheVariants.{Bucket};
 ghost use Rattle.flow_dealing.specs.Views.{Views, view_in};
-ghost use Rattle.flow_dealing.specs.AgeingTraces.{AreAllDeeds, CameOf, Deed, HaveDone, items_in};
+ghost use Rattle.flow_dealing.specs.AgeingTraces.{AreAllDeeds, Deed, HaveDone, items_in};
 ghost use Rattle.packet_dealing.specs.Dealings.{Deal};
-ghost use Rattle.flow_dealing.specs.Traces.{AreGathered, ArePlaced, AreTraces, Item};
+ghost use Rattle.flow_dealing.specs.Traces.{ArePlaced};
 ghost use Rattle.flow_dealing.specs.Places.{HaveOwnCalls, PassAtPlaces};
-ghost use Rattle.flow_dealing.specs.WorkerRecords.{AreFew, AreFewBetween, AreJudged, AreJudgedBetween, AreJudgedBy, HasPagesIn, HavePages, RemoveInTime};
+ghost use Rattle.flow_dealing.specs.WorkerRecords.{AreFew, AreFewBetween, AreInTimeOrder, AreJudged, AreJudgedAgeing, AreJudgedBetween, AreWithinLimit, HasPagesIn, HavePages, RemoveInTime};
 
-/// Where each worker judged the packets that were dealt to it, each packet was judged once, and its event
-/// is in the record of its worker.
-pub fn traces_judge_each_packet()
-    ensures { (d : Deal) (times : Timeouts) (policy : PolicyFacts) (packets : List PacketFacts)
-        (traces : List (List Item)) (v : Views) (verdicts : List Verdict)
-        → 0 < d.workers → AreTraces d times policy packets traces
-        → ((family : Family) → AreGathered d times family traces (view_in v family))
-        → ArePlaced times packets traces verdicts → AreJudgedBy d times policy packets verdicts v }
-{}
-
-/// Where each worker judged the packets that were dealt to it and removed sessions that had ended between them, each packet
-/// was judged once, and its event and each removal's are in the record of its worker. They stand in one order of steps: where
-/// the deeds keep time, the moments of all steps never fall.
+/// Where each worker judged the packets that were dealt to it, and where workers age removed sessions that had ended between
+/// them, each packet was judged once, and its event and each removal's are in the record of its worker, in one order of steps.
 pub fn deeds_judge_each_packet()
-    ensures { (d : Deal) (times : Timeouts) (policy : PolicyFacts) (packets : List PacketFacts)
+    ensures { (d : Deal) (times : Timeouts) (ages : Bool) (policy : PolicyFacts) (packets : List PacketFacts)
         (all : List (List Deed)) (v : Views) (verdicts : List Verdict)
-        → 0 < d.workers → AreAllDeeds d times policy packets all
+        → 0 < d.workers → AreAllDeeds d times ages policy packets all
         → ((family : Family) → HaveDone d times family all (view_in v family))
-        → ArePlaced times packets (map items_in all) verdicts → CameOf d times policy packets all v verdicts }
+        → ArePlaced times packets (map items_in all) verdicts
+        → AreJudgedAgeing d times ages policy packets verdicts v }
 {}
 
 /// By the records of all workers: with one worker, or where packets are dealt by bucket, and no verdict says that pages
@@ -50,12 +40,17 @@ pub fn workers_give_one_report()
 /// By the records of all workers who remove sessions that have ended: with one worker, or where packets are dealt by bucket,
 /// where each session is removed by the worker of its bucket and moments never fall, where no verdict says that pages were
 /// wanting and there are no more packets and removals than writes that a bucket may have, the verdicts are those of the
-/// one-thread filter, which removes none.
+/// one-thread filter, which removes none. So they are where workers age, the packets' moments never fall, and packets and
+/// removals are so few.
 pub fn ageing_workers_give_one_report()
-    ensures { (d : Deal) (times : Timeouts) (policy : PolicyFacts) (packets : List PacketFacts) (removals : List Removal)
+    ensures by_steps { (d : Deal) (times : Timeouts) (policy : PolicyFacts) (packets : List PacketFacts) (removals : List Removal)
         (verdicts : List Verdict) (are : AreJudgedBetween d times policy packets removals verdicts)
         → (d.dealing ≡ Bucket) ⊎ (d.workers ≡ 1) → HavePages verdicts → RemoveInTime d are.steps
         → AreVerdicts d.layout times policy packets verdicts }
+    ensures by_workers { (d : Deal) (times : Timeouts) (ages : Bool) (policy : PolicyFacts) (packets : List PacketFacts)
+        (verdicts : List Verdict) (v : Views) (are : AreJudgedAgeing d times ages policy packets verdicts v)
+        → (d.dealing ≡ Bucket) ⊎ (d.workers ≡ 1) → HavePages verdicts → AreInTimeOrder packets
+        → AreWithinLimit d packets are.removals → AreVerdicts d.layout times policy packets verdicts }
 {}
 
 /// By the records of all workers: with so few packets of a family's flows that its pages can't run out, none of them is

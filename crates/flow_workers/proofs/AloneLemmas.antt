@@ -14,7 +14,8 @@ use Rattle.bihash_rule.specs.declared.view.Call.{Call}
 use Rattle.bihash_rule.specs.declared.view.Known.{Known}
 use Rattle.bihash_rule.specs.declared.view.View.{View}
 use Rattle.session_state.specs.declared.verdict.Verdict.{Verdict}
-use Rattle.flow_dealing.specs.Traces.{IsTrace}
+use Rattle.flow_dealing.specs.Views.{Views}
+use Rattle.flow_dealing.specs.AgeingTraces.{AreDeeds, items_in}
 use Rattle.flow_dealing.specs.Wanted.{HasWanted, HaveWanted}
 use Rattle.flow_dealing.proofs.TraceMerges.{judge_each_packet}
 use Rattle.flow_workers.specs.declared.worker_setup.Setup.{Setup}
@@ -30,7 +31,7 @@ use Rattle.flow_workers.specs.inner.CallerSplits.{IsMadeWhole}
 use Rattle.flow_workers.specs.inner.Jobs.{HasWorked, run_facts}
 use Rattle.flow_workers.specs.inner.Turns.{HaveWorked}
 use Rattle.flow_workers.specs.inner.Work.{RecordContinues}
-use Rattle.flow_workers.proofs.WorkerCallerLemmas.{same_traces}
+use Rattle.flow_workers.proofs.WorkerCallerLemmas.{same_deeds}
 use Rattle.flow_workers.proofs.MergeLemmas.{one_placed}
 use Rattle.flow_workers.proofs.RestLemmas.{rest_judged}
 use Rattle.flow_workers.proofs.WorkerResultLemmas.{gathered, rest_done}
@@ -74,10 +75,12 @@ module _ {A B R G K L : Type 0} (ga : Ghosts A K) (gb : Ghosts B L) (setup : Set
     began = rest.began;
     fresh = rest.fresh;
     work = λ more. let work = rest.work more in record {
-      trace = work.trace;
+      deeds = work.deeds;
       items = work.items;
       of = work.of;
       dealt = work.dealt;
+      removals = work.removals;
+      order = work.order;
       four = whole_continues _ _ _ _ _ gone.four work.four;
       six = whole_continues _ _ _ _ _ gone.six work.six;
       wanted = (
@@ -94,17 +97,20 @@ module _ {A B R G K L : Type 0} (ga : Ghosts A K) (gb : Ghosts B L) (setup : Set
   judged_let_go one =
       let run = run_facts ga gb setup packets in
       let done = rest_done ga gb before setup packets 0 old rest in
-      (judge_each_packet run.deal run.times run.policy run.packets (done.trace ∷ []) (views_of ga gb new.callers)
-      (before ++ said) (omega arith)
-      (record {
-        count = sym one;
-        each = λ w t at. only_there done.trace t w (λ n x. IsTrace run.deal run.times n run.policy run.packets x) done.is at;
-      })
-      (gathered ga gb setup.tables.now run (done.trace ∷ []) (views_of ga gb new.callers)
-      (gone.four.lawful, gone.six.lawful) (gone.four.whole, gone.six.whole)
-      (same_traces _ _ V4 _ _ _ gone.four.records gone.four.known done.four)
-      (same_traces _ _ V6 _ _ _ gone.six.records gone.six.known done.six))
-      (one_placed run done.trace (before ++ said) one done.is (ap (λ vs. before ++ vs) gone.said ∙ done.said))).0
+      let v : Views = views_of ga gb new.callers in (
+        v,
+        judge_each_packet run.deal run.times run.ages run.policy run.packets (done.deeds ∷ []) v (before ++ said) (omega arith)
+        (record {
+          count = sym one;
+          each = λ w t at.
+              only_there done.deeds t w (λ n x. AreDeeds run.deal run.times run.ages n run.policy run.packets x) done.are at;
+        })
+        (gathered ga gb setup.tables.now run (done.deeds ∷ []) v
+        (gone.four.lawful, gone.six.lawful) (gone.four.whole, gone.six.whole)
+        (same_deeds _ _ V4 _ _ _ gone.four.records gone.four.known done.four)
+        (same_deeds _ _ V6 _ _ _ gone.six.records gone.six.known done.six))
+        (one_placed run (items_in done.deeds) (before ++ said) one done.are.trace (ap (λ vs. before ++ vs) gone.said ∙ done.said)),
+      )
 
 -- ---- The only worker
 

@@ -76,6 +76,7 @@ module _ {A B R G K L : Type 0} (ga : Ghosts A K) (gb : Ghosts B L) (batch : Bat
       → IsHashed (layout_of ga gb) viewed.hashed.now → MayJudgeViewed ga gb batch worker at filter viewed share
   may_judge_viewed worker at packet filter viewed frame share may ready seen same shown only hashed = record {
     shapes = may.shapes;
+    few = may.few;
     idle = may.idle;
     fits = may.fits;
     stands = record {

@@ -1,3 +1,4 @@
+pub mod AgeingSteps
 pub mod AloneLemmas
 pub mod AnsweredUpdates
 pub mod BatchMerges

@@ -206,13 +206,14 @@ module _ {A B R G K L : Type 0} (ga : Ghosts A K) (gb : Ghosts B L) (batch : Bat
   -- the next one may be judged by what was found of it
   pub may_judge_found : (dealt : DealtPacket) (left : List DealtPacket) (old between : Share A B K L ga gb)
       (others : List Packet) → IsNextFound ga gb batch w first chunk dealt left old between
-      → others ≡ chunk.others.items → AreShapes ga gb → batch.first + length (remaining batch.packets) < 2 ^ 64
+      → others ≡ chunk.others.items → AreShapes ga gb → w < batch.setup.workers → batch.first + length (remaining batch.packets) < 2 ^ 64
       → MayJudgeFound ga gb batch w first (map packet_facts others) dealt between
-  may_judge_found dealt left old between others is same shapes fits = record {
+  may_judge_found dealt left old between others is same shapes few fits = record {
     packet = is.packet;
     is = subst (λ os. IsFoundOf (layout_of ga gb) (map packet_facts os) is.packet dealt) (sym same) is.found;
     may = record {
       shapes = shapes;
+      few = few;
       idle = is.next.worked.idle;
       fits = fits;
       there = is.next.there;

@@ -159,4 +159,4 @@ pub said_by : {A B R G K L : Type 0} (ga : Ghosts A K) (gb : Ghosts B L) (all : 
     (setup : Setup A B R G K L) (packets : List PacketFacts) (verdicts : List Verdict) (callers : Callers A B K L ga gb)
     → all.setup ≡ setup → AreAtRest packets all → HaveEnded all verdicts callers → HaveAllSaid ga gb setup packets verdicts
 said_by ga gb all setup packets verdicts callers by rest ended =
-    subst (λ s. HaveAllSaid ga gb s packets verdicts) by (ended.said packets rest).0
+    subst (λ s. HaveAllSaid ga gb s packets verdicts) by (views_of ga gb callers, ended.said packets rest)

@@ -11,7 +11,7 @@ use Rattle.bihash_rule.specs.Views.{empty_record}
 use Rattle.bihash_rule.specs.declared.view.View.{View}
 use Rattle.bihash_steps.proofs.Lists.{there}
 use Rattle.session_state.specs.declared.timeouts.Timeouts.{Timeouts}
-use Rattle.flow_dealing.specs.Traces.{HaveTraces, Item, calls_in}
+use Rattle.flow_dealing.specs.AgeingTraces.{Deed, HaveDeeds, calls_by}
 use Rattle.flow_dealing.proofs.TraceMerges.{HasCalls}
 use Rattle.flow_dealing.specs.Wanted.{HaveWanted}
 use Rattle.flow_workers.specs.declared.worker_share.Dealt.{Dealt}
@@ -50,9 +50,9 @@ pub if_ok : {X E : Type 0} (P Q : X → Type 0) (r : Result X E) → ((x : X) �
 if_ok P Q (Ok x) f h = f x h
 if_ok P Q (Err e) f h = tt
 
-pub fresh_trace : (z : Sizes) (times : Timeouts) (family : Family) (v w : View) (t : List Item) → IsFreshView v
-    → RecordContinues v w (calls_in times family t) → (HaveWanted z v → HaveWanted z w) → HaveTraces z times family (t ∷ []) w
-fresh_trace z times family v w t fresh goes wanted =
+pub fresh_deeds : (z : Sizes) (times : Timeouts) (family : Family) (v w : View) (t : List Deed) → IsFreshView v
+    → RecordContinues v w (calls_by times family t) → (HaveWanted z v → HaveWanted z w) → HaveDeeds z times family (t ∷ []) w
+fresh_deeds z times family v w t fresh goes wanted =
     let r = goes.calls (empty_record fresh.number) fresh.records in
     record {
       records = subst (AllZip (HasCalls times family) (t ∷ [])) (sym r.1) (refl, tt);

@@ -1,17 +1,18 @@
 -- What calls wanted that were refused for want of a block stays known, and a new call of a caller is told of it.
 use Rattle.std.proofs.Common.{◌≡◌, ◌≤◌, ◌⊎◌, ◌∙◌, ℕ, zero, suc, Bool, true, false, cond, List, [], ◌∷◌, ◌++◌, length, map, Option, Some, Result, Ok, Err, IfOk, All, get_or, ap, arith, inl, inr, pow_pos, refl, sym, subst}
-use Rattle.std.specs.Prelude.{slice_get, count_by, ◌==◌}
+use Rattle.std.specs.Prelude.{slice_get, slice_set, count_by, if◌then◌else◌, ◌==◌}
 use Rattle.std.specs.FinMap.{get}
 use Rattle.std.proofs.Math.Nat.{mod-lt}
 use Rattle.std.proofs.lemmas.Bool.{cases_eq}
 use Rattle.std.proofs.lemmas.List.{length-map}
 use Rattle.std.proofs.lemmas.List.Elements.{All-append, All-cons, All-head, All-nil, All-push, All-tail, All-weaker}
 use Rattle.bihash_words.specs.Blocks.{HoldsMap}
-use Rattle.bihash_words.specs.Maps.{Event, Pairs}
+use Rattle.bihash_words.specs.Maps.{Answers, Bounds, Event, OldKey, Pairs, WornOut}
 use Rattle.bihash_words.specs.Pages.{page_of, paging_of, word_paging}
 use Rattle.bihash_words.specs.Patches.{free_mark}
 use Rattle.bihash_words.specs.Sizes.{Sizes, bucket_of, sizes_of}
 use Rattle.bihash_words.specs.declared.patch.Change.{Change}
+use Rattle.bihash_words.specs.declared.patch.Change.TheVariants.{Remove}
 use Rattle.bihash_words.specs.declared.patch.Reply.{Reply}
 use Rattle.bihash_words.specs.declared.patch.Reply.TheVariants.{NoPages}
 use Rattle.bihash_words.specs.declared.shape.Shape.{Ghosts}
@@ -20,9 +21,10 @@ use Rattle.bihash_plan.specs.Blocks.{HasKey, HasPairAt, IsFree, IsLawfulBlock, I
 use Rattle.bihash_plan.specs.Plans.{HasRoom, IsGrowth, IsLinearSize, IsPlan, IsSplit, NeedsLinear, keys_of}
 use Rattle.bihash_plan.specs.declared.plan_answer.Plan.TheVariants.{Grow}
 use Rattle.bihash_plan.proofs.Pairs.{count_by-map}
+use Rattle.bihash_steps.specs.BucketCalls.{event}
 use Rattle.bihash_steps.specs.BucketSteps.{last_call, map_now, push_call}
 use Rattle.bihash_rule.specs.Callers.{IsConsistent, IsLawfulCaller, known_at, opening_at, opening_in}
-use Rattle.bihash_rule.specs.Histories.{IsPrefix, after}
+use Rattle.bihash_rule.specs.Histories.{IsPrefix, after, is_changed}
 use Rattle.bihash_steps.specs.Steps.{longer, longer_each, view_after_join}
 use Rattle.bihash_rule.specs.Views.{empty_record}
 use Rattle.bihash_rule.specs.declared.view.Call.{Call}
@@ -36,9 +38,9 @@ use Rattle.bihash_steps.proofs.Prefixes.{after_longer, longer_known, prefix_leng
 use Rattle.bihash_table.specs.Answers.{entry_of, with_locks}
 use Rattle.bihash_plan.specs.Wants.{IsPlanned}
 use Rattle.bihash_table.specs.OutOfPages.{IsOutOfPages}
-use Rattle.bihash_table.specs.Promise.{IsAnswered, IsUpdatedOver}
+use Rattle.bihash_table.specs.Promise.{IsAnswered, IsContended, IsUpdatedOver}
 use Rattle.bihash_laws.specs.CallRuns.{IsLawfulAnswer}
-use Rattle.bihash_laws.proofs.AnsweredCalls.{continues, openings_same, others_known}
+use Rattle.bihash_laws.proofs.AnsweredCalls.{continues, legal, openings_same, others_known}
 use Rattle.flow_dealing.specs.Wanted.{HasWanted, HaveWanted, WantsBlock}
 use Rattle.flow_workers.specs.inner.Fresh.{IsFreshView}
 use Rattle.flow_workers.proofs.ShortPackets.{pushed_last}
@@ -289,6 +291,14 @@ answered_grows z v w e answered lawful = record {
     is : IsLawfulAnswer z (bucket_of z e.key) v w e
     is = record { home = refl; answered = answered; lawful = lawful }
 
+-- a call was answered, and wanted the block if it was refused for want of one
+push_wanted : (z : Sizes) (v w : View) (e : Event) (answered : IsAnswered z v w e) → IsLawfulCaller z w
+    → HasWanted z w.known (entry_of z (length answered.history) e answered.noted) → HaveWanted z v → HaveWanted z w
+push_wanted z v w e answered lawful wanted had =
+    subst (All (λ r. All (HasWanted z w.known) r.calls)) (sym answered.records)
+    (all_pushed (HasWanted z w.known) (entry_of z (length answered.history) e answered.noted) answered.locks v.records
+    (all_still z v.known w.known (answered_grows z v w e answered lawful) v.records had) wanted)
+
 -- the call of a key was answered so, and its caller is lawful then
 keep_wanted : {A K : Type 0} (g : Ghosts A K) → ((key : K) → g.key_of (g.words_of key) ≡ key)
     → ((words : List ℕ) → length words ≡ g.WORDS → g.words_of (g.key_of words) ≡ words)
@@ -297,10 +307,7 @@ keep_wanted : {A K : Type 0} (g : Ghosts A K) → ((key : K) → g.key_of (g.wor
     → ((log2 left : ℕ) → e.reply ≡ NoPages log2 left
     → IsOutOfPages g w (bucket_of (sizes_of g) (g.words_of key)) key log2 left)
     → HaveWanted (sizes_of g) v → HaveWanted (sizes_of g) w
-keep_wanted g back there v w e key same answered lawful short had =
-    subst (All (λ r. All (HasWanted z w.known) r.calls)) (sym answered.records)
-    (all_pushed (HasWanted z w.known) entry answered.locks v.records
-    (all_still z v.known w.known (answered_grows z v w e answered lawful) v.records had) wanted)
+keep_wanted g back there v w e key same answered lawful short had = push_wanted z v w e answered lawful wanted had
   where
     z : Sizes
     z = sizes_of g
@@ -328,6 +335,55 @@ keep_wanted g back there v w e key same answered lawful short had =
           subst (λ n. WantsBlock z (after (opening_at w.known b) (known_at w.known b) n) e.key log2) (sym stamp)
               (wants_planned g back there (map_now w b) key e.key log2 o.linear same long o.planned),
         )
+
+-- a removal was answered, which is never refused for want of a block
+pub removal_keeps_wanted : (z : Sizes) (v w : View) (key : List ℕ) (value : ℕ) (reply : Reply)
+    → IsAnswered z v w (event key (Some value) Remove reply) → IsLawfulCaller z w → HaveWanted z v → HaveWanted z w
+removal_keeps_wanted z v w key value reply answered lawful had =
+    push_wanted z v w e answered lawful (λ log2 left refused. absurd (never log2 left refused)) had
+  where
+    e : Event
+    e = event key (Some value) Remove reply
+
+    is : IsLawfulAnswer z (bucket_of z key) v w e
+    is = record { home = refl; answered = answered; lawful = lawful }
+
+    none : (b : Bounds) (m m' : Pairs) (log2 left : ℕ) → reply ≡ NoPages log2 left → (t : Bool)
+        → Answers (if t then OldKey else WornOut) b m e m' → ⊥
+    none b m m' log2 left refused true answers = let told = answers.0 in cc
+    none b m m' log2 left refused false answers = let told = answers.0 in cc
+
+    never : (log2 left : ℕ) → reply ≡ NoPages log2 left → ⊥
+    never log2 left refused =
+        let answer = (legal z (bucket_of z key) v w e is).other (ap is_changed refused) in
+        none _ _ answer.0 log2 left refused _ answer.1.answers
+
+-- a look was answered without an entry: more may be known of a bucket's writes
+learned_grows : (z : Sizes) (v w : View) (b : ℕ) → IsContended z v w b → Grows v.known w.known
+learned_grows z v w b learned = record {
+  openings = ap (λ (k : Known). k.openings) learned.known;
+  each = λ c. subst (λ (k : Known). IsPrefix (known_at v.known c) (known_at k c)) (sym learned.known)
+      (set_continues v.known.writes b c learned.history learned.begins);
+}
+  where
+    set_continues : (xss : List (List Write)) (at other : ℕ) (ys : List Write) → IsPrefix (get_or xss at []) ys
+        → IsPrefix (get_or xss other []) (get_or (slice_set xss at ys) other [])
+    set_continues [] at other ys begins = prefix_refl []
+    set_continues (xs ∷ xss) zero zero ys begins = begins
+    set_continues (xs ∷ xss) zero (suc other) ys begins = prefix_refl (get_or xss other [])
+    set_continues (xs ∷ xss) (suc at) zero ys begins = prefix_refl xs
+    set_continues (xs ∷ xss) (suc at) (suc other) ys begins = set_continues xss at other ys begins
+
+pub look_keeps_wanted : (z : Sizes) (v w : View) (b : ℕ) → IsContended z v w b → HaveWanted z v → HaveWanted z w
+look_keeps_wanted z v w b learned had =
+    subst (All (λ r. All (HasWanted z w.known) r.calls)) (sym learned.records)
+    (locked v.records (all_still z v.known w.known (learned_grows z v w b learned) v.records had))
+  where
+    locked : (rs : List Record) → All (λ r. All (HasWanted z w.known) r.calls) rs
+        → All (λ r. All (HasWanted z w.known) r.calls) (with_locks learned.locks rs)
+    locked [] all = all
+    locked (r ∷ rs) all = All-cons (λ r. All (HasWanted z w.known) r.calls) (record r { locks = learned.locks }) rs
+        (All-head (λ r. All (HasWanted z w.known) r.calls) r rs all) (All-tail (λ r. All (HasWanted z w.known) r.calls) r rs all)
 
 -- an update was answered so
 pub update_keeps_wanted : {A K : Type 0} (g : Ghosts A K) → ((key : K) → g.key_of (g.words_of key) ≡ key)

@@ -1,5 +1,5 @@
 -- One packet more of a worker.
-use Rattle.std.proofs.Common.{◌≡◌, ◌≢◌, ◌∙◌, ◌+◌, ◌<◌, ℕ, zero, suc, Bool, true, false, cond, List, [], ◌∷◌, ◌++◌, length, drop, map, Option, Some, None, ap, refl, sym, subst, arith, append_assoc, append-nil, add-one, eq-eqb}
+use Rattle.std.proofs.Common.{◌≡◌, ◌≢◌, ◌∙◌, ◌+◌, ◌<◌, ℕ, zero, suc, Bool, true, false, cond, All, List, [], ◌∷◌, ◌++◌, length, drop, map, Option, Some, None, ap, refl, sym, subst, arith, append_assoc, append-nil, add-one, eq-eqb}
 use Rattle.std.specs.Prelude.{if◌then◌else◌, ◌==◌, option_map, slice_get}
 use Rattle.std.proofs.lemmas.Bool.{ne_eqb}
 use Rattle.std.proofs.lemmas.List.Elements.{All-nil, All-push}
@@ -29,7 +29,9 @@ use Rattle.flow_filter.specs.Judged.{IsAskedBy, verdict_on}
 use Rattle.flow_filter.specs.OneThread.{Layout, family_of, home_of, same_family}
 use Rattle.flow_dealing.specs.Views.{Views}
 use Rattle.packet_dealing.specs.Dealings.{Deal, flow_of_reading, flow_of_frame, worker_of}
-use Rattle.flow_dealing.specs.Traces.{AreFrames, IsItem, IsItemOf, Item, calls_in, numbers_from}
+use Rattle.flow_dealing.specs.Traces.{AreFrames, IsItem, IsItemOf, Item, numbers_from}
+use Rattle.flow_dealing.specs.AgeingTraces.{Ages, AreInOrder, Deed, IsRemovalOf, Takes, aged_in, calls_by, items_in}
+use Rattle.flow_dealing.proofs.AgeingMerges.{order_from}
 use Rattle.flow_dealing.specs.WorkerRecords.{add_in}
 use Rattle.flow_workers.specs.Judging.{IsFlowEntry, IsEnteredBy, IsJudged}
 use Rattle.flow_workers.specs.inner.Work.{AreSaid, RecordContinues, IsWork, IsWorkUntil, RunFacts, numbers_of, verdict_in}
@@ -47,7 +49,7 @@ continues_same : (v u w : View) (cs : List Call) → w ≡ u → RecordContinues
 continues_same v u w cs same old =
     subst (λ k. RecordContinues v w k) (sym (append-nil cs)) (subst (λ x. RecordContinues v x cs) (sym same) old)
 
-continues_push : (z : Sizes) (v u w : View) (cs : List Call) (e : Event) (a : IsAnswered z u w e) → RecordContinues v u cs
+pub continues_push : (z : Sizes) (v u w : View) (cs : List Call) (e : Event) (a : IsAnswered z u w e) → RecordContinues v u cs
     → RecordContinues v w (cs ++ entry_of z (length a.history) e a.noted ∷ [])
 continues_push z v u w cs e a old = record {
   calls = λ r one. let before = old.calls r one in (
@@ -131,7 +133,7 @@ left_by l (Some u) None v x w c4 c6 asked entered four six = absurd entered
 left_by l (Some u) (Some e) v x w c4 c6 asked entered four six =
     by_key l u u.key e v x w c4 c6 refl (event_key u e asked) entered four six
 
--- ---- Lists of items
+-- ---- Lists of deeds
 
 add_in_append : (family : Family) (u : Option Update) (call : Option Call) (xs ys : List Call)
     → add_in family u call xs ++ ys ≡ add_in family u call (xs ++ ys)
@@ -143,14 +145,29 @@ add_in_append family (Some u) (Some c) xs ys = go (same_family family (family_of
     go true = refl
     go false = refl
 
-pub calls_push : (times : Timeouts) (family : Family) (is : List Item) (i : Item)
-    → calls_in times family (is ++ i ∷ [])
-    ≡ calls_in times family is ++ add_in family (update_of times i.reading) i.call []
-calls_push times family [] i = refl
-calls_push times family (x ∷ xs) i =
-    ap (add_in family (update_of times x.reading) x.call) (calls_push times family xs i)
-    ∙ sym (add_in_append family (update_of times x.reading) x.call (calls_in times family xs)
-    (add_in family (update_of times i.reading) i.call []))
+pub calls_join : (times : Timeouts) (family : Family) (deeds more : List Deed)
+    → calls_by times family (deeds ++ more) ≡ calls_by times family deeds ++ calls_by times family more
+calls_join times family [] more = refl
+calls_join times family (Takes i ∷ deeds) more =
+    ap (add_in family (update_of times i.reading) i.call) (calls_join times family deeds more)
+    ∙ sym (add_in_append family (update_of times i.reading) i.call (calls_by times family deeds) (calls_by times family more))
+calls_join times family (Ages a ∷ deeds) more = go (same_family family a.family) (calls_join times family deeds more)
+  where
+    go : (t : Bool) → calls_by times family (deeds ++ more) ≡ calls_by times family deeds ++ calls_by times family more
+        → (if t then a.call ∷ calls_by times family (deeds ++ more) else calls_by times family (deeds ++ more))
+        ≡ (if t then a.call ∷ calls_by times family deeds else calls_by times family deeds) ++ calls_by times family more
+    go true rest = ap (λ cs. a.call ∷ cs) rest
+    go false rest = rest
+
+pub items_join : (deeds more : List Deed) → items_in (deeds ++ more) ≡ items_in deeds ++ items_in more
+items_join [] more = refl
+items_join (Takes i ∷ deeds) more = ap (λ is. i ∷ is) (items_join deeds more)
+items_join (Ages a ∷ deeds) more = items_join deeds more
+
+pub aged_join : (deeds more : List Deed) → aged_in (deeds ++ more) ≡ aged_in deeds ++ aged_in more
+aged_join [] more = refl
+aged_join (Takes i ∷ deeds) more = aged_join deeds more
+aged_join (Ages a ∷ deeds) more = ap (λ others. a ∷ others) (aged_join deeds more)
 
 -- ---- Dealing
 
@@ -209,10 +226,12 @@ flow_at run at packet view reading is read =
 
 pub work_none : (run : RunFacts) (w : ℕ) (v : Views) → IsWorkUntil run w 0 v v []
 work_none run w v = record {
-  trace = [];
+  deeds = [];
   items = All-nil (IsItem run.deal.layout run.times);
   of = All-nil (IsItemOf run.deal w run.policy run.packets);
   dealt = λ views all. refl;
+  removals = All-nil (IsRemovalOf run.deal run.times run.ages run.packets w);
+  order = λ more in_order. in_order;
   four = continues_none v.four;
   six = continues_none v.six;
   wanted = (λ had. had, λ had. had);
@@ -237,13 +256,15 @@ pub work_passed : (run : RunFacts) (w at : ℕ) (v x : Views) (verdicts : List V
     → IsAt run at packet view → worker_of run.deal at (flow_of_frame view) ≢ w
     → IsWorkUntil run w at v x verdicts → IsWorkUntil run w (at + 1) v x verdicts
 work_passed run w at v x verdicts packet view is other old = record {
-  trace = old.trace;
+  deeds = old.deeds;
   items = old.items;
   of = old.of;
   dealt = λ views all.
-      ap (λ ns. numbers_of old.trace ++ ns)
+      ap (λ ns. numbers_of (items_in old.deeds) ++ ns)
       (sym (numbers_at run w at packet view is views all false (ne_eqb _ _ other)))
       ∙ old.dealt views all;
+  removals = old.removals;
+  order = λ more in_order. old.order more (order_from (length run.packets) at (at + 1) more (omega arith) in_order);
   four = old.four;
   six = old.six;
   wanted = old.wanted;
@@ -262,35 +283,46 @@ pub work_push : (run : RunFacts) (w at : ℕ) (v x y : Views) (verdicts : List V
     → IsJudged run.deal.layout TookByTries run.times run.policy packet x y verdict → KeepWanted run.deal.layout x y
     → IsWorkUntil run w at v x verdicts → IsWorkUntil run w (at + 1) v y (verdicts ++ verdict ∷ [])
 work_push run w at v x y verdicts packet view verdict is mine j keep old = record {
-  trace = old.trace ++ item ∷ [];
-  items = All-push (IsItem run.deal.layout run.times) old.trace item old.items (record {
-    asked = asked;
-    placed = call_at run.deal.layout _ _ left.placed;
-  });
-  of = All-push (IsItemOf run.deal w run.policy run.packets) old.trace item old.of (record {
-    packet = packet;
-    there = is.stands;
-    read = j.read;
-    dealt = ap (worker_of run.deal at) (flow_at run at packet view j.judged.reading is j.read) ∙ mine;
-  });
+  deeds = old.deeds ++ Takes item ∷ [];
+  items = subst (All (IsItem run.deal.layout run.times)) (sym (items_join old.deeds (Takes item ∷ [])))
+      (All-push (IsItem run.deal.layout run.times) trace item old.items (record {
+        asked = asked;
+        placed = call_at run.deal.layout _ _ left.placed;
+      }));
+  of = subst (All (IsItemOf run.deal w run.policy run.packets)) (sym (items_join old.deeds (Takes item ∷ [])))
+      (All-push (IsItemOf run.deal w run.policy run.packets) trace item old.of (record {
+        packet = packet;
+        there = is.stands;
+        read = j.read;
+        dealt = ap (worker_of run.deal at) (flow_at run at packet view j.judged.reading is j.read) ∙ mine;
+      }));
   dealt = λ views all.
-      ap (λ ns. ns ++ numbers_from run.deal w (at + 1) (drop (at + 1) views))
-      (map-append (λ (i : Item). i.packet) old.trace (item ∷ []))
-      ∙ (append_assoc (numbers_of old.trace) (at ∷ []) (numbers_from run.deal w (at + 1) (drop (at + 1) views))
-      ∙ (ap (λ ns. numbers_of old.trace ++ ns)
+      ap (λ is. numbers_of is ++ numbers_from run.deal w (at + 1) (drop (at + 1) views)) (items_join old.deeds (Takes item ∷ []))
+      ∙ (ap (λ ns. ns ++ numbers_from run.deal w (at + 1) (drop (at + 1) views))
+      (map-append (λ (i : Item). i.packet) trace (item ∷ []))
+      ∙ (append_assoc (numbers_of trace) (at ∷ []) (numbers_from run.deal w (at + 1) (drop (at + 1) views))
+      ∙ (ap (λ ns. numbers_of trace ++ ns)
       (sym (numbers_at run w at packet view is views all true (eq-eqb _ _ mine)))
-      ∙ old.dealt views all));
-  four = subst (λ cs. RecordContinues v.four y.four cs) (sym (calls_push run.times V4 old.trace item)) left.four;
-  six = subst (λ cs. RecordContinues v.six y.six cs) (sym (calls_push run.times V6 old.trace item)) left.six;
+      ∙ old.dealt views all)));
+  removals = subst (All (IsRemovalOf run.deal run.times run.ages run.packets w))
+      (sym (aged_join old.deeds (Takes item ∷ []) ∙ append-nil (aged_in old.deeds))) old.removals;
+  order = λ more in_order. subst (AreInOrder (length run.packets) 0) (sym (append_assoc old.deeds (Takes item ∷ []) more))
+      (old.order (Takes item ∷ more) (omega arith, in_order));
+  four = subst (λ cs. RecordContinues v.four y.four cs) (sym (calls_join run.times V4 old.deeds (Takes item ∷ []))) left.four;
+  six = subst (λ cs. RecordContinues v.six y.six cs) (sym (calls_join run.times V6 old.deeds (Takes item ∷ []))) left.six;
   wanted = (λ had. keep.0 (old.wanted.0 had), λ had. keep.1 (old.wanted.1 had));
-  said = said_push run old.trace item verdicts verdict old.said said;
+  said = subst (λ is. AreSaid run is (verdicts ++ verdict ∷ [])) (sym (items_join old.deeds (Takes item ∷ [])))
+      (said_push run trace item verdicts verdict old.said said);
 }
   where
+    trace : List Item
+    trace = items_in old.deeds
+
     left : Left run.deal.layout (update_of run.times j.judged.reading) j.judged.event v y
-        (calls_in run.times V4 old.trace) (calls_in run.times V6 old.trace)
+        (calls_by run.times V4 old.deeds) (calls_by run.times V6 old.deeds)
     left =
         left_by run.deal.layout (update_of run.times j.judged.reading) j.judged.event v x y
-        (calls_in run.times V4 old.trace) (calls_in run.times V6 old.trace) j.asked j.entered old.four old.six
+        (calls_by run.times V4 old.deeds) (calls_by run.times V6 old.deeds) j.asked j.entered old.four old.six
 
     item : Item
     item = record { packet = at; reading = j.judged.reading; call = left.call }
@@ -338,19 +370,23 @@ no_views policy (p ∷ ps) (view ∷ views) (suc at) all none = no_views policy 
 all_looked_at : (run : RunFacts) (w at : ℕ) (v u : Views) (verdicts : List Verdict)
     → drop at run.packets ≡ []
     → (work : IsWorkUntil run w at v u verdicts) (views : List frames.FrameFacts)
-    → AreFrames run.policy run.packets views → numbers_of work.trace ≡ numbers_from run.deal w 0 views
+    → AreFrames run.policy run.packets views → numbers_of (items_in work.deeds) ≡ numbers_from run.deal w 0 views
 all_looked_at run w at v u verdicts none work views all =
-    sym (ap (λ vs. numbers_of work.trace ++ numbers_from run.deal w at vs)
+    sym (ap (λ vs. numbers_of (items_in work.deeds) ++ numbers_from run.deal w at vs)
     (no_views run.policy run.packets views at all none)
-    ∙ (ap (λ ns. numbers_of work.trace ++ ns) (no_numbers run.deal w at) ∙ append-nil (numbers_of work.trace)))
+    ∙ (ap (λ ns. numbers_of (items_in work.deeds) ++ ns) (no_numbers run.deal w at) ∙ append-nil (numbers_of (items_in work.deeds))))
     ∙ work.dealt views all
 
 -- who has looked at all packets judged its own, all of them
 pub whole_work : (run : RunFacts) (w at : ℕ) (v u : Views) (verdicts : List Verdict)
     → drop at run.packets ≡ [] → IsWorkUntil run w at v u verdicts → IsWork run w v u verdicts
 whole_work run w at v u verdicts none work = record {
-  trace = work.trace;
-  is = record { items = work.items; of = work.of; dealt = all_looked_at run w at v u verdicts none work };
+  deeds = work.deeds;
+  are = record {
+    trace = record { items = work.items; of = work.of; dealt = all_looked_at run w at v u verdicts none work };
+    removals = work.removals;
+    order = subst (AreInOrder (length run.packets) 0) (append-nil work.deeds) (work.order [] tt);
+  };
   four = work.four;
   six = work.six;
   wanted = work.wanted;

@@ -10,32 +10,32 @@ use Rattle.bihash_rule.specs.declared.view.Known.{Known}
 use Rattle.bihash_rule.specs.declared.view.Record.{Record}
 use Rattle.bihash_rule.specs.declared.view.View.{View}
 use Rattle.session_state.specs.declared.timeouts.Timeouts.{Timeouts}
-use Rattle.flow_dealing.specs.Traces.{HaveTraces, Item}
+use Rattle.flow_dealing.specs.AgeingTraces.{Deed, HaveDeeds}
 use Rattle.flow_dealing.proofs.TraceMerges.{HasCalls}
 use Rattle.flow_dealing.specs.Wanted.{HasWanted}
 use Rattle.flow_workers.proofs.WantedLemmas.{joined_wanted}
 
 -- one record before others
-with_trace : (times : Timeouts) (family : Family) (t : List Item) (ts : List (List Item)) (rs qs : List Record)
+with_deeds : (times : Timeouts) (family : Family) (t : List Deed) (ts : List (List Deed)) (rs qs : List Record)
     → AllZip (HasCalls times family) (t ∷ []) rs → AllZip (HasCalls times family) ts qs
     → AllZip (HasCalls times family) (t ∷ ts) (rs ++ qs)
-with_trace times family t ts [] qs one more = absurd one
-with_trace times family t ts (r ∷ []) qs one more = (one.0, more)
-with_trace times family t ts (r ∷ q ∷ rs) qs one more = absurd one.1
+with_deeds times family t ts [] qs one more = absurd one
+with_deeds times family t ts (r ∷ []) qs one more = (one.0, more)
+with_deeds times family t ts (r ∷ q ∷ rs) qs one more = absurd one.1
 
-pub joined_traces : (v w : View) → IsConsistent v.known w.known → (z : Sizes) (times : Timeouts) (family : Family)
-    (t : List Item) (ts : List (List Item)) → HaveTraces z times family (t ∷ []) v → HaveTraces z times family ts w
-    → HaveTraces z times family (t ∷ ts) (view_after_join v w)
-joined_traces v w agree z times family t ts one more = record {
-  records = with_trace times family t ts v.records w.records one.records more.records;
+pub joined_deeds : (v w : View) → IsConsistent v.known w.known → (z : Sizes) (times : Timeouts) (family : Family)
+    (t : List Deed) (ts : List (List Deed)) → HaveDeeds z times family (t ∷ []) v → HaveDeeds z times family ts w
+    → HaveDeeds z times family (t ∷ ts) (view_after_join v w)
+joined_deeds v w agree z times family t ts one more = record {
+  records = with_deeds times family t ts v.records w.records one.records more.records;
   openings = one.openings;
   wanted = joined_wanted z v w agree one.wanted more.wanted;
 }
 
 -- the same records over the same writes
-pub same_traces : (z : Sizes) (times : Timeouts) (family : Family) (ts : List (List Item)) (v w : View)
-    → w.records ≡ v.records → w.known ≡ v.known → HaveTraces z times family ts v → HaveTraces z times family ts w
-same_traces z times family ts v w did known had = record {
+pub same_deeds : (z : Sizes) (times : Timeouts) (family : Family) (ts : List (List Deed)) (v w : View)
+    → w.records ≡ v.records → w.known ≡ v.known → HaveDeeds z times family ts v → HaveDeeds z times family ts w
+same_deeds z times family ts v w did known had = record {
   records = subst (AllZip (HasCalls times family) ts) (sym did) had.records;
   openings = ap (λ (k : Known). k.openings) known ∙ had.openings;
   wanted = subst (λ k. All (λ r. All (HasWanted z k) r.calls) w.records) (sym known)
@@ -70,7 +70,7 @@ last_of R (x ∷ xs) (z ∷ zs) y all = let rest = last_of R xs zs y all.1 in re
   one = rest.one;
 }
 
-pub no_traces : {X Y : Type 0} (R : X → Y → Type 0) (xs : List X) (ys : List Y) → ys ≡ [] → AllZip R xs ys → xs ≡ []
-no_traces R [] ys none all = refl
-no_traces R (x ∷ xs) [] none all = absurd all
-no_traces R (x ∷ xs) (y ∷ ys) none all = let f : ⊥ = cc in absurd f
+pub no_deeds : {X Y : Type 0} (R : X → Y → Type 0) (xs : List X) (ys : List Y) → ys ≡ [] → AllZip R xs ys → xs ≡ []
+no_deeds R [] ys none all = refl
+no_deeds R (x ∷ xs) [] none all = absurd all
+no_deeds R (x ∷ xs) (y ∷ ys) none all = let f : ⊥ = cc in absurd f

@@ -14,8 +14,9 @@ use Rattle.bihash_steps.specs.Steps.{IsToldWhole}
 use Rattle.bihash_rule.specs.Views.{nothing_held}
 use Rattle.bihash_steps.proofs.Lists.{within}
 use Rattle.session_state.specs.declared.verdict.Verdict.{Verdict}
-use Rattle.flow_dealing.specs.WorkerRecords.{AreJudgedBy}
-use Rattle.flow_dealing.specs.Traces.{AreGathered, ArePlaced, HaveTraces, IsTrace, Item}
+use Rattle.flow_dealing.specs.WorkerRecords.{AreJudgedAgeing}
+use Rattle.flow_dealing.specs.Traces.{ArePlaced, IsTrace, Item}
+use Rattle.flow_dealing.specs.AgeingTraces.{AreAllDeeds, AreDeeds, Deed, HaveDeeds, HaveDone, items_in}
 use Rattle.flow_dealing.specs.Views.{Views, view_in}
 use Rattle.flow_dealing.proofs.TraceMerges.{judge_each_packet}
 use Rattle.flow_dealing.proofs.Places.{before_map, zip_count}
@@ -31,7 +32,7 @@ use Rattle.flow_workers.specs.Progress.{IsAtRestAfter, IsSoundSetup}
 use Rattle.flow_workers.specs.inner.Jobs.{run_facts}
 use Rattle.flow_workers.specs.inner.WorkerResults.{AreResults, AreResultsOf}
 use Rattle.flow_workers.specs.inner.Work.{AreSaid, IsWork, IsWorkUntil, RunFacts}
-use Rattle.flow_workers.proofs.TurnLemmas.{fresh_trace}
+use Rattle.flow_workers.proofs.TurnLemmas.{fresh_deeds}
 use Rattle.flow_workers.proofs.WorkSteps.{whole_work}
 
 -- ---- What all workers did
@@ -48,34 +49,34 @@ zip_map R f [] (y ∷ ys) all = absurd all
 zip_map R f (x ∷ xs) [] all = absurd all
 zip_map R f (x ∷ xs) (y ∷ ys) all = (all.0, zip_map R f xs ys all.1)
 
--- what a worker did: a trace, which is in its callers' records, and its verdicts, of which it doesn't keep the first
+-- what a worker did: deeds, which are in its callers' records, and its verdicts, of which it doesn't keep the first
 pub record IsDone {A B K L : Type 0} (ga : Ghosts A K) (gb : Ghosts B L) (before : List Verdict) (tables : Tables A B K L)
     (run : RunFacts) (w : ℕ) (share : Share A B K L ga gb) : Type 0 where
   pub idle : AreIdle ga gb tables share.callers
-  pub trace : List Item
-  pub is : IsTrace run.deal run.times w run.policy run.packets trace
-  pub four : HaveTraces run.deal.layout.four run.times V4 (trace ∷ []) share.callers.four.seat.view
-  pub six : HaveTraces run.deal.layout.six run.times V6 (trace ∷ []) share.callers.six.seat.view
-  pub said : AreSaid run trace (before ++ share.said.items)
+  pub deeds : List Deed
+  pub are : AreDeeds run.deal run.times run.ages w run.policy run.packets deeds
+  pub four : HaveDeeds run.deal.layout.four run.times V4 (deeds ∷ []) share.callers.four.seat.view
+  pub six : HaveDeeds run.deal.layout.six run.times V6 (deeds ∷ []) share.callers.six.seat.view
+  pub said : AreSaid run (items_in deeds) (before ++ share.said.items)
 
 module _ {A B K L : Type 0} (ga : Ghosts A K) (gb : Ghosts B L) (tables : Tables A B K L) (run : RunFacts) (gone : LetGo) where
   -- the shares of the workers from one on
   record AllDone (w : ℕ) (shares : List (Share A B K L ga gb)) : Type 0 where
-    traces : List (List Item)
-    count : length traces ≡ length shares
-    each : (k : ℕ) (t : List Item) → get_elem? traces k ≡ some t
-        → IsTrace run.deal run.times (w + k) run.policy run.packets t
+    all : List (List Deed)
+    count : length all ≡ length shares
+    each : (k : ℕ) (t : List Deed) → get_elem? all k ≡ some t
+        → AreDeeds run.deal run.times run.ages (w + k) run.policy run.packets t
     idle : All (λ s. AreIdle ga gb tables s.callers) shares
-    four : AllZip (λ t s. HaveTraces run.deal.layout.four run.times V4 (t ∷ []) s.callers.four.seat.view) traces shares
-    six : AllZip (λ t s. HaveTraces run.deal.layout.six run.times V6 (t ∷ []) s.callers.six.seat.view) traces shares
-    said : (k : ℕ) (t : List Item) (s : Share A B K L ga gb) → get_elem? traces k ≡ some t → get_elem? shares k ≡ some s
-        → AreSaid run t (gone (w + k) ++ s.said.items)
+    four : AllZip (λ t s. HaveDeeds run.deal.layout.four run.times V4 (t ∷ []) s.callers.four.seat.view) all shares
+    six : AllZip (λ t s. HaveDeeds run.deal.layout.six run.times V6 (t ∷ []) s.callers.six.seat.view) all shares
+    said : (k : ℕ) (t : List Deed) (s : Share A B K L ga gb) → get_elem? all k ≡ some t → get_elem? shares k ≡ some s
+        → AreSaid run (items_in t) (gone (w + k) ++ s.said.items)
 
   all_done : (w : ℕ) (shares : List (Share A B K L ga gb))
       → ((k : ℕ) (s : Share A B K L ga gb) → get_elem? shares k ≡ some s → IsDone ga gb (gone (w + k)) tables run (w + k) s)
       → AllDone w shares
   all_done w [] done = record {
-    traces = [];
+    all = [];
     count = refl;
     each = λ k t at. absurd (some-ne-none t (sym at));
     idle = All-nil (λ x. AreIdle ga gb tables x.callers);
@@ -89,83 +90,94 @@ module _ {A B K L : Type 0} (ga : Ghosts A K) (gb : Ghosts B L) (tables : Tables
       all_done (w + 1) ss (λ k x at. subst (λ n. IsDone ga gb (gone n) tables run n x)
       (let e : w + suc k ≡ w + 1 + k = omega arith in e) (done (suc k) x at)) in
       record {
-        traces = one.trace ∷ more.traces;
+        all = one.deeds ∷ more.all;
         count = ap suc more.count;
-        each = next one.trace more.traces one.is more.each;
+        each = next one.deeds more.all one.are more.each;
         idle = All-cons (λ x. AreIdle ga gb tables x.callers) s ss one.idle more.idle;
         four = (one.four, more.four);
         six = (one.six, more.six);
-        said = next_said one.trace more.traces one.said more.said;
+        said = next_said one.deeds more.all one.said more.said;
       }
     where
-      next_said : (x : List Item) (xs : List (List Item)) → AreSaid run x (gone (w + 0) ++ s.said.items)
-          → ((k : ℕ) (t : List Item) (y : Share A B K L ga gb) → get_elem? xs k ≡ some t → get_elem? ss k ≡ some y
-          → AreSaid run t (gone (w + 1 + k) ++ y.said.items))
-          → (k : ℕ) (t : List Item) (y : Share A B K L ga gb) → get_elem? (x ∷ xs) k ≡ some t → get_elem? (s ∷ ss) k ≡ some y
-          → AreSaid run t (gone (w + k) ++ y.said.items)
+      next_said : (x : List Deed) (xs : List (List Deed)) → AreSaid run (items_in x) (gone (w + 0) ++ s.said.items)
+          → ((k : ℕ) (t : List Deed) (y : Share A B K L ga gb) → get_elem? xs k ≡ some t → get_elem? ss k ≡ some y
+          → AreSaid run (items_in t) (gone (w + 1 + k) ++ y.said.items))
+          → (k : ℕ) (t : List Deed) (y : Share A B K L ga gb) → get_elem? (x ∷ xs) k ≡ some t → get_elem? (s ∷ ss) k ≡ some y
+          → AreSaid run (items_in t) (gone (w + k) ++ y.said.items)
       next_said x xs one more zero t y at there =
-          subst (λ z. AreSaid run t (gone (w + 0) ++ z.said.items)) (some-injective s y there)
-          (subst (λ k. AreSaid run k (gone (w + 0) ++ s.said.items)) (some-injective x t at) one)
+          subst (λ z. AreSaid run (items_in t) (gone (w + 0) ++ z.said.items)) (some-injective s y there)
+          (subst (λ k. AreSaid run (items_in k) (gone (w + 0) ++ s.said.items)) (some-injective x t at) one)
       next_said x xs one more (suc k) t y at there =
-          subst (λ n. AreSaid run t (gone n ++ y.said.items))
+          subst (λ n. AreSaid run (items_in t) (gone n ++ y.said.items))
           (let e : w + 1 + k ≡ w + suc k = omega arith in e) (more k t y at there)
 
-      next : (x : List Item) (xs : List (List Item)) → IsTrace run.deal run.times (w + 0) run.policy run.packets x
-          → ((k : ℕ) (t : List Item) → get_elem? xs k ≡ some t
-          → IsTrace run.deal run.times (w + 1 + k) run.policy run.packets t)
-          → (k : ℕ) (t : List Item) → get_elem? (x ∷ xs) k ≡ some t
-          → IsTrace run.deal run.times (w + k) run.policy run.packets t
+      next : (x : List Deed) (xs : List (List Deed)) → AreDeeds run.deal run.times run.ages (w + 0) run.policy run.packets x
+          → ((k : ℕ) (t : List Deed) → get_elem? xs k ≡ some t
+          → AreDeeds run.deal run.times run.ages (w + 1 + k) run.policy run.packets t)
+          → (k : ℕ) (t : List Deed) → get_elem? (x ∷ xs) k ≡ some t
+          → AreDeeds run.deal run.times run.ages (w + k) run.policy run.packets t
       next x xs one more zero t at =
-          subst (λ k. IsTrace run.deal run.times (w + 0) run.policy run.packets k) (some-injective x t at) one
+          subst (λ k. AreDeeds run.deal run.times run.ages (w + 0) run.policy run.packets k) (some-injective x t at) one
       next x xs one more (suc k) t at =
-          subst (λ n. IsTrace run.deal run.times n run.policy run.packets t)
+          subst (λ n. AreDeeds run.deal run.times run.ages n run.policy run.packets t)
           (let e : w + 1 + k ≡ w + suc k = omega arith in e) (more k t at)
+
+  -- the deeds of all workers
+  all_deeds : (shares : List (Share A B K L ga gb)) → length shares ≡ run.deal.workers → (a : AllDone 0 shares)
+      → AreAllDeeds run.deal run.times run.ages run.policy run.packets a.all
+  all_deeds shares count a = record {
+    count = a.count ∙ count;
+    each = λ w t at. let e : 0 + w ≡ w = omega arith in
+        subst (λ n. AreDeeds run.deal run.times run.ages n run.policy run.packets t) e (a.each w t at);
+  }
 
   -- what all workers said
   all_told : (shares : List (Share A B K L ga gb)) → length shares ≡ run.deal.workers → 0 < run.deal.workers
-      → run.deal.workers ≤ 16 → (a : AllDone 0 shares) → AreTold run a.traces gone (said_in_shares shares)
+      → run.deal.workers ≤ 16 → (a : AllDone 0 shares) → AreTold run (map items_in a.all) gone (said_in_shares shares)
   all_told shares count some_worker few a = record {
     some_worker = some_worker;
     few = few;
     traced = record {
-      count = a.count ∙ count;
-      each = λ w t at. let e : 0 + w ≡ w = omega arith in
-          subst (λ n. IsTrace run.deal run.times n run.policy run.packets t) e (a.each w t at);
+      count = length-map a.all items_in ∙ (a.count ∙ count);
+      each = λ w t at. let of = before_map items_in a.all w t at in
+          subst (IsTrace run.deal run.times w run.policy run.packets) of.2 ((all_deeds shares count a).each w of.0 of.1).trace;
     };
     count = length-map shares (λ (s : Share A B K L ga gb). s.said) ∙ count;
     said = λ w t said at there.
         let s = before_map (λ (s : Share A B K L ga gb). s.said) shares w said there in
+        let of = before_map items_in a.all w t at in
         subst (λ (v : Vec Verdict). AreSaid run t (gone w ++ v.items)) s.2
-        (let e : 0 + w ≡ w = omega arith in subst (λ n. AreSaid run t (gone n ++ s.0.said.items)) e (a.said w t s.0 at s.1));
+        (subst (λ x. AreSaid run x (gone w ++ s.0.said.items)) of.2
+        (let e : 0 + w ≡ w = omega arith in subst (λ n. AreSaid run (items_in of.0) (gone n ++ s.0.said.items)) e (a.said w of.0 s.0 of.1 s.1)));
   }
 
   -- there is a caller of each worker
   pub results_count : (results : WorkerResults A B K L ga gb) → AreResults ga gb tables run gone results
       → (length results.four.items ≡ run.deal.workers) × (length results.six.items ≡ run.deal.workers)
   results_count results are = (
-    sym (zip_count _ are.traces results.four.items are.four) ∙ are.told.traced.count,
-    sym (zip_count _ are.traces results.six.items are.six) ∙ are.told.traced.count,
+    sym (zip_count _ are.all results.four.items are.four) ∙ are.are.count,
+    sym (zip_count _ are.all results.six.items are.six) ∙ are.are.count,
   )
 
 module _ {A B K L : Type 0} (ga : Ghosts A K) (gb : Ghosts B L) (tables : Tables A B K L) (run : RunFacts) where
   -- the callers of a family's table, joined
-  pub gathered : (traces : List (List Item)) (v : Views)
+  pub gathered : (all : List (List Deed)) (v : Views)
       → IsLawfulCaller run.deal.layout.four v.four × IsLawfulCaller run.deal.layout.six v.six
       → IsToldWhole run.deal.layout.four v.four × IsToldWhole run.deal.layout.six v.six
-      → HaveTraces run.deal.layout.four run.times V4 traces v.four → HaveTraces run.deal.layout.six run.times V6 traces v.six
-      → (family : Family) → AreGathered run.deal run.times family traces (view_in v family)
-  gathered traces v lawful told four six V4 = record { lawful = lawful.0; told = told.0; did = four }
-  gathered traces v lawful told four six V6 = record { lawful = lawful.1; told = told.1; did = six }
+      → HaveDeeds run.deal.layout.four run.times V4 all v.four → HaveDeeds run.deal.layout.six run.times V6 all v.six
+      → (family : Family) → HaveDone run.deal run.times family all (view_in v family)
+  gathered all v lawful told four six V4 = record { lawful = lawful.0; told = told.0; did = four }
+  gathered all v lawful told four six V6 = record { lawful = lawful.1; told = told.1; did = six }
 
   pub run_judged : (gone : LetGo) (results : WorkerResults A B K L ga gb) (p : AreResults ga gb tables run gone results)
       → (v : Views) → IsLawfulCaller run.deal.layout.four v.four × IsLawfulCaller run.deal.layout.six v.six
       → IsToldWhole run.deal.layout.four v.four × IsToldWhole run.deal.layout.six v.six
-      → HaveTraces run.deal.layout.four run.times V4 p.traces v.four → HaveTraces run.deal.layout.six run.times V6 p.traces v.six
-      → (verdicts : List Verdict) → ArePlaced run.times run.packets p.traces verdicts
-      → AreJudgedBy run.deal run.times run.policy run.packets verdicts v
+      → HaveDeeds run.deal.layout.four run.times V4 p.all v.four → HaveDeeds run.deal.layout.six run.times V6 p.all v.six
+      → (verdicts : List Verdict) → ArePlaced run.times run.packets (map items_in p.all) verdicts
+      → AreJudgedAgeing run.deal run.times run.ages run.policy run.packets verdicts v
   run_judged gone results p v lawful told four six verdicts placed =
-      judge_each_packet run.deal run.times run.policy run.packets p.traces v verdicts p.told.some_worker p.told.traced
-      (gathered p.traces v lawful told four six) placed
+      judge_each_packet run.deal run.times run.ages run.policy run.packets p.all v verdicts p.told.some_worker p.are
+      (gathered p.all v lawful told four six) placed
 
 -- a worker after all packets
 pub rest_done : {A B R G K L : Type 0} (ga : Ghosts A K) (gb : Ghosts B L) (said : List Verdict) (setup : Setup A B R G K L)
@@ -173,10 +185,10 @@ pub rest_done : {A B R G K L : Type 0} (ga : Ghosts A K) (gb : Ghosts B L) (said
     → IsDone ga gb said setup.tables.now (run_facts ga gb setup packets) w share
 rest_done ga gb said setup packets w share rest = record {
   idle = rest.idle;
-  trace = work.trace;
-  is = work.is;
-  four = fresh_trace _ run.times V4 rest.began.four u.four work.trace rest.fresh.0 work.four work.wanted.0;
-  six = fresh_trace _ run.times V6 rest.began.six u.six work.trace rest.fresh.1 work.six work.wanted.1;
+  deeds = work.deeds;
+  are = work.are;
+  four = fresh_deeds _ run.times V4 rest.began.four u.four work.deeds rest.fresh.0 work.four work.wanted.0;
+  six = fresh_deeds _ run.times V6 rest.began.six u.six work.deeds rest.fresh.1 work.six work.wanted.1;
   said = work.said;
 }
   where
@@ -213,7 +225,7 @@ module _ {A B R G K L : Type 0} (ga : Ghosts A K) (gb : Ghosts B L) (setup : Set
   -- what all workers said, by the traces that they did
   pub shares_told : (traces : List (List Item)) × AreTold (run_facts ga gb setup packets) traces gone (said_in_shares shares)
   shares_told = (
-    all.traces,
+    map items_in all.all,
     all_told ga gb setup.tables.now (run_facts ga gb setup packets) gone shares count
         (let some_worker = sound.some in omega arith) sound.few all,
   )
@@ -222,8 +234,9 @@ module _ {A B R G K L : Type 0} (ga : Ghosts A K) (gb : Ghosts B L) (setup : Set
       → AreResults ga gb setup.tables.now (run_facts ga gb setup packets) gone results
   unfolding all shares_told
   results_are results of = record {
-    traces = all.traces;
-    told = subst (AreTold run all.traces gone) (sym of.said) shares_told.1;
+    all = all.all;
+    are = all_deeds ga gb tables run gone shares count all;
+    told = subst (AreTold run (map items_in all.all) gone) (sym of.said) shares_told.1;
     own = (
       subst (All (λ c. c.seat.row ≡ tables.four.row)) (sym of.four)
           (All-map (λ c. c.seat.row ≡ tables.four.row) (λ (s : Share A B K L ga gb). s.callers.four) shares
@@ -245,11 +258,11 @@ module _ {A B R G K L : Type 0} (ga : Ghosts A K) (gb : Ghosts B L) (setup : Set
           all.idle)),
     );
     four =
-        subst (AllZip (λ t c. HaveTraces run.deal.layout.four run.times V4 (t ∷ []) c.seat.view) all.traces) (sym of.four)
-        (zip_map _ _ all.traces shares all.four);
+        subst (AllZip (λ t c. HaveDeeds run.deal.layout.four run.times V4 (t ∷ []) c.seat.view) all.all) (sym of.four)
+        (zip_map _ _ all.all shares all.four);
     six =
-        subst (AllZip (λ t c. HaveTraces run.deal.layout.six run.times V6 (t ∷ []) c.seat.view) all.traces) (sym of.six)
-        (zip_map _ _ all.traces shares all.six);
+        subst (AllZip (λ t c. HaveDeeds run.deal.layout.six run.times V6 (t ∷ []) c.seat.view) all.all) (sym of.six)
+        (zip_map _ _ all.all shares all.six);
   }
     where
       run : RunFacts

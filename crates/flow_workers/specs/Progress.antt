@@ -7,7 +7,7 @@ use Rattle.bihash_words.specs.declared.shape.Shape.{Ghosts}
 use Rattle.flow_filter.specs.OneThread.{layout_of}
 use Rattle.session_state.specs.declared.verdict.Verdict.{Verdict}
 use Rattle.packet_dealing.specs.Dealings.{Deal}
-use Rattle.flow_dealing.specs.WorkerRecords.{AreJudged, AreJudgedBy}
+use Rattle.flow_dealing.specs.WorkerRecords.{AreJudgedAgeing}
 use Rattle.flow_dealing.specs.Views.{Views}
 use Rattle.flow_workers.specs.declared.worker_setup.Setup.{Setup}
 use Rattle.flow_workers.specs.declared.worker_share.Share.{Share}
@@ -82,19 +82,23 @@ CanEnd all = (packets : List PacketFacts) × AreAtRest packets all
 abbrev pub deal_in : {A B R G K L : Type 0} (ga : Ghosts A K) (gb : Ghosts B L) → Setup A B R G K L → Deal
 deal_in ga gb setup = record { layout = layout_of ga gb; dealing = setup.dealing; workers = setup.workers }
 
--- these are the verdicts on these packets, by workers of this setup
+-- these are the verdicts on these packets, by workers of this setup, who know this then
+abbrev pub HaveSaidAll : {A B R G K L : Type 0} (ga : Ghosts A K) (gb : Ghosts B L) → Setup A B R G K L → List PacketFacts
+    → List Verdict → Views → Type 0
+HaveSaidAll ga gb setup packets verdicts known =
+    AreJudgedAgeing (deal_in ga gb setup) setup.filter.now.times setup.ages (policy_of setup) packets verdicts known
+
+-- so they are, whatever the workers know then
 abbrev pub HaveAllSaid : {A B R G K L : Type 0} (ga : Ghosts A K) (gb : Ghosts B L) → Setup A B R G K L → List PacketFacts
     → List Verdict → Type 0
-HaveAllSaid ga gb setup packets verdicts =
-    AreJudged (deal_in ga gb setup) setup.filter.now.times (policy_of setup) packets verdicts
+HaveAllSaid ga gb setup packets verdicts = (known : Views) × HaveSaidAll ga gb setup packets verdicts known
 
 -- These are the verdicts on the packets that they judged, and callers that are all of theirs, joined: they hold nothing, and
 -- know what the workers knew.
 pub record HaveEnded {A B R G K L : Type 0} {ga : Ghosts A K} {gb : Ghosts B L} (all : Workers A B R G K L ga gb)
     (verdicts : List Verdict) (callers : Callers A B K L ga gb) : Type 0 where
   pub idle : AreIdle ga gb all.setup.tables.now callers
-  pub said : (packets : List PacketFacts) → AreAtRest packets all → AreJudgedBy (deal_in ga gb all.setup)
-      all.setup.filter.now.times (policy_of all.setup) packets verdicts (views_of ga gb callers)
+  pub said : (packets : List PacketFacts) → AreAtRest packets all → HaveSaidAll ga gb all.setup packets verdicts (views_of ga gb callers)
 
 -- ---- One worker that keeps no verdict
 

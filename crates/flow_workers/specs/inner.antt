@@ -1,4 +1,5 @@
 -- Definitions that go as the code goes. No promise is said by them.
+pub mod Ageing
 pub mod Alone
 pub mod CallerSplits
 pub mod Fresh

@@ -1,6 +1,7 @@
 //! Packets judged by many workers over session tables that they share.
 #![tactic(auto)]
 
+mod ageing_clock;
 mod gate;
 mod judge_alone;
 mod judge_dealt_packets;
@@ -21,6 +22,7 @@ mod turns_in_threads;
 mod update_tries;
 mod verdict_merge;
 mod viewed_packet;
+mod worker_ageing;
 mod worker_callers;
 mod worker_packet_verdict;
 mod worker_results;

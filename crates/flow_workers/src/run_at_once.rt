@@ -103,6 +103,7 @@ where
         dealing,
         workers,
         many: 0,
+        ages: false,
     };
     run_setup(alloc, setup, callers, packets)
 }

@@ -14,7 +14,7 @@ fn add_share<A: Shape, B: Shape>(
 ) -> Result<(), AllocError>
     ensures { IfOk result (λ _. HasAdded share results.old results.new) }
 {
-    let Share { callers, said } = share;
+    let Share { callers, said, .. } = share;
     let Callers { four, six } = callers;
     results.four.push(four)?;
     results.six.push(six)?;

@@ -18,6 +18,8 @@ pub struct Setup<'t, 'f, A: Shape, B: Shape, R: Wait, G: Gate> {
     pub workers: usize,
     /// From how many packets on that are judged at once each worker gets a thread of its own, where there are several.
     pub many: usize,
+    /// Whether they remove sessions that have ended, between their packets.
+    pub ages: bool,
 }
 
 impl<'t, 'f, A: Shape, B: Shape, R: Wait, G: Gate> Setup<'t, 'f, A, B, R, G> {
@@ -53,6 +55,7 @@ impl<'t, 'f, A: Shape, B: Shape, R: Wait, G: Gate> Setup<'t, 'f, A, B, R, G> {
             dealing: self.dealing,
             workers: self.workers,
             many: self.many,
+            ages: self.ages,
         }
     }
 }

@@ -1,4 +1,5 @@
 //! What a worker is given, and what it gives back.
+use crate::ageing_clock::AgeingClock;
 use crate::gate::Gate;
 use crate::session_tables::Callers;
 use crate::worker_setup::Setup;
@@ -54,6 +55,8 @@ pub struct Share<A: Shape, B: Shape> {
     pub callers: Callers<A, B>,
     /// What it said of its packets and hasn't let go, in their order.
     pub said: Vec<Verdict>,
+    /// When it ages next.
+    pub clock: AgeingClock,
 }
 
 /// The shares of all workers, each list in the workers' order.

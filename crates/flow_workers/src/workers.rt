@@ -47,7 +47,14 @@ impl<'t, 'f, A: Shape, B: Shape, R: Wait, G: Gate> Workers<'t, 'f, A, B, R, G> {
         requires { MayBegin setup callers }
         ensures { IfOk result (AreBegun setup.entry) }
     {
-        let shares = split_shares(setup.rt, alloc, setup.tables, callers, setup.workers)?;
+        let shares = split_shares(
+            setup.rt,
+            alloc,
+            setup.tables,
+            callers,
+            setup.workers,
+            setup.ages,
+        )?;
         Ok(Workers {
             setup,
             shares,

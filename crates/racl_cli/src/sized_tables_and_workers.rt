@@ -41,6 +41,7 @@ fn setup_of<'t, 'f, A: Shape, B: Shape, T: Wait>(
         dealing: Dealing::Bucket,
         workers,
         many: MANY_PACKETS,
+        ages: false,
     }
 }
 

@@ -165,6 +165,7 @@ fn verdicts_on_parts<R: Threads + Wait + Sync, G: Gate + Sync>(
         dealing: Dealing::Bucket,
         workers: 2,
         many: 0,
+        ages: false,
     };
     let Ok(begun) = Workers::new(alloc, setup, callers) else {
         return Err(RunFault::Memory);

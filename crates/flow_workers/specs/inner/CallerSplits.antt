@@ -12,7 +12,7 @@ use Rattle.bihash_steps.specs.declared.row_and_callers.Caller.{Caller}
 use Rattle.bihash_rule.specs.declared.view.View.{View}
 use Rattle.bihash_table.specs.declared.shared_table.Sessions.{Sessions}
 use Rattle.session_state.specs.declared.timeouts.Timeouts.{Timeouts}
-use Rattle.flow_dealing.specs.Traces.{HaveTraces, Item}
+use Rattle.flow_dealing.specs.AgeingTraces.{Deed, HaveDeeds}
 use Rattle.flow_workers.specs.inner.Fresh.{IsFreshView}
 
 -- a caller of this table that made no call
@@ -43,27 +43,27 @@ pub record MayJoin {A K : Type 0} {g : Ghosts A K} (table : Sessions A K) (calle
   pub own : All (λ c. c.seat.row ≡ table.row) callers
   pub free : All (λ c. c.seat.view.holds ≡ nothing_held) callers
 
--- the caller t has the trace of a worker's caller s, and after it those of the others
+-- the caller t has the deeds of a worker's caller s, and after them those of the others
 pub record IsJoinedOne {A K : Type 0} (z : Sizes) (table : Sessions A K) (s others t : CallerState) : Type 0 where
   pub own : t.row ≡ table.row
   pub free : t.view.holds ≡ nothing_held
   pub lawful : IsLawfulCaller z t.view
-  pub traces : (of : Sizes) (times : Timeouts) (family : Family) (trace : List Item) (traces : List (List Item))
-      → HaveTraces of times family (trace ∷ []) s.view → HaveTraces of times family traces others.view
-      → HaveTraces of times family (trace ∷ traces) t.view
+  pub deeds : (of : Sizes) (times : Timeouts) (family : Family) (deeds : List Deed) (all : List (List Deed))
+      → HaveDeeds of times family (deeds ∷ []) s.view → HaveDeeds of times family all others.view
+      → HaveDeeds of times family (deeds ∷ all) t.view
 
--- the traces of all these callers are in this view, in their order
-abbrev pub HasTracesOf : {A K : Type 0} {g : Ghosts A K} → List (Caller A K g) → View → Type 0
-HasTracesOf callers v = (of : Sizes) (times : Timeouts) (family : Family) (traces : List (List Item))
-    → AllZip (λ trace c. HaveTraces of times family (trace ∷ []) c.seat.view) traces callers
-    → HaveTraces of times family traces v
+-- the deeds of all these callers are in this view, in their order
+abbrev pub HasDeedsOf : {A K : Type 0} {g : Ghosts A K} → List (Caller A K g) → View → Type 0
+HasDeedsOf callers v = (of : Sizes) (times : Timeouts) (family : Family) (all : List (List Deed))
+    → AllZip (λ deeds c. HaveDeeds of times family (deeds ∷ []) c.seat.view) all callers
+    → HaveDeeds of times family all v
 
 -- the caller t of this table has them, and holds nothing
 pub record AreJoined {A K : Type 0} {g : Ghosts A K} (table : Sessions A K) (callers : List (Caller A K g))
     (t : CallerState) : Type 0 where
   pub own : t.row ≡ table.row
   pub free : t.view.holds ≡ nothing_held
-  pub traces : HasTracesOf callers t.view
+  pub deeds : HasDeedsOf callers t.view
 
 -- so it does, and it made each write that it knows
 pub record AreJoinedWhole {A K : Type 0} {g : Ghosts A K} (z : Sizes) (table : Sessions A K) (callers : List (Caller A K g))
@@ -72,4 +72,4 @@ pub record AreJoinedWhole {A K : Type 0} {g : Ghosts A K} (z : Sizes) (table : S
   pub free : t.view.holds ≡ nothing_held
   pub lawful : IsLawfulCaller z t.view
   pub whole : IsToldWhole z t.view
-  pub traces : HasTracesOf callers t.view
+  pub deeds : HasDeedsOf callers t.view

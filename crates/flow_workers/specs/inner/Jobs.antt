@@ -40,6 +40,7 @@ run_facts ga gb setup all = record {
   times = setup.filter.now.times;
   policy = policy_of setup;
   packets = all;
+  ages = setup.ages;
 }
 
 -- what packets are dealt by
@@ -69,6 +70,7 @@ pub record CanWork {A B R G K L : Type 0} (ga : Ghosts A K) (gb : Ghosts B L)
 pub record MayJudgePacket {A B R G K L : Type 0} (ga : Ghosts A K) (gb : Ghosts B L) (batch : Batch A B R G K L)
     (worker at : ℕ) (packet : PacketFacts) (share : Share A B K L ga gb) : Type 0 where
   pub shapes : AreShapes ga gb
+  pub few : worker < batch.setup.workers
   pub idle : AreIdle ga gb batch.setup.tables.now share.callers
   pub fits : batch.first + length (remaining batch.packets) < 2 ^ 64
   pub there : slice_get (remaining batch.packets) at ≡ Some packet
@@ -114,6 +116,7 @@ IsWorkerOf ga gb batch at frame worker =
 pub record MayJudgeViewed {A B R G K L : Type 0} (ga : Ghosts A K) (gb : Ghosts B L) (batch : Batch A B R G K L)
     (worker at : ℕ) (filter : InterfaceFilter) (viewed : ViewedPacket) (share : Share A B K L ga gb) : Type 0 where
   pub shapes : AreShapes ga gb
+  pub few : worker < batch.setup.workers
   pub idle : AreIdle ga gb batch.setup.tables.now share.callers
   pub fits : batch.first + length (remaining batch.packets) < 2 ^ 64
   pub stands : IsViewedAt batch at filter viewed

@@ -1,5 +1,5 @@
 -- What a worker does to its callers, and what it says.
-use Rattle.std.specs.Prelude.{◌≡◌, ℕ, ◌++◌, List, [], ◌∷◌, drop, map, All}
+use Rattle.std.specs.Prelude.{◌≡◌, ℕ, ◌++◌, Bool, List, [], ◌∷◌, drop, length, map, All}
 use Rattle.packet_view.specs.Captures.{PacketFacts}
 use Rattle.packet_view.specs.Frames as frames
 use Rattle.packet_view.specs.declared.tuple.Family.TheVariants.{V4, V6}
@@ -12,7 +12,8 @@ use Rattle.session_state.specs.declared.verdict.Verdict.{Verdict}
 use Rattle.flow_filter.specs.Judged.{verdict_on}
 use Rattle.flow_dealing.specs.Views.{Views}
 use Rattle.packet_dealing.specs.Dealings.{Deal}
-use Rattle.flow_dealing.specs.Traces.{AreFrames, IsItem, IsItemOf, IsTrace, Item, calls_in, judged_of, numbers_from}
+use Rattle.flow_dealing.specs.Traces.{AreFrames, IsItem, IsItemOf, Item, judged_of, numbers_from}
+use Rattle.flow_dealing.specs.AgeingTraces.{AreDeeds, AreInOrder, Deed, IsRemovalOf, aged_in, calls_by, items_in}
 use Rattle.flow_workers.specs.inner.Wanted.{KeepWanted}
 
 -- what the verdicts of a run rest on
@@ -21,6 +22,7 @@ pub record RunFacts : Type 0 where
   pub times : Timeouts
   pub policy : PolicyFacts
   pub packets : List PacketFacts
+  pub ages : Bool
 
 abbrev pub verdict_in : Timeouts → Item → Verdict
 verdict_in times i = verdict_on times (judged_of i)
@@ -38,26 +40,29 @@ pub record RecordContinues (v w : View) (more : List Call) : Type 0 where
 abbrev pub AreSaid : RunFacts → List Item → List Verdict → Type 0
 AreSaid run trace verdicts = verdicts ≡ map (verdict_in run.times) trace
 
--- a worker has looked at so many packets, and judged its own
+-- A worker has looked at so many packets, judged its own, and removed sessions between them. Whatever deeds are in order from
+-- there on may follow its deeds.
 pub record IsWorkUntil (run : RunFacts) (worker at : ℕ) (v w : Views)
     (verdicts : List Verdict) : Type 0 where
-  pub trace : List Item
-  pub items : All (IsItem run.deal.layout run.times) trace
-  pub of : All (IsItemOf run.deal worker run.policy run.packets) trace
+  pub deeds : List Deed
+  pub items : All (IsItem run.deal.layout run.times) (items_in deeds)
+  pub of : All (IsItemOf run.deal worker run.policy run.packets) (items_in deeds)
   pub dealt : (views : List frames.FrameFacts) → AreFrames run.policy run.packets views
-      → numbers_of trace ++ numbers_from run.deal worker at (drop at views) ≡ numbers_from run.deal worker 0 views
-  pub four : RecordContinues v.four w.four (calls_in run.times V4 trace)
-  pub six : RecordContinues v.six w.six (calls_in run.times V6 trace)
+      → numbers_of (items_in deeds) ++ numbers_from run.deal worker at (drop at views) ≡ numbers_from run.deal worker 0 views
+  pub removals : All (IsRemovalOf run.deal run.times run.ages run.packets worker) (aged_in deeds)
+  pub order : (more : List Deed) → AreInOrder (length run.packets) at more → AreInOrder (length run.packets) 0 (deeds ++ more)
+  pub four : RecordContinues v.four w.four (calls_by run.times V4 deeds)
+  pub six : RecordContinues v.six w.six (calls_by run.times V6 deeds)
   pub wanted : KeepWanted run.deal.layout v w
-  pub said : AreSaid run trace verdicts
+  pub said : AreSaid run (items_in deeds) verdicts
 
--- A worker judged its packets, all of them: their calls follow what its callers' records had, and these are
--- its verdicts.
+-- A worker judged its packets, all of them, and removed sessions between them: the calls of its deeds follow what its callers'
+-- records had, and these are its verdicts.
 pub record IsWork (run : RunFacts) (worker : ℕ) (v w : Views)
     (verdicts : List Verdict) : Type 0 where
-  pub trace : List Item
-  pub is : IsTrace run.deal run.times worker run.policy run.packets trace
-  pub four : RecordContinues v.four w.four (calls_in run.times V4 trace)
-  pub six : RecordContinues v.six w.six (calls_in run.times V6 trace)
+  pub deeds : List Deed
+  pub are : AreDeeds run.deal run.times run.ages worker run.policy run.packets deeds
+  pub four : RecordContinues v.four w.four (calls_by run.times V4 deeds)
+  pub six : RecordContinues v.six w.six (calls_by run.times V6 deeds)
   pub wanted : KeepWanted run.deal.layout v w
-  pub said : AreSaid run trace verdicts
+  pub said : AreSaid run (items_in deeds) verdicts

@@ -24,7 +24,7 @@ judge_found-requires g c =
     (next_own g.A.Shape g.B.Shape c.args.batch.now c.args.worker c.args.first c.args.chunk.now c.requires.of
     c.args.share.now c.loop-dealt.share c.as_slice-own.result.now c.loop-dealt.dealt-index _ c.loop-dealt-test.true
     c.loop-dealt.invariant)
-    c.as_slice-others.ensures.value c.requires.shapes c.requires.fits
+    c.as_slice-others.ensures.value c.requires.shapes c.requires.few c.requires.fits
 
 pub loop-dealt-preserved : goal.loop-dealt-preserved
 loop-dealt-preserved g c =

@@ -15,6 +15,7 @@ judge_packet-requires g c =
     let taken = c.packets.invariant.left ∙ c.in-Some.ensures in
     record {
       shapes = c.requires.shapes;
+      few = let alone = c.requires.alone in omega arith;
       idle = c.packets.invariant.worked.idle;
       fits = c.requires.fits;
       there = stands_at _ _ c.packets.taken _ taken;

@@ -20,6 +20,7 @@ judge_other-requires g c =
       is = c.see_other-other.ensures;
       may = record {
         shapes = c.requires.shapes;
+        few = omega arith;
         idle = subst (λ s. AreIdle g.A.Shape g.B.Shape batch.setup.tables.now s.callers) (sym c.index_mut.ensures.value)
             (c.requires.idle worker c.index_mut.result.now (omega arith));
         fits = c.requires.fits;
@@ -62,6 +63,7 @@ judge_sighting-requires g c =
       is = c.in-Some.ensures;
       may = record {
         shapes = c.requires.shapes;
+        few = omega arith;
         idle = subst (λ s. AreIdle g.A.Shape g.B.Shape batch.setup.tables.now s.callers) (sym c.index_mut-2.ensures.value)
             (c.requires.idle worker c.index_mut-2.result.now (omega arith));
         fits = c.requires.fits;

@@ -1,5 +1,5 @@
 use Rattle.std.proofs.Common.{◌∙◌}
-use Rattle.flow_workers.proofs.WorkerCallerLemmas.{same_traces}
+use Rattle.flow_workers.proofs.WorkerCallerLemmas.{same_deeds}
 use Rattle.flow_workers.proofs.worker_callers.join_worker_callers.Goals as goal
 
 pub returns : goal.returns
@@ -8,8 +8,8 @@ returns g c = record {
   free = c.wait_until_lone.ensures.holds ∙ c.join_all-joined.ensures.free;
   lawful = c.wait_until_lone.ensures.lawful;
   whole = c.wait_until_lone.ensures.whole;
-  traces = λ z times family traces each.
-      same_traces z times family traces c.join_all-joined.result.seat.view c.wait_until_lone.new.caller.seat.view
+  deeds = λ z times family all each.
+      same_deeds z times family all c.join_all-joined.result.seat.view c.wait_until_lone.new.caller.seat.view
       c.wait_until_lone.ensures.records c.wait_until_lone.ensures.known
-      (c.join_all-joined.ensures.traces z times family traces each);
+      (c.join_all-joined.ensures.deeds z times family all each);
 }

@@ -1,4 +1,5 @@
-use Rattle.std.proofs.Common.{arith}
+use Rattle.std.proofs.Common.{arith, map}
+use Rattle.flow_dealing.specs.AgeingTraces.{items_in}
 use Rattle.packet_view.specs.declared.tuple.Family.TheVariants.{V4, V6}
 use Rattle.flow_workers.proofs.MergeLemmas.{all_verdicts_placed}
 use Rattle.flow_workers.proofs.WorkerResultLemmas.{results_are, results_count, run_judged}
@@ -39,8 +40,8 @@ returns g c = record {
       (record { four = c.join_worker_callers.result.seat.view; six = c.join_worker_callers-2.result.seat.view })
       (c.join_worker_callers.ensures.lawful, c.join_worker_callers-2.ensures.lawful)
       (c.join_worker_callers.ensures.whole, c.join_worker_callers-2.ensures.whole)
-      (c.join_worker_callers.ensures.traces _ _ V4 p.traces p.four) (c.join_worker_callers-2.ensures.traces _ _ V6 p.traces p.six)
+      (c.join_worker_callers.ensures.deeds _ _ V4 p.all p.four) (c.join_worker_callers-2.ensures.deeds _ _ V6 p.all p.six)
       c.all_verdicts.result.items
-      (all_verdicts_placed _ p.traces rest.gone c.in_ok-four.field-0.said.items c.args.self.verdicts p.told rest.merged rest.kept
+      (all_verdicts_placed _ (map items_in p.all) rest.gone c.in_ok-four.field-0.said.items c.args.self.verdicts p.told rest.merged rest.kept
       c.all_verdicts.result.items c.all_verdicts.ensures);
 }

@@ -1,0 +1,57 @@
+//! When a worker removes sessions that have ended, and how many of its buckets at once. No promise rests on it.
+ghost use Rattle.std.specs.Prelude.{◌<◌};
+
+use session_state::Timeouts;
+
+// A round over all of a worker's buckets takes so many seconds of the packets' moments.
+const ROUND: u64 = 512;
+// It is made in so many parts.
+const PARTS: u64 = 64;
+
+/// How often a worker ages, and which of its buckets come next.
+#[derive(Clone, Copy, Debug)]
+pub struct AgeingClock {
+    /// The moment of the last ageing, in seconds.
+    pub last: u64,
+    /// From which moment on it ages next; beyond every moment where it doesn't.
+    pub due: u64,
+    /// From which bucket on it looks in the IPv4 table.
+    pub four: usize,
+    /// The same in the IPv6 table.
+    pub six: usize,
+}
+
+impl AgeingClock {
+    /// That of a worker before its first packet.
+    pub fn new(ages: bool) -> AgeingClock {
+        AgeingClock {
+            last: 0,
+            due: if ages { 0 } else { u64::MAX },
+            four: 0,
+            six: 0,
+        }
+    }
+}
+
+/// How many seconds a round takes: where pages are short, a quarter of the shortest timeout.
+pub fn round_seconds(times: &Timeouts, short_of_pages: bool) -> u64
+    ensures { 0 < result }
+{
+    if !short_of_pages {
+        return ROUND;
+    }
+    let shortest = times.transient.min(times.udp).min(times.established);
+    (u64::from(shortest) / 4).max(1)
+}
+
+/// How many seconds there are at least between two ageings, where a round takes so many.
+pub fn part_seconds(round: u64) -> u64 {
+    (round / PARTS).max(1)
+}
+
+/// How many of so many buckets are due after so many seconds: all after a round.
+pub fn due_buckets(buckets: u64, elapsed: u64, round: u64) -> u64
+    requires { 0 < round }
+{
+    buckets.saturating_mul(elapsed).div_ceil(round).min(buckets)
+}
