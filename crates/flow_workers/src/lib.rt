@@ -38,7 +38,7 @@ pub use packet_verdict::{judge, try_judge, try_judge_at};
 pub use run_at_once::run_workers;
 pub use run_fault::RunFault;
 pub use session_state::Verdict;
-pub use session_tables::{Callers, Tables, create_tables};
+pub use session_tables::{Callers, Tables, create_cutting_tables, create_tables};
 pub use table_closing::close_tables;
 pub use table_renewal::renew_tables;
 pub use worker_setup::Setup;

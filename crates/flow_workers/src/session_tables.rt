@@ -1,11 +1,11 @@
 //! The session tables of both families, and their callers.
-ghost use Rattle.std.specs.Prelude.{◌≡◌, IfOk};
+ghost use Rattle.std.specs.Prelude.{◌≡◌, true, IfOk};
 ghost use Rattle.bihash_words.specs.Sizes.{IsSound, sizes_of};
 ghost use Rattle.flow_filter.specs.OneThread.{layout_of};
 ghost use Rattle.flow_workers.specs.Callers.{AreIdle, first_views, views_of};
 
 use crate::run_fault::RunFault;
-use bihash_table::{Caller, Sessions, create};
+use bihash_table::{Caller, Sessions, create, create_cutting};
 use bihash_words::Shape;
 use std::alloc::Global;
 
@@ -37,6 +37,28 @@ pub fn create_tables<A: Shape, B: Shape>(
 {
     let (four, first_four) = create(alloc)?;
     let (six, first_six) = create(alloc)?;
+    Ok((
+        Tables { four, six },
+        Callers {
+            four: first_four,
+            six: first_six,
+        },
+    ))
+}
+
+/// New tables and their callers, as by `create_tables`, but where pages are wanted for a block, a larger returned one is cut.
+pub fn create_cutting_tables<A: Shape, B: Shape>(
+    alloc: Global,
+) -> Result<(Tables<A, B>, Callers<A, B>), RunFault>
+    requires four { IsSound (sizes_of A.Shape) }
+    requires six { IsSound (sizes_of B.Shape) }
+    ensures idle { IfOk result (λ r. AreIdle ⟦<A as Shape>⟧ ⟦<B as Shape>⟧ r.0 r.1) }
+    ensures first { IfOk result (λ r. views_of ⟦<A as Shape>⟧ ⟦<B as Shape>⟧ r.1
+        ≡ first_views (layout_of ⟦<A as Shape>⟧ ⟦<B as Shape>⟧)) }
+    ensures cuts { IfOk result (λ r. (r.0.four.cuts_blocks ≡ true) × (r.0.six.cuts_blocks ≡ true)) }
+{
+    let (four, first_four) = create_cutting(alloc)?;
+    let (six, first_six) = create_cutting(alloc)?;
     Ok((
         Tables { four, six },
         Callers {
