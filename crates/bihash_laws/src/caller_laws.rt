@@ -1,7 +1,7 @@
 //! What the lawfulness of callers means for the maps of the buckets.
 //!
 //! The functions do nothing: their contracts are the laws.
-ghost use Rattle.std.specs.Prelude.{◌≡◌, ◌≢◌, ◌≤◌, ◌<◌, ◌+◌, ◌++◌, ◌^◌, ℕ, Bool, [], ◌∷◌, List, Option, Some, length, true, false, All};
+ghost use Rattle.std.specs.Prelude.{◌≡◌, ◌≢◌, ◌≤◌, ◌<◌, ◌+◌, ◌++◌, ℕ, Bool, [], ◌∷◌, List, Option, Some, length, true, false, All};
 ghost use Rattle.std.specs.FinMap.{get};
 ghost use lib.ListN.{get_elem?};
 ghost use mathlib.Core.Option.{some};
@@ -11,7 +11,7 @@ ghost use Rattle.bihash_words.specs.declared.patch.Change.{Change};
 ghost use Rattle.bihash_words.specs.declared.patch.Reply.{Reply};
 ghost use Rattle.bihash_words.specs.declared.patch.Reply.TheVariants.{Full};
 ghost use Rattle.bihash_rule.specs.Words.{buckets};
-ghost use Rattle.bihash_rule.specs.Histories.{IsLegal, IsPrefix, is_changed};
+ghost use Rattle.bihash_rule.specs.Histories.{IsLegal, IsPairOf, IsPrefix, is_changed};
 ghost use Rattle.bihash_rule.specs.Callers.{Agrees, HasMadeAll, HasNumber, IsLawfulCaller, IsWhole, known_at, opening_at};
 ghost use Rattle.bihash_steps.specs.Steps.{HaveBearers};
 ghost use Rattle.bihash_rule.specs.Views.{opening_view};
@@ -153,6 +153,13 @@ pub fn lone_callers_know_all()
     ensures { (z : Sizes) (b : ℕ) (v w : View) (e : Event) → IsLawfulAnswer z b v w e → v.lone ≡ true
         → is_changed e.reply ≡ false
         → (known_at w.known b ≡ known_at v.known b) × (map_now w b ≡ map_now v b) }
+{}
+
+/// Each pair that a lawful caller knows of a bucket may stand there: its key is the bucket's, and its value is a word, and
+/// no mark of a free place.
+pub fn known_pairs_are_the_buckets()
+    ensures { (z : Sizes) (b : ℕ) (v : View) (key : List ℕ) (value : ℕ) → IsLawfulCaller z v → b < buckets z
+        → get (map_now v b) key ≡ Some value → IsPairOf z b key value }
 {}
 
 /// A caller's call with an expiry is answered Full only where no value of its bucket's map is expired. Where it removes

@@ -12,8 +12,9 @@ pub use call_time_laws::{
 pub use caller_laws::{
     agreeing_callers_have_one_order, agreeing_callers_share_a_history, answers_are_the_maps,
     answers_stand_after_what_was_known, calls_have_one_order, changed_alone_writes,
-    logs_are_one_order, lone_callers_know_all, one_writer_has_one_map, one_writer_stays,
-    only_the_least_expired_pair_goes, whole_callers_have_one_order, whole_callers_made_each_write,
+    known_pairs_are_the_buckets, logs_are_one_order, lone_callers_know_all, one_writer_has_one_map,
+    one_writer_stays, only_the_least_expired_pair_goes, whole_callers_have_one_order,
+    whole_callers_made_each_write,
 };
 pub use row_log_laws::{
     calls_enter_at_the_end, calls_stand_in_real_time, logs_only_grow, no_step_recalls,
