@@ -14,7 +14,7 @@ use std::marker::Brand;
 use std::sync::Wait;
 
 impl<S: Shape> Sessions<S> {
-    /// The value of the key, `None` where it is absent. It takes no lock.
+    /// The value of the key, `None` where it is absent. It takes no lock of a bucket.
     #[inline(always)]
     pub fn try_search(&self, caller: &mut Caller<S>, key: &S::Key) -> Result<Option<u64>, Contended>
         requires { IsIdle self.now.row caller.old.seat }

@@ -30,7 +30,7 @@ use std::marker::Brand;
 impl<S: Shape> Sessions<S> {
     /// Decides once on the value of the key, and makes the change that was decided. The answers come in
     /// this order: `Contended`, `Kept`, `Worn`, `Full`, `NoPages`, `Changed`. The first four of them but
-    /// `Contended` take no lock.
+    /// `Contended` take no lock of a bucket.
     #[inline(always)]
     pub fn try_update<P: Patch>(
         &self,

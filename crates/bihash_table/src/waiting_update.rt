@@ -15,8 +15,8 @@ use crossbeam_utils::Backoff;
 use std::sync::Wait;
 
 impl<S: Shape> Sessions<S> {
-    /// Decides once on the value of the key, and makes the change that was decided. It is tried again, after a wait,
-    /// until no other caller holds a lock or changes the bucket meanwhile.
+    /// Decides on the value of the key, once for each try, and makes the change that was decided. It is tried again, after
+    /// a wait, until no other caller holds a lock or changes the bucket meanwhile.
     #[inline(always)]
     pub fn update<P: Patch, R: Wait>(
         &self,

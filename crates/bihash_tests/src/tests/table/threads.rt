@@ -3,14 +3,15 @@ ghost use Rattle.std.specs.Prelude.{◌≡◌};
 ghost use Rattle.std.specs.Thread.{IsSync};
 ghost use Rattle.bihash_words.specs.declared.patch.Change.TheVariants.{Keep};
 ghost use Rattle.bihash_rule.specs.Views.{nothing_held};
+ghost use Rattle.bihash_steps.specs.BucketSteps.{HoldsClean};
 
 use super::Call::{Add, Search};
 use super::{Eight, Row, first_wrong, table_answer, table_refused, two_callers};
 use bihash_table::{Caller, Sessions};
 use bihash_words::Reply::{Changed, Kept};
-use bihash_words::{Change, Patch, Reply, Tiny};
+use bihash_words::{BucketWord, Change, Patch, Reply, Tiny};
 use std::sync::Wait;
-use std::sync::atomic::{AtomicBool, Ordering};
+use std::sync::atomic::{AtomicBool, AtomicU64, Ordering};
 use std::test::Fail;
 use std::thread::{Threads, join};
 
@@ -82,9 +83,10 @@ fn write_thousand<R: Wait>(
     (caller, all_changed)
 }
 
-/// Keeps what it finds, once another thread said that it passed.
+/// Keeps what it finds, once another thread said that it passed, and counts how often it is asked.
 #[derive(Drop)]
 struct KeepsLate {
+    asked: AtomicU64,
     entered: AtomicBool,
     passed: AtomicBool,
     gave_up: AtomicBool,
@@ -108,14 +110,15 @@ impl Patch for KeepsLate {
 
     // For a test of two threads: tells the other one that it decides, and keeps what it found once that one passed.
     fn decide(&self, _old: Option<u64>) -> Change {
+        self.asked.fetch_add(1, Ordering::SeqCst);
         self.entered.store(true, Ordering::SeqCst);
         self.wait_for(&self.passed);
         Change::Keep
     }
 }
 
-// While one thread decides to keep what its update found, the search of another for the same key is answered: neither
-// has a lock.
+// While one thread decides to keep what its update found, once, the search of another for the same key is answered:
+// neither has a lock.
 #[test]
 fn two_threads_keep_and_search(rt: HostRuntime) -> Result<(), Fail> {
     let Some((table, mut first, second)) = two_callers::<Eight>(rt.alloc()) else {
@@ -124,6 +127,7 @@ fn two_threads_keep_and_search(rt: HostRuntime) -> Result<(), Fail> {
     const ADDED: [Row; 1] = [(Add(7), [0, 0], Changed(None), (0, 1))];
     assert!(rt; first_wrong(&table, &mut first, &ADDED) == None);
     let patch = KeepsLate {
+        asked: AtomicU64::new(0),
         entered: AtomicBool::new(false),
         passed: AtomicBool::new(false),
         gave_up: AtomicBool::new(false),
@@ -132,6 +136,7 @@ fn two_threads_keep_and_search(rt: HostRuntime) -> Result<(), Fail> {
     assert!(rt; kept == Some(Reply::Kept(Some(7))));
     assert!(rt; found == Some(Some(7)));
     assert!(rt; !patch.gave_up.load(Ordering::SeqCst));
+    assert!(rt; patch.asked.load(Ordering::SeqCst) == 1);
     Ok(())
 }
 
@@ -156,6 +161,70 @@ fn keep_and_search<R: Threads + Sync>(
             found
         },
     )
+}
+
+// A search is tried again for as long as another caller has the lock of the key's bucket, which is far longer here than a few
+// tries take.
+#[test]
+fn a_search_outlasts_a_lock(rt: HostRuntime) -> Result<(), Fail> {
+    let Some((table, mut first, second)) = two_callers::<Eight>(rt.alloc()) else {
+        return table_refused();
+    };
+    const ADDED: [Row; 1] = [(Add(7), [0, 0], Changed(None), (0, 1))];
+    assert!(rt; first_wrong(&table, &mut first, &ADDED) == None);
+    let word = table.row.load_bucket(&mut first.seat, 0);
+    assert!(rt; !word.locked());
+    assert!(rt; table.row.lock_from(&mut first.seat, 0, word));
+    let found = search_under_lock(&rt, &table, first, second, word);
+    assert!(rt; found == Some(7));
+    Ok(())
+}
+
+// One thread has the lock of the bucket 0 and opens it late, and the other searches the key 0 meanwhile.
+fn search_under_lock<R: Threads + Wait + Sync>(
+    rt: &R,
+    table: &Sessions<Eight>,
+    mut first: Caller<Eight>,
+    mut second: Caller<Eight>,
+    word: BucketWord,
+) -> Option<u64>
+    requires own { (first.seat.row ≡ table.now.row) × (second.seat.row ≡ table.now.row) }
+    requires locked { HoldsClean first.seat.view 0 word }
+    requires free { second.seat.view.holds ≡ nothing_held }
+{
+    let began = AtomicBool::new(false);
+    let (_, found) = join(
+        rt,
+        || -> () { open_late(table, &mut first, word, &began) },
+        || -> Option<u64>
+            requires { IsSync R.row × (second.seat.row ≡ table.now.row) × (second.seat.view.holds ≡ nothing_held) }
+        {
+            began.store(true, Ordering::SeqCst);
+            table.search(rt, &mut second, &[0, 0])
+        },
+    );
+    found
+}
+
+// For a test of two threads: opens the lock of the bucket 0 a million looks after the other thread began.
+fn open_late(
+    table: &Sessions<Eight>,
+    caller: &mut Caller<Eight>,
+    word: BucketWord,
+    began: &AtomicBool,
+)
+    requires own { caller.old.seat.row ≡ table.now.row }
+    requires locked { HoldsClean caller.old.seat.view 0 word }
+{
+    for _ in 0..100_000_000u64 {
+        if began.load(Ordering::SeqCst) {
+            break;
+        }
+    }
+    for _ in 0..1_000_000u32 {
+        let _ = began.load(Ordering::SeqCst);
+    }
+    table.row.release(&mut caller.seat, 0, word);
 }
 
 // How often each thread goes round in the test below.
