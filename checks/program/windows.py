@@ -38,6 +38,10 @@ WINDOWS = [
      lambda: wanted(report_of(many_windows()[1]))),
 ]
 
+# In so many bytes of addresses two workers judge as many windows as there may be: they took 112 MiB, arenas and stacks of
+# threads with them. A list of its own for each window's packets, kept, takes half as much again.
+MEMORY = 128 << 20
+
 # Sources that stay open or are reset behind so many bytes, before and behind the last byte that is asked for.
 SOURCES = [
     ("an open source of a byte too many", MOST_BYTES + 1, False, TOO_LARGE),
@@ -86,6 +90,13 @@ class Windows(Case):
             self.compare(self.program.run(["--workers", number], text), wanted(REFLECTED), f"from {behind} bytes before the end")
         digits = NAMES + b"hex\n" + b"\n" * front + CAPTURE.hex("\n").encode()
         self.compare(self.program.run(["--workers", number], digits), wanted(REFLECTED), "digits behind the front")
+
+    def test_memory_of_windows(self):
+        data = many_windows()[0]
+        records = data.split(b"pcap\n", 1)[1][24:] * 2
+        data += records[:(MOST_BYTES - len(data)) // 58 * 58]
+        got = self.program.run(["--workers", "2", "--summary"], data, memory=MEMORY)
+        self.compare(got, {**self.program.run(["--summary"], data), "stderr": b"", "status": 0})
 
     @each(SOURCES)
     def sources(self, count, is_reset, want):

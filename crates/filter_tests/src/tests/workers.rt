@@ -20,10 +20,12 @@ use std::thread::Threads;
 /// Holds packets until others came, and gives up after a while.
 #[derive(Drop)]
 struct Meeting {
-    first: AtomicBool,
-    second: AtomicBool,
+    /// How many packets came to the gate with worker 0, and with worker 1; or with that how often packet 1 left it.
+    first: AtomicU64,
+    second: AtomicU64,
     gave_up: AtomicBool,
-    /// Packet 0 is held until packet 1 was judged; else packets 0 and 1 are held until both are at the gate.
+    /// Packet 0 is held until packet 1 was judged, and worker 1 behind that until worker 0 has its next packet; else each
+    /// packet of a worker is held until the other worker has as many.
     in_turn: bool,
 }
 
@@ -31,17 +33,17 @@ impl Meeting {
     // A gate for tests of workers, to which no packet came yet.
     fn new(in_turn: bool) -> Meeting {
         Meeting {
-            first: AtomicBool::new(false),
-            second: AtomicBool::new(false),
+            first: AtomicU64::new(0),
+            second: AtomicU64::new(0),
             gave_up: AtomicBool::new(false),
             in_turn,
         }
     }
 
-    // Holds a worker of a test at the gate until this flag is set, or for 100 million looks at it.
-    fn hold_worker(&self, flag: &AtomicBool) {
+    // Holds a worker of a test at the gate until the other one counts as much, or for 100 million looks at that.
+    fn hold_worker(&self, other: &AtomicU64, wanted: u64) {
         for _ in 0..100_000_000u64 {
-            if flag.load(Ordering::SeqCst) {
+            if other.load(Ordering::SeqCst) >= wanted {
                 return;
             }
         }
@@ -50,22 +52,26 @@ impl Meeting {
 }
 
 impl Gate for Meeting {
-    // Holds a worker of a test at the gate with its first packet, where it is to wait for the other worker.
+    // Holds a worker of a test at the gate with its packet, where it is to wait for the other worker.
     fn before(&self, worker: usize, packet: usize) {
-        if worker == 0 && packet == 0 {
-            self.first.store(true, Ordering::SeqCst);
-            self.hold_worker(&self.second);
+        if worker == 0 {
+            self.first.fetch_add(1, Ordering::SeqCst);
         }
-        if worker == 1 && packet == 1 && !self.in_turn {
-            self.second.store(true, Ordering::SeqCst);
-            self.hold_worker(&self.first);
+        if worker == 1 && !self.in_turn {
+            self.second.fetch_add(1, Ordering::SeqCst);
+            self.hold_worker(&self.first, self.second.load(Ordering::SeqCst));
+        }
+        if worker == 0 && (packet == 0 || !self.in_turn) {
+            self.hold_worker(&self.second, self.first.load(Ordering::SeqCst));
         }
     }
 
-    // Lets worker 0 of a test go on once worker 1 judged its first packet, where they come in turn.
+    // Lets worker 0 of a test go on once worker 1 judged its first packet, where they come in turn, and holds worker 1
+    // until worker 0 judged its own: were this told before packet 1 is judged, it would find the session of packet 0.
     fn after(&self, worker: usize, packet: usize) {
         if worker == 1 && packet == 1 && self.in_turn {
-            self.second.store(true, Ordering::SeqCst);
+            self.second.fetch_add(1, Ordering::SeqCst);
+            self.hold_worker(&self.first, 2);
         }
     }
 }
@@ -142,6 +148,7 @@ fn verdicts_on_parts<R: Threads + Wait + Sync, G: Gate + Sync>(
     alloc: Global,
     filter: &Filter,
     gate: &G,
+    dealing: Dealing,
     first: &[Packet<'_>],
     second: &[Packet<'_>],
 ) -> Result<(Vec<Verdict>, Pairs, usize), RunFault>
@@ -162,7 +169,7 @@ fn verdicts_on_parts<R: Threads + Wait + Sync, G: Gate + Sync>(
         gate,
         filter: &ready,
         tables: &tables,
-        dealing: Dealing::Bucket,
+        dealing,
         workers: 2,
         many: 0,
         ages: false,
@@ -224,8 +231,8 @@ fn workers(rt: HostRuntime) -> Result<(), Fail> {
     Ok(())
 }
 
-// Two workers are inside their packets at once: a frame of another type goes to worker 0, and a request from port 1001,
-// whose bucket is odd, to worker 1.
+// Two workers are inside their packets at once, in a second part too: a frame of another type goes to worker 0, and a
+// request from port 1001, whose bucket is odd, to worker 1.
 #[test]
 fn two_workers_at_once(rt: HostRuntime) -> Result<(), Fail> {
     let alloc = rt.alloc();
@@ -247,10 +254,17 @@ fn two_workers_at_once(rt: HostRuntime) -> Result<(), Fail> {
             frame: &odd,
         },
     ];
-    let wanted = [Verdict::NotIp, Verdict::Reflect(1)];
+    let wanted = [
+        Verdict::NotIp,
+        Verdict::Reflect(1),
+        Verdict::NotIp,
+        Verdict::Session,
+    ];
     for dealing in [Dealing::Round, Dealing::Bucket] {
         let gate = Meeting::new(false);
-        let Ok(found) = verdicts(&rt, alloc, &filter, &packets, 2, &gate, dealing) else {
+        let Ok((found, ..)) = verdicts_on_parts(
+            &rt, alloc, &filter, &gate, dealing, &packets, &packets,
+        ) else {
             return filter_test_refused();
         };
         assert!(rt; !gate.gave_up.load(Ordering::SeqCst));
@@ -301,8 +315,10 @@ fn workers_judge_two_parts(rt: HostRuntime) -> Result<(), Fail> {
         before: AtomicU64::new(0),
         after: AtomicU64::new(0),
     };
-    let Ok((found, four, others)) = verdicts_on_parts(&rt, alloc, &filter, &gate, &first, &second)
-    else {
+    let dealing = Dealing::Bucket;
+    let Ok((found, four, others)) = verdicts_on_parts(
+        &rt, alloc, &filter, &gate, dealing, &first, &second,
+    ) else {
         return filter_test_refused();
     };
     let wanted = [
