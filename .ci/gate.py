@@ -120,7 +120,7 @@ def main():
     if is_there:
         built = [it + by for it in (PROGRAM, TABLE_PROGRAM) for by in ("", BY_RATTLE)]
         checks = (["checks/house"], ["checks/documents"], ["checks/launcher", "--trial"], ["checks/install"], ["checks/run", *programs],
-                  ["checks/refused_memory", *built], ["checks/c_library"])
+                  ["checks/refused_memory", *built], ["checks/c_library"], ["checks/c_filter"])
         counts += [counted(*followed(it, lambda _: None)) for it in checks]
     else:
         counts.append((0, 1))

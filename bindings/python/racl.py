@@ -1,0 +1,154 @@
+"""The packet filter of `racl` in Python: policies get unit tests.
+
+    judge = Judge("out permit+reflect ipv4 any any udp dport 53\\n")
+    assert judge.judge(frame, time=10).passes
+
+It calls the library for C (include/racl.h) as a shared object, libracl.so beside this file or the file that RACL_LIBRARY
+names, which is made of the archive, KIT being the folder of the toolchain:
+
+    cc -shared -o bindings/python/libracl.so -Wl,--whole-archive crates/racl_c/out/libracl_c.a \\
+       -Wl,--no-whole-archive KIT/c/liblibc_c.a -lpthread
+"""
+from __future__ import annotations
+
+import ctypes
+import enum
+import os
+from dataclasses import dataclass
+from typing import SupportsBytes
+
+
+class Verdict(enum.IntEnum):
+    """What becomes of a frame, by the numbers of the header."""
+
+    SESSION = 16
+    REFLECT = 17
+    PERMIT = 18
+    DENY = 19
+    BY_DEFAULT = 20
+    WORN = 21
+    FULL = 22
+    NO_PAGES = 23
+    NOT_IP = 24
+    MALFORMED = 25
+    SHORT = 26
+
+
+class Direction(enum.IntEnum):
+    """Which way a packet goes at its interface."""
+
+    NONE = 0
+    INBOUND = 1
+    OUTBOUND = 2
+
+
+@dataclass(frozen=True)
+class Answer:
+    """The answer on a frame. Rules of a direction count from 1 in the section of their interface; 0: no rule decided."""
+
+    verdict: Verdict
+    rule: int
+    passes: bool
+    direction: Direction
+
+
+class PolicyFault(ValueError):
+    """A policy's first fault. Its line counts from 1, and is 0 where no line is meant."""
+
+    def __init__(self, reason: str, line: int):
+        super().__init__(f"policy line {line} {reason}" if line else f"policy {reason}")
+        self.line = line
+
+
+class _Handle(ctypes.Structure):
+    _fields_ = [("at", ctypes.c_void_p)]
+
+
+class _Options(ctypes.Structure):
+    _fields_ = [(name, ctypes.c_uint32) for name in ("size", "tables", "established", "transient", "udp")]
+
+
+class _Made(ctypes.Structure):
+    _fields_ = [("kind", ctypes.c_uint32), ("line", ctypes.c_uint64)]
+
+
+class _Answer(ctypes.Structure):
+    _fields_ = [(name, ctypes.c_uint32) for name in ("kind", "rule", "passes", "direction")]
+
+
+class _Counts(ctypes.Structure):
+    _fields_ = [(name, ctypes.c_uint64) for name in ("session", "reflect", "permit", "deny", "by_default", "worn", "full",
+                                                     "no_pages", "not_ip", "malformed", "cut_short")]
+
+
+_CONTENDED = 7
+_FAULTS = {2: "is not UTF-8", 3: "is wrong", 4: "is one rule too many"}
+_TEXT = [ctypes.c_char_p, ctypes.c_size_t]
+
+
+def _library() -> ctypes.CDLL:
+    beside = os.path.join(os.path.dirname(os.path.abspath(__file__)), "libracl.so")
+    library = ctypes.CDLL(os.environ.get("RACL_LIBRARY", beside))
+    handle = ctypes.POINTER(_Handle)
+    calls = {
+        "racl_new": (_Made, [handle, *_TEXT, ctypes.POINTER(_Options)]),
+        "racl_set_policy": (_Made, [handle, *_TEXT]),
+        "racl_judge": (_Answer, [handle, ctypes.c_uint8, ctypes.c_uint32, *_TEXT]),
+        "racl_counts": (None, [handle, ctypes.POINTER(_Counts)]),
+        "racl_free": (None, [handle]),
+    }
+    for name, (result, given) in calls.items():
+        call = getattr(library, name)
+        call.restype, call.argtypes = result, given
+    return library
+
+
+_LIBRARY = _library()
+
+
+def _done(made: _Made) -> None:
+    if made.kind == 1:
+        raise MemoryError
+    if made.kind in _FAULTS:
+        raise PolicyFault(_FAULTS[made.kind], made.line)
+    if made.kind:
+        raise ValueError("a timeout is less than 1")
+
+
+def _bytes_of(policy: str | bytes) -> bytes:
+    return policy.encode() if isinstance(policy, str) else policy
+
+
+class Judge:
+    """A policy, timeouts in seconds and session tables. One thread calls a judge at a time."""
+
+    def __init__(self, policy: str | bytes, *, established: int = 86_400, transient: int = 120, udp: int = 600,
+                 large: bool = False):
+        self._handle = _Handle()
+        options = _Options(ctypes.sizeof(_Options), int(large), established, transient, udp)
+        text = _bytes_of(policy)
+        _done(_LIBRARY.racl_new(self._handle, text, len(text), options))
+
+    def judge(self, frame: bytes | SupportsBytes, *, time: int = 0, interface: int = 0) -> Answer:
+        """The answer on an Ethernet frame, which may be a packet of scapy, seen at this interface in this second."""
+        if not 0 <= interface <= 255:
+            raise ValueError("an interface has a number from 0 to 255")
+        read = bytes(frame)
+        told = _LIBRARY.racl_judge(self._handle, interface, time & 0xFFFF_FFFF, read, len(read))
+        assert told.kind != _CONTENDED, "another thread called this judge"
+        return Answer(Verdict(told.kind), told.rule, bool(told.passes), Direction(told.direction))
+
+    def set_policy(self, policy: str | bytes) -> None:
+        """Judges by this policy from now on; sessions and timeouts stay. A fault leaves the policy that was there."""
+        text = _bytes_of(policy)
+        _done(_LIBRARY.racl_set_policy(self._handle, text, len(text)))
+
+    def counts(self) -> dict[str, int]:
+        """How many frames were given each verdict."""
+        counts = _Counts()
+        _LIBRARY.racl_counts(self._handle, counts)
+        return {name: getattr(counts, name) for name, _ in _Counts._fields_}
+
+    def __del__(self) -> None:
+        if getattr(self, "_handle", None) and self._handle.at:
+            _LIBRARY.racl_free(self._handle)

@@ -1,0 +1,94 @@
+//! The library's functions as include/racl.h declares them.
+
+/// The one pointer of a handle.
+#[repr(transparent)]
+pub struct Handle(pub *mut u8);
+
+#[repr(C)]
+pub struct Made {
+    pub kind: u32,
+    pub line: u64,
+}
+
+#[repr(C)]
+pub struct RawOptions {
+    pub size: u32,
+    pub tables: u32,
+    pub established: u32,
+    pub transient: u32,
+    pub udp: u32,
+}
+
+#[repr(C)]
+pub struct RawFlow {
+    pub family: u32,
+    pub hash: u64,
+}
+
+/// The answer on a frame, as it lies in memory.
+#[repr(C)]
+#[derive(Clone, Copy, PartialEq, Eq)]
+pub struct RawAnswer {
+    pub kind: u32,
+    pub rule: u32,
+    pub passes: u32,
+    pub direction: u32,
+}
+
+/// A frame in an area of memory: its bytes from `at` on, seen at this interface in this second.
+#[repr(C)]
+#[derive(Clone, Copy, Debug, PartialEq, Eq)]
+pub struct Descriptor {
+    pub at: u64,
+    pub length: u32,
+    pub second: u32,
+    pub interface: u8,
+}
+
+/// How many frames were given each verdict.
+#[repr(C)]
+#[derive(Clone, Copy, Debug, Default, PartialEq, Eq)]
+pub struct Counts {
+    pub session: u64,
+    pub reflect: u64,
+    pub permit: u64,
+    pub deny: u64,
+    pub by_default: u64,
+    pub worn: u64,
+    pub full: u64,
+    pub no_pages: u64,
+    pub not_ip: u64,
+    pub malformed: u64,
+    pub cut_short: u64,
+}
+
+unsafe extern "C" {
+    pub fn racl_new(handle: *mut Handle, text: *const u8, length: usize, options: *const RawOptions) -> Made;
+    pub fn racl_split(handle: *mut Handle, fresh: *mut Handle) -> u32;
+    pub fn racl_join(handle: *mut Handle, other: *mut Handle);
+    pub fn racl_free(handle: *mut Handle);
+    pub fn racl_set_policy(handle: *mut Handle, text: *const u8, length: usize) -> Made;
+    pub fn racl_take_policy(handle: *mut Handle, other: *mut Handle) -> u32;
+    pub fn racl_judge(
+        handle: *mut Handle,
+        interface: u8,
+        second: u32,
+        frame: *const u8,
+        length: usize,
+    ) -> RawAnswer;
+    pub fn racl_judge_burst(
+        handle: *mut Handle,
+        memory: *const u8,
+        length: usize,
+        descriptors: *const Descriptor,
+        count: usize,
+        answers: *mut RawAnswer,
+        room: usize,
+    ) -> usize;
+    pub fn racl_flow_of(interface: u8, frame: *const u8, length: usize) -> RawFlow;
+    pub fn racl_counts(handle: *mut Handle, counts: *mut Counts);
+    pub fn racl_expire_ipv4(handle: *mut Handle, bucket: u64, second: u32) -> u32;
+    pub fn racl_expire_ipv6(handle: *mut Handle, bucket: u64, second: u32) -> u32;
+    pub fn racl_renew_ipv4(handle: *mut Handle) -> u32;
+    pub fn racl_renew_ipv6(handle: *mut Handle) -> u32;
+}

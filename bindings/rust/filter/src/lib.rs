@@ -1,0 +1,394 @@
+//! The packet filter of `racl` in other programs: an Ethernet frame is handed over, and whether it passes is answered.
+//!
+//! ```
+//! use racl::{Filter, Options};
+//!
+//! let policy = b"mac 02:00:00:00:00:01\nout permit+reflect ipv4 any any\n";
+//! let mut filter = Filter::new(policy, &Options::default()).unwrap();
+//! let mut worker = filter.split().unwrap();
+//! let worker = std::thread::spawn(move || {
+//!     let arp = [0xff, 0xff, 0xff, 0xff, 0xff, 0xff, 2, 0, 0, 0, 0, 1, 0x08, 0x06];
+//!     assert!(worker.judge(0, 10, &arp).passes());
+//!     worker
+//! });
+//! filter.join(worker.join().unwrap()).unwrap();
+//! assert_eq!(filter.counts().not_ip, 1);
+//! ```
+//!
+//! A worker goes to any thread, but two threads don't share one:
+//!
+//! ```compile_fail
+//! fn shared<T: Sync>() {}
+//! shared::<racl::Worker>();
+//! ```
+
+mod calls;
+
+use calls::{Handle, Made, RawAnswer, RawOptions};
+use std::cell::Cell;
+use std::fmt;
+use std::hint::spin_loop;
+use std::marker::PhantomData;
+use std::mem::size_of;
+use std::ops::{Deref, DerefMut, Range};
+use std::ptr::null_mut;
+use std::sync::atomic::{AtomicU64, Ordering};
+
+pub use calls::{Counts, Descriptor};
+
+/// How large the session tables are.
+#[derive(Clone, Copy, Debug, Default, PartialEq, Eq)]
+pub enum Tables {
+    #[default]
+    Standard,
+    Large,
+}
+
+/// What a filter is made with. Seconds are how long sessions outlive their last packet; each is at least 1.
+#[derive(Clone, Copy, Debug, PartialEq, Eq)]
+pub struct Options {
+    pub tables: Tables,
+    pub established: u32,
+    pub transient: u32,
+    pub udp: u32,
+}
+
+impl Default for Options {
+    fn default() -> Options {
+        Options { tables: Tables::Standard, established: 86_400, transient: 120, udp: 600 }
+    }
+}
+
+/// Why a call was not done. Nothing is lost then.
+#[derive(Clone, Copy, Debug, PartialEq, Eq)]
+pub enum Fault {
+    /// Memory was refused.
+    Memory,
+    /// The policy isn't UTF-8.
+    NotUtf8,
+    /// This line of the policy is wrong.
+    BadLine(u64),
+    /// This line of the policy is one rule too many.
+    TooMany(u64),
+    /// A timeout is 0.
+    BadOptions,
+    /// The tables had as many workers as they can have.
+    Numbers,
+    /// Another worker is left, or was dropped and not joined.
+    Strangers,
+}
+
+impl fmt::Display for Fault {
+    fn fmt(&self, f: &mut fmt::Formatter<'_>) -> fmt::Result {
+        match self {
+            Fault::Memory => f.write_str("no memory"),
+            Fault::NotUtf8 => f.write_str("policy is not UTF-8"),
+            Fault::BadLine(line) => write!(f, "policy line {line} is wrong"),
+            Fault::TooMany(line) => write!(f, "policy line {line} is one rule too many"),
+            Fault::BadOptions => f.write_str("a timeout is 0"),
+            Fault::Numbers => f.write_str("too many workers were made"),
+            Fault::Strangers => f.write_str("another worker is left"),
+        }
+    }
+}
+
+impl std::error::Error for Fault {}
+
+/// Another worker stood in the way of a try, and nothing was done.
+#[derive(Clone, Copy, Debug, PartialEq, Eq)]
+pub struct Contended;
+
+/// What becomes of a frame. Rules of a direction count from 1 in the section of their interface.
+#[derive(Clone, Copy, Debug, PartialEq, Eq)]
+pub enum Verdict {
+    Session,
+    Reflect(u32),
+    Permit(u32),
+    Deny(u32),
+    ByDefault,
+    Worn,
+    Full,
+    NoPages,
+    NotIp,
+    Malformed,
+    Short,
+}
+
+/// Which way a packet goes at its interface.
+#[derive(Clone, Copy, Debug, PartialEq, Eq)]
+pub enum Direction {
+    Inbound,
+    Outbound,
+}
+
+/// The answer on a frame.
+#[repr(transparent)]
+#[derive(Clone, Copy, PartialEq, Eq)]
+pub struct Answer(RawAnswer);
+
+impl Answer {
+    /// Of no frame yet: what a burst didn't reach.
+    pub const NONE: Answer = Answer(RawAnswer { kind: 0, rule: 0, passes: 0, direction: 0 });
+
+    pub fn passes(self) -> bool {
+        self.0.passes != 0
+    }
+
+    /// `None`: no frame was answered here, or another worker stood in its way.
+    pub fn verdict(self) -> Option<Verdict> {
+        Some(match self.0.kind {
+            16 => Verdict::Session,
+            17 => Verdict::Reflect(self.0.rule),
+            18 => Verdict::Permit(self.0.rule),
+            19 => Verdict::Deny(self.0.rule),
+            20 => Verdict::ByDefault,
+            21 => Verdict::Worn,
+            22 => Verdict::Full,
+            23 => Verdict::NoPages,
+            24 => Verdict::NotIp,
+            25 => Verdict::Malformed,
+            26 => Verdict::Short,
+            _ => return None,
+        })
+    }
+
+    /// `None`: the frame shows no packet.
+    pub fn direction(self) -> Option<Direction> {
+        match self.0.direction {
+            1 => Some(Direction::Inbound),
+            2 => Some(Direction::Outbound),
+            _ => None,
+        }
+    }
+}
+
+impl fmt::Debug for Answer {
+    fn fmt(&self, f: &mut fmt::Formatter<'_>) -> fmt::Result {
+        f.debug_struct("Answer").field("verdict", &self.verdict()).field("direction", &self.direction()).finish()
+    }
+}
+
+/// Sessions of IPv4 or of IPv6.
+#[derive(Clone, Copy, Debug, PartialEq, Eq)]
+pub enum Family {
+    V4,
+    V6,
+}
+
+/// A frame's flow: the same for both directions at one interface.
+#[derive(Clone, Copy, Debug, PartialEq, Eq)]
+pub struct Flow {
+    pub family: Family,
+    pub hash: u64,
+}
+
+/// The flow of a frame that is seen at this interface, by which frames are dealt to workers. `None`: it takes no part in
+/// sessions.
+pub fn flow_of(interface: u8, frame: &[u8]) -> Option<Flow> {
+    let told = unsafe { calls::racl_flow_of(interface, frame.as_ptr(), frame.len()) };
+    let family = match told.family {
+        4 => Family::V4,
+        6 => Family::V6,
+        _ => return None,
+    };
+    Some(Flow { family, hash: told.hash })
+}
+
+const CONTENDED: u32 = 7;
+
+fn done(kind: u32, line: u64) -> Result<(), Fault> {
+    Err(match kind {
+        0 => return Ok(()),
+        1 => Fault::Memory,
+        2 => Fault::NotUtf8,
+        3 => Fault::BadLine(line),
+        4 => Fault::TooMany(line),
+        5 => Fault::BadOptions,
+        6 => Fault::Numbers,
+        8 => Fault::Strangers,
+        _ => unreachable!("an answer of number {kind}"),
+    })
+}
+
+fn made(told: Made) -> Result<(), Fault> {
+    done(told.kind, told.line)
+}
+
+/// A policy, timeouts, and session tables that the workers of one filter share. Judging waits for nobody but by trying again.
+/// A worker that is dropped and not joined keeps the tables from being renewed.
+pub struct Worker {
+    handle: Handle,
+    filter: u64,
+    not_sync: PhantomData<Cell<()>>,
+}
+
+unsafe impl Send for Worker {}
+
+impl Drop for Worker {
+    fn drop(&mut self) {
+        if !self.handle.0.is_null() {
+            unsafe { calls::racl_free(&mut self.handle) }
+        }
+    }
+}
+
+impl fmt::Debug for Worker {
+    fn fmt(&self, f: &mut fmt::Formatter<'_>) -> fmt::Result {
+        f.debug_struct("Worker").finish_non_exhaustive()
+    }
+}
+
+impl Worker {
+    /// The answer on a frame that was seen at this interface in this second, by one try.
+    pub fn try_judge(&mut self, interface: u8, second: u32, frame: &[u8]) -> Result<Answer, Contended> {
+        let told = unsafe { calls::racl_judge(&mut self.handle, interface, second, frame.as_ptr(), frame.len()) };
+        if told.kind == CONTENDED { Err(Contended) } else { Ok(Answer(told)) }
+    }
+
+    /// The answer on a frame. It tries again where another worker stood in the way.
+    pub fn judge(&mut self, interface: u8, second: u32, frame: &[u8]) -> Answer {
+        loop {
+            match self.try_judge(interface, second, frame) {
+                Ok(answer) => return answer,
+                Err(Contended) => spin_loop(),
+            }
+        }
+    }
+
+    /// The answers on frames in an area of memory, in their order, one for each descriptor, as far as there are places for them;
+    /// how many.
+    pub fn judge_burst(&mut self, memory: &[u8], frames: &[Descriptor], answers: &mut [Answer]) -> usize {
+        let count = frames.len().min(answers.len());
+        let mut judged = 0;
+        while judged < count {
+            let (rest, places) = (&frames[judged..count], &mut answers[judged..count]);
+            judged += unsafe {
+                calls::racl_judge_burst(
+                    &mut self.handle,
+                    memory.as_ptr(),
+                    memory.len(),
+                    rest.as_ptr(),
+                    rest.len(),
+                    places.as_mut_ptr().cast(),
+                    places.len(),
+                )
+            };
+            if judged < count {
+                spin_loop();
+            }
+        }
+        count
+    }
+
+    /// Judges by the policy of this text from now on; sessions and timeouts stay, and other workers keep their policy.
+    pub fn set_policy(&mut self, text: &[u8]) -> Result<(), Fault> {
+        made(unsafe { calls::racl_set_policy(&mut self.handle, text.as_ptr(), text.len()) })
+    }
+
+    /// Judges by the policy and the timeouts of another worker from now on, of this filter or of another one.
+    pub fn take_policy(&mut self, other: &mut Worker) -> Result<(), Fault> {
+        done(unsafe { calls::racl_take_policy(&mut self.handle, &mut other.handle) }, 0)
+    }
+
+    /// How many frames were given each verdict, those of workers that were joined into this one too.
+    pub fn counts(&mut self) -> Counts {
+        let mut counts = Counts::default();
+        unsafe { calls::racl_counts(&mut self.handle, &mut counts) }
+        counts
+    }
+
+    /// One more worker over the same tables, by the same policy.
+    pub fn split(&mut self) -> Result<Worker, Fault> {
+        let mut fresh = Worker { handle: Handle(null_mut()), filter: self.filter, not_sync: PhantomData };
+        loop {
+            match unsafe { calls::racl_split(&mut self.handle, &mut fresh.handle) } {
+                CONTENDED => spin_loop(),
+                told => return done(told, 0).map(|()| fresh),
+            }
+        }
+    }
+
+    /// Takes a worker of the same filter back. `Err`: it is of another filter.
+    pub fn join(&mut self, mut other: Worker) -> Result<(), Worker> {
+        if other.filter != self.filter {
+            return Err(other);
+        }
+        unsafe { calls::racl_join(&mut self.handle, &mut other.handle) }
+        Ok(())
+    }
+
+    /// One try of a look at a bucket for a session that has ended by this second; whether one went.
+    pub fn try_expire(&mut self, family: Family, bucket: u64, second: u32) -> Result<bool, Contended> {
+        let told = unsafe {
+            match family {
+                Family::V4 => calls::racl_expire_ipv4(&mut self.handle, bucket, second),
+                Family::V6 => calls::racl_expire_ipv6(&mut self.handle, bucket, second),
+            }
+        };
+        if told == CONTENDED { Err(Contended) } else { Ok(told == 9) }
+    }
+
+    /// Sessions of these buckets that have ended by this second go; how many went.
+    pub fn sweep(&mut self, family: Family, buckets: Range<u64>, second: u32) -> u64 {
+        let mut went = 0;
+        for bucket in buckets {
+            loop {
+                match self.try_expire(family, bucket, second) {
+                    Ok(true) => went += 1,
+                    Ok(false) => break,
+                    Err(Contended) => spin_loop(),
+                }
+            }
+        }
+        went
+    }
+}
+
+/// The first worker of new tables.
+#[derive(Debug)]
+pub struct Filter {
+    first: Worker,
+}
+
+impl Filter {
+    /// A filter by the policy of this text. What is told of a text is its first fault.
+    pub fn new(text: &[u8], options: &Options) -> Result<Filter, Fault> {
+        static FILTERS: AtomicU64 = AtomicU64::new(0);
+        let raw = RawOptions {
+            size: size_of::<RawOptions>() as u32,
+            tables: options.tables as u32,
+            established: options.established,
+            transient: options.transient,
+            udp: options.udp,
+        };
+        let filter = FILTERS.fetch_add(1, Ordering::Relaxed);
+        let mut first = Worker { handle: Handle(null_mut()), filter, not_sync: PhantomData };
+        made(unsafe { calls::racl_new(&mut first.handle, text.as_ptr(), text.len(), &raw) })?;
+        Ok(Filter { first })
+    }
+
+    /// The table of a family begins anew with its sessions. Each other worker was joined before.
+    pub fn renew(&mut self, family: Family) -> Result<(), Fault> {
+        let told = unsafe {
+            match family {
+                Family::V4 => calls::racl_renew_ipv4(&mut self.first.handle),
+                Family::V6 => calls::racl_renew_ipv6(&mut self.first.handle),
+            }
+        };
+        done(told, 0)
+    }
+}
+
+impl Deref for Filter {
+    type Target = Worker;
+
+    fn deref(&self) -> &Worker {
+        &self.first
+    }
+}
+
+impl DerefMut for Filter {
+    fn deref_mut(&mut self) -> &mut Worker {
+        &mut self.first
+    }
+}

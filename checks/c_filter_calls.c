@@ -1,0 +1,205 @@
+// Calls each function of include/racl.h: judges that are split, joined, given policies, aged and renewed, and four threads that
+// judge one flow at once. Whenever a call was refused memory, what was there is looked at: nothing may be lost. The call is
+// made once more then. Each refusal is written in a line with the call's name. Ends with 0 where all was done, with 4 where a
+// call was refused twice, and with 1 where anything is wrong. ./c_filter_calls [ROUNDS [large]]
+#include "racl.h"
+#include <pthread.h>
+#include <stdio.h>
+#include <stdlib.h>
+#include <string.h>
+
+enum { THREADS = 4 };
+
+static const char OUTWARD[] = "mac 02:00:00:00:00:01\nout permit+reflect ipv4 any any\nout permit+reflect ipv6 any any\n";
+static const char CLOSED[] = "mac 02:00:00:00:00:01\nin deny ipv4 any any\n";
+static const char WRONG[] = "mac 02:00:00:00:00:01\n\nout permits ipv4 any any\n";
+
+static const uint8_t *const outward = (const uint8_t *)OUTWARD;
+
+static void wrong(const char *what, unsigned long told) {
+    fprintf(stderr, "%s: %lu\n", what, told);
+    exit(1);
+}
+
+static void expect(int holds, const char *what, unsigned long told) {
+    if (!holds) wrong(what, told);
+}
+
+/* A frame of UDP over IPv4 between port `port` of 10.0.0.1 and port 53 of 10.0.0.2. */
+static void set_frame(uint8_t frame[42], int is_outward, uint16_t port) {
+    static const uint8_t own[6] = {2, 0, 0, 0, 0, 1}, peer[6] = {2, 0, 0, 0, 0, 2};
+    static const uint8_t header[20] = {0x45, 0, 0, 28, 0, 0, 0, 0, 64, 17, 0, 0, 10, 0, 0, 1, 10, 0, 0, 2};
+    memset(frame, 0, 42);
+    memcpy(frame, is_outward ? peer : own, 6);
+    memcpy(frame + 6, is_outward ? own : peer, 6);
+    frame[12] = 8;
+    memcpy(frame + 14, header, 20);
+    uint8_t *ports = frame + 34;
+    if (!is_outward) frame[29] = 2, frame[33] = 1, ports += 2;
+    ports[0] = (uint8_t)(port >> 8), ports[1] = (uint8_t)port;
+    frame[is_outward ? 37 : 35] = 53;
+    frame[39] = 8;
+}
+
+static racl_answer judge(racl_handle *handle, int is_outward, uint16_t port, uint32_t second) {
+    uint8_t frame[42];
+    set_frame(frame, is_outward, port);
+    return racl_judge_wait(handle, 0, second, frame, sizeof frame);
+}
+
+/* Four flows have sessions, and all others haven't. */
+static void look(racl_handle *handle) {
+    for (uint16_t port = 1; port <= 4; port++) {
+        racl_answer answer = judge(handle, 0, port, 10);
+        expect(answer.kind == RACL_SESSION && answer.passes == 1 && answer.rule == 0, "a session is lost", answer.kind);
+        expect(answer.direction == RACL_INBOUND, "the way in", answer.direction);
+    }
+    expect(judge(handle, 0, 9, 10).kind == RACL_BY_DEFAULT, "an answer without a session", 9);
+}
+
+// Whether a call was refused memory. The second refusal ends the program.
+static int is_refused(const char *call, uint32_t answer, int *refused) {
+    if (answer != RACL_MEMORY) return 0;
+    printf("%s\n", call);
+    return ++*refused;
+}
+
+struct worker {
+    racl_handle judge;
+    pthread_t thread;
+    long rounds, sessions;
+};
+
+static void *judge_one_flow(void *given) {
+    struct worker *worker = given;
+    uint8_t frames[2][42];
+    set_frame(frames[0], 0, 1), set_frame(frames[1], 1, 1);
+    for (long i = 0; i < worker->rounds; i++) {
+        const uint8_t *frame = frames[i % 2];
+        worker->sessions += racl_judge_wait(&worker->judge, 0, 10, frame, 42).kind == RACL_SESSION;
+    }
+    return NULL;
+}
+
+static void run_threads(racl_handle *first, long rounds) {
+    static struct worker workers[THREADS];
+    for (int i = 0; i < THREADS; i++) {
+        workers[i].rounds = rounds;
+        uint32_t answer = racl_split_wait(first, &workers[i].judge);
+        expect(answer == RACL_DONE, "a split for a thread", answer);
+        expect(!pthread_create(&workers[i].thread, NULL, judge_one_flow, &workers[i]), "a thread", 0);
+    }
+    for (int i = 0; i < THREADS; i++) {
+        pthread_join(workers[i].thread, NULL);
+        expect(workers[i].sessions == rounds, "frames of a live session", (unsigned long)workers[i].sessions);
+        racl_join(first, &workers[i].judge);
+        expect(!workers[i].judge.at, "a joined handle is left", 0);
+    }
+}
+
+/* Descriptors in one area; the last names bytes that aren't there. */
+static void judge_bursts(racl_handle *handle) {
+    uint8_t area[3 * 42];
+    racl_descriptor frames[4] = {{42, 42, 10, 0}, {0, 42, 10, 0}, {84, 42, 10, 3}, {100, 42, 10, 0}};
+    racl_answer answers[5];
+    memset(answers, 0x5a, sizeof answers);
+    set_frame(area, 0, 1), set_frame(area + 42, 1, 2), set_frame(area + 84, 0, 1);
+    racl_judge_burst_wait(handle, area, sizeof area, frames, 4, answers);
+    expect(answers[0].kind == RACL_SESSION && answers[0].direction == RACL_OUTBOUND, "a burst's first", answers[0].kind);
+    expect(answers[1].kind == RACL_SESSION, "a burst's second", answers[1].kind);
+    expect(answers[2].kind == RACL_BY_DEFAULT, "a session of another interface", answers[2].kind);
+    expect(answers[3].kind == RACL_MALFORMED && answers[3].direction == 0, "a frame outside", answers[3].kind);
+    expect(answers[4].kind == 0x5a5a5a5a, "an answer behind a burst", answers[4].kind);
+    expect(racl_judge_burst(handle, area, sizeof area, frames, 4, answers, 2) == 2, "places of answers", 0);
+    expect(racl_judge_burst(handle, area, sizeof area, frames, 0, answers, 4) == 0, "an empty burst", 0);
+}
+
+static void deal_flows(void) {
+    uint8_t out[42], in[42];
+    set_frame(out, 1, 7), set_frame(in, 0, 7);
+    racl_flow one = racl_flow_of(0, out, 42), other = racl_flow_of(0, in, 42), none = racl_flow_of(0, out, 20);
+    expect(one.family == 4 && other.family == 4 && one.hash == other.hash, "both directions' hash", one.family);
+    expect(racl_worker_of(one, 3) == racl_worker_of(other, 3), "both directions' worker", 0);
+    expect(racl_flow_of(1, out, 42).hash != one.hash, "another interface's hash", 1);
+    expect(none.family == 0 && none.hash == 0, "a cut frame's flow", none.family);
+}
+
+/* Sessions of bucket after bucket go once they have ended, and none before. */
+static void age(racl_handle *handle, uint64_t buckets) {
+    expect(racl_sweep_ipv4_wait(handle, 0, buckets, 600) == 0, "a live session went", 0);
+    expect(racl_sweep_ipv6_wait(handle, 0, RACL_LARGE_BUCKETS, 4000) == 0, "a session of IPv6 went", 0);
+    uint64_t went = racl_sweep_ipv4_wait(handle, 0, buckets, 4000);
+    expect(went == 4, "sessions that ended", went);
+    expect(judge(handle, 0, 1, 4000).kind == RACL_BY_DEFAULT, "a session that went", 0);
+    expect(racl_expire_ipv4(handle, buckets, 4000) == RACL_DONE, "a bucket that isn't there", 0);
+}
+
+int main(int count, char **given) {
+    long rounds = count > 1 ? atol(given[1]) : 1000;
+    racl_handle first = RACL_NO_HANDLE, second = RACL_NO_HANDLE, other = RACL_NO_HANDLE;
+    racl_options options = RACL_OPTIONS;
+    racl_made made;
+    uint32_t answer;
+    int refused = 0;
+    if (count > 2) options.tables = RACL_LARGE;
+    while (is_refused("new", (made = racl_new(&first, outward, sizeof OUTWARD - 1, &options)).kind, &refused))
+        if (first.at) wrong("a refused new leaves a handle", 0);
+        else if (refused == 2) return 4;
+    expect(made.kind == RACL_DONE && made.line == 0, "new", made.kind);
+    for (uint16_t port = 1; port <= 4; port++) {
+        racl_answer told = judge(&first, 1, port, 10);
+        expect(told.kind == RACL_REFLECT && told.rule == 1 && told.passes && told.direction == RACL_OUTBOUND, "a new session", told.kind);
+    }
+    look(&first);
+
+    for (refused = 0; is_refused("split", answer = racl_split(&first, &second), &refused);) {
+        if (second.at) wrong("a refused split leaves a handle", 0);
+        look(&first);
+        if (refused == 2) return racl_free(&first), 4;
+    }
+    expect(answer == RACL_DONE, "split", answer);
+    look(&second);
+    expect(racl_renew_ipv4(&first) == RACL_STRANGERS, "renew with a stranger", 0);
+    for (refused = 0; is_refused("set_policy", (made = racl_set_policy(&second, (const uint8_t *)CLOSED, sizeof CLOSED - 1)).kind, &refused);) {
+        expect(judge(&second, 0, 9, 10).kind == RACL_BY_DEFAULT, "a refused policy", 0);
+        if (refused == 2) return racl_free(&second), racl_free(&first), 4;
+    }
+    expect(made.kind == RACL_DONE, "set_policy", made.kind);
+    racl_answer told = judge(&second, 0, 9, 10);
+    expect(told.kind == RACL_DENY && told.rule == 1 && !told.passes, "the new policy", told.kind);
+    expect(judge(&second, 0, 1, 10).kind == RACL_SESSION, "a session under the new policy", 0);
+    expect(judge(&first, 0, 9, 10).kind == RACL_BY_DEFAULT, "the other one's policy", 0);
+    made = racl_set_policy(&second, (const uint8_t *)WRONG, sizeof WRONG - 1);
+    expect(made.kind == RACL_BAD_LINE || made.kind == RACL_MEMORY, "a wrong line", made.kind);
+    expect(made.kind == RACL_MEMORY || made.line == 3, "a wrong line's number", (unsigned long)made.line);
+    expect(judge(&second, 0, 9, 10).kind == RACL_DENY, "a policy behind a wrong one", 0);
+    expect(racl_take_policy(&second, &first) == RACL_DONE, "take_policy", 0);
+    expect(judge(&second, 0, 9, 10).kind == RACL_BY_DEFAULT, "the policy that was taken", 0);
+    racl_join(&first, &second);
+    expect(!second.at, "a joined handle is left", 0);
+    racl_count counts;
+    racl_counts(&first, &counts);
+    expect(counts.reflect == 4 && counts.deny == 2 && counts.permit == 0, "counts", (unsigned long)counts.reflect);
+
+    if (rounds > 0) run_threads(&first, rounds);
+    judge_bursts(&first);
+    deal_flows();
+    for (refused = 0; is_refused("renew", answer = racl_renew_ipv4(&first), &refused);) {
+        look(&first);
+        if (refused == 2) return racl_free(&first), 4;
+    }
+    expect(answer == RACL_DONE, "renew_ipv4", answer);
+    look(&first);
+    for (refused = 0; is_refused("renew", answer = racl_renew_ipv6(&first), &refused);)
+        if (refused == 2) return racl_free(&first), 4;
+    expect(answer == RACL_DONE, "renew_ipv6", answer);
+    look(&first);
+    age(&first, count > 2 ? RACL_LARGE_BUCKETS : RACL_IPV4_BUCKETS);
+    options.udp = 0;
+    expect(racl_new(&other, outward, sizeof OUTWARD - 1, &options).kind == RACL_BAD_OPTIONS && !other.at, "a timeout of 0", 0);
+    options.udp = 600, options.size--;
+    expect(racl_new(&other, outward, sizeof OUTWARD - 1, &options).kind == RACL_BAD_OPTIONS, "another size", 0);
+    racl_free(&first);
+    expect(!first.at, "a handle is left", 0);
+    return 0;
+}

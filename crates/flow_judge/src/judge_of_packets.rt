@@ -1,0 +1,38 @@
+//! Packets judged.
+ghost use Rattle.flow_judge.specs.Judges.{TellsJudged};
+
+use crate::judge::Judge;
+use crate::judged::{Judged, direction_of};
+use bihash_table::Contended;
+use bihash_words::Shape;
+use flow_workers::try_judge_at;
+use packet_view::{Packet, view};
+
+impl<A: Shape, B: Shape> Judge<A, B> {
+    /// The verdict on a frame that was seen at this interface in this second, by one try. `Contended`: another judge's change
+    /// or lock was met.
+    #[inline]
+    pub fn judge(&mut self, interface: u8, moment: u32, frame: &[u8]) -> Result<Judged, Contended>
+        ensures { TellsJudged ⟦<A as Shape>⟧ ⟦<B as Shape>⟧
+            (record { interface = interface; moment = moment; frame = frame.now }) self.old self.new result }
+    {
+        let packet = Packet {
+            interface,
+            moment,
+            frame,
+        };
+        let filter = self.filter.at(interface);
+        let seen = view(frame, interface, filter.own);
+        let tables = self.tables.tables();
+        match try_judge_at(&filter, tables, &mut self.callers, &packet, &seen) {
+            Ok(verdict) => {
+                self.counts.count(verdict);
+                Ok(Judged {
+                    verdict,
+                    direction: direction_of(&seen),
+                })
+            }
+            Err(refused) => Err(refused),
+        }
+    }
+}

@@ -1,0 +1,20 @@
+//! The whole filter as a library: judges of packets, each with callers of its own, over session tables that they share.
+#![tactic(auto)]
+
+mod callers_split_and_joined;
+mod counts;
+mod judge;
+mod judge_aged;
+mod judge_made_and_ruled;
+mod judge_of_packets;
+mod judge_renewed;
+mod judge_taken_apart;
+mod judged;
+mod judges_split_and_joined;
+mod packet_bucket;
+mod tables_share;
+
+pub use counts::Counts;
+pub use judge::Judge;
+pub use judged::Judged;
+pub use packet_bucket::{FlowBucket, flow_bucket};

@@ -1,0 +1,6 @@
+pub mod Answers
+pub mod Bursts
+pub mod Contents
+pub mod FlowHashes
+pub mod Handles
+pub mod Options

@@ -1,0 +1,15 @@
+//! What is behind a handle.
+use bihash_words::{ShapeV4, ShapeV6};
+use flow_judge::Judge;
+use large_shapes::{LargeV4, LargeV6};
+
+/// What is behind a handle.
+#[derive(Drop)]
+pub enum Content {
+    /// Nothing.
+    Empty,
+    /// A judge over standard tables.
+    Standard(Judge<ShapeV4, ShapeV6>),
+    /// A judge over large tables.
+    Large(Judge<LargeV4, LargeV6>),
+}

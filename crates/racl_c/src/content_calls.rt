@@ -1,0 +1,238 @@
+//! The calls on what is behind a handle, answered as C is told.
+ghost use Rattle.std.specs.Prelude.{◌≡◌, ◌≢◌, ◌⊎◌, IfErr, IfOk};
+ghost use Rattle.acl_policy.specs.Policies.{IsPolicyFault};
+ghost use Rattle.acl_policy.specs.declared.policy.PolicyFault.TheVariants.{Memory};
+ghost use Rattle.flow_filter.specs.OneThread.{layout_of};
+ghost use Rattle.racl_c.specs.Bursts.{BurstTold};
+ghost use Rattle.racl_c.specs.Contents.{AgedTold, AreOfOneTable, Calls, CountsTold, HasJudge, IsNewBy, IsRuledAs, JoinTold, JudgeTold, RenewTold, RuleTold, SplitTold, TakeTold};
+
+use crate::answer_numbers::{
+    Answer, DONE, MEMORY, Made, ended_answer, fault_answer, judged_answer, renew_refusal,
+    split_refusal, was_done,
+};
+use crate::burst::{Descriptor, judge_burst};
+use crate::content::Content;
+use crate::options::Choice;
+use acl_policy::PolicyFault;
+use bihash_words::{Shape, ShapeV4, ShapeV6, flow_shapes_are_sound};
+use flow_judge::{Counts, Judge};
+use large_shapes::{LargeV4, LargeV6, large_shapes_are_sound};
+use packet_view::Family;
+use std::alloc::Global;
+use std::mem;
+
+// Gives a judge the policy and timeouts of another one.
+fn take_policy_of<A: Shape, B: Shape>(judge: &mut Judge<A, B>, other: &Content) -> u32
+    requires { HasJudge other.now }
+    ensures { TakeTold other.now result judge.old judge.new }
+{
+    let taken = match other {
+        Content::Empty => unreachable!(),
+        Content::Standard(other) => judge.take_policy(other),
+        Content::Large(other) => judge.take_policy(other),
+    };
+    match taken {
+        Ok(()) => DONE,
+        Err(_) => MEMORY,
+    }
+}
+
+impl Content {
+    /// A judge over new tables of the size that was chosen, by the policy of this text.
+    pub fn new(alloc: Global, text: &[u8], choice: &Choice) -> Result<Content, PolicyFault>
+        ensures made { IfOk result (IsNewBy (layout_of ⟦<ShapeV4 as Shape>⟧ ⟦<ShapeV6 as Shape>⟧)
+            (layout_of ⟦<LargeV4 as Shape>⟧ ⟦<LargeV6 as Shape>⟧) text.now choice.now) }
+        ensures fault { IfErr result (λ fault. fault ≢ Memory → IsPolicyFault text.now fault) }
+    {
+        flow_shapes_are_sound();
+        large_shapes_are_sound();
+        if choice.is_large {
+            return match Judge::new(alloc, text, choice.times) {
+                Ok(judge) => Ok(Content::Large(judge)),
+                Err(fault) => Err(fault),
+            };
+        }
+        match Judge::new(alloc, text, choice.times) {
+            Ok(judge) => Ok(Content::Standard(judge)),
+            Err(fault) => Err(fault),
+        }
+    }
+
+    /// One try of judging a frame.
+    #[inline(always)]
+    pub fn judge(&mut self, interface: u8, moment: u32, frame: &[u8]) -> Answer
+        requires { HasJudge self.old }
+        ensures { Calls self.old self.new
+            (JudgeTold ⟦<ShapeV4 as Shape>⟧ ⟦<ShapeV6 as Shape>⟧
+            (record { interface = interface; moment = moment; frame = frame.now }) result)
+            (JudgeTold ⟦<LargeV4 as Shape>⟧ ⟦<LargeV6 as Shape>⟧
+            (record { interface = interface; moment = moment; frame = frame.now }) result) }
+    {
+        match self {
+            Content::Empty => unreachable!(),
+            Content::Standard(judge) => judged_answer(judge.judge(interface, moment, frame)),
+            Content::Large(judge) => judged_answer(judge.judge(interface, moment, frame)),
+        }
+    }
+
+    /// Judges the frames of a burst in their order, and says how many were answered before one met another judge.
+    pub fn judge_burst(
+        &mut self,
+        memory: &[u8],
+        descriptors: &[Descriptor],
+        answers: &mut [Answer],
+    ) -> usize
+        requires { HasJudge self.old }
+        ensures { Calls self.old self.new
+            (BurstTold ⟦<ShapeV4 as Shape>⟧ ⟦<ShapeV6 as Shape>⟧ memory.now descriptors.now answers.old answers.new result)
+            (BurstTold ⟦<LargeV4 as Shape>⟧ ⟦<LargeV6 as Shape>⟧ memory.now descriptors.now answers.old answers.new result) }
+    {
+        match self {
+            Content::Empty => unreachable!(),
+            Content::Standard(judge) => judge_burst(judge, memory, descriptors, answers),
+            Content::Large(judge) => judge_burst(judge, memory, descriptors, answers),
+        }
+    }
+
+    /// Judges by the policy of this text from now on.
+    pub fn set_policy(&mut self, alloc: Global, text: &[u8]) -> Made
+        requires { HasJudge self.old }
+        ensures { Calls self.old self.new (RuleTold text.now result) (RuleTold text.now result) }
+    {
+        let set = match self {
+            Content::Empty => unreachable!(),
+            Content::Standard(judge) => judge.set_policy(alloc, text),
+            Content::Large(judge) => judge.set_policy(alloc, text),
+        };
+        match set {
+            Ok(()) => was_done(),
+            Err(fault) => fault_answer(fault),
+        }
+    }
+
+    /// Judges by the policy and timeouts of another judge from now on.
+    pub fn take_policy(&mut self, other: &Content) -> u32
+        requires judge { HasJudge self.old }
+        requires other { HasJudge other.now }
+        ensures { Calls self.old self.new (TakeTold other.now result) (TakeTold other.now result) }
+    {
+        match self {
+            Content::Empty => unreachable!(),
+            Content::Standard(judge) => take_policy_of(judge, other),
+            Content::Large(judge) => take_policy_of(judge, other),
+        }
+    }
+
+    /// How many frames were given each kind of verdict.
+    pub fn counts(&self) -> Counts
+        requires { HasJudge self.now }
+        ensures { CountsTold self.now result }
+    {
+        match self {
+            Content::Empty => unreachable!(),
+            Content::Standard(judge) => judge.counts(),
+            Content::Large(judge) => judge.counts(),
+        }
+    }
+
+    /// One try of a look at a bucket of this family for a session that has ended.
+    pub fn expire(&mut self, family: Family, bucket: u64, moment: u32) -> u32
+        requires { HasJudge self.old }
+        ensures { Calls self.old self.new
+            (AgedTold ⟦<ShapeV4 as Shape>⟧ ⟦<ShapeV6 as Shape>⟧ family bucket moment result)
+            (AgedTold ⟦<LargeV4 as Shape>⟧ ⟦<LargeV6 as Shape>⟧ family bucket moment result) }
+    {
+        match self {
+            Content::Empty => unreachable!(),
+            Content::Standard(judge) => ended_answer(judge.expire(family, bucket, moment)),
+            Content::Large(judge) => ended_answer(judge.expire(family, bucket, moment)),
+        }
+    }
+
+    /// Splits the judge: the new one is at `new`, which is left as it is where that is refused.
+    pub fn split(&mut self, alloc: Global, new: &mut Content) -> u32
+        requires { HasJudge self.old }
+        ensures { SplitTold (layout_of ⟦<ShapeV4 as Shape>⟧ ⟦<ShapeV6 as Shape>⟧)
+            (layout_of ⟦<LargeV4 as Shape>⟧ ⟦<LargeV6 as Shape>⟧) self.old self.new new.old new.new result }
+    {
+        match mem::replace(self, Content::Empty) {
+            Content::Empty => unreachable!(),
+            Content::Standard(judge) => match judge.split(alloc) {
+                Ok((first, second)) => {
+                    *self = Content::Standard(first);
+                    *new = Content::Standard(second);
+                    DONE
+                }
+                Err((fault, judge)) => {
+                    *self = Content::Standard(judge);
+                    split_refusal(fault)
+                }
+            },
+            Content::Large(judge) => match judge.split(alloc) {
+                Ok((first, second)) => {
+                    *self = Content::Large(first);
+                    *new = Content::Large(second);
+                    DONE
+                }
+                Err((fault, judge)) => {
+                    *self = Content::Large(judge);
+                    split_refusal(fault)
+                }
+            },
+        }
+    }
+
+    /// Gives the judge the callers of another one over the same tables.
+    pub fn join(&mut self, other: Content)
+        requires { AreOfOneTable self.old other }
+        ensures { JoinTold (layout_of ⟦<ShapeV4 as Shape>⟧ ⟦<ShapeV6 as Shape>⟧)
+            (layout_of ⟦<LargeV4 as Shape>⟧ ⟦<LargeV6 as Shape>⟧) self.old other self.new }
+    {
+        match mem::replace(self, Content::Empty) {
+            Content::Empty => unreachable!(),
+            Content::Standard(judge) => {
+                let Content::Standard(other) = other else {
+                    unreachable!();
+                };
+                *self = Content::Standard(judge.join(other));
+            }
+            Content::Large(judge) => {
+                let Content::Large(other) = other else {
+                    unreachable!();
+                };
+                *self = Content::Large(judge.join(other));
+            }
+        }
+    }
+
+    /// Opens the table of this family again.
+    pub fn renew(&mut self, alloc: Global, family: Family) -> u32
+        requires { HasJudge self.old }
+        ensures { Calls self.old self.new (RenewTold ⟦<ShapeV4 as Shape>⟧ ⟦<ShapeV6 as Shape>⟧ family result)
+            (RenewTold ⟦<LargeV4 as Shape>⟧ ⟦<LargeV6 as Shape>⟧ family result) }
+    {
+        match mem::replace(self, Content::Empty) {
+            Content::Empty => unreachable!(),
+            Content::Standard(judge) => match judge.renew(alloc, family) {
+                Ok(judge) => {
+                    *self = Content::Standard(judge);
+                    DONE
+                }
+                Err((fault, judge)) => {
+                    *self = Content::Standard(judge);
+                    renew_refusal(fault)
+                }
+            },
+            Content::Large(judge) => match judge.renew(alloc, family) {
+                Ok(judge) => {
+                    *self = Content::Large(judge);
+                    DONE
+                }
+                Err((fault, judge)) => {
+                    *self = Content::Large(judge);
+                    renew_refusal(fault)
+                }
+            },
+        }
+    }
+}

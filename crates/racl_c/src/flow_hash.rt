@@ -1,0 +1,41 @@
+//! By what the frames of a flow are dealt.
+ghost use Rattle.packet_view.specs.Frames.{FrameFacts, IsFrame};
+ghost use Rattle.packet_view.specs.declared.tuple.Mac.{Mac};
+ghost use Rattle.std.specs.Prelude.{Option};
+ghost use Rattle.flow_filter.specs.OneThread.{layout_of};
+ghost use Rattle.packet_dealing.specs.Dealings.{flow_of_frame};
+ghost use Rattle.racl_c.specs.FlowHashes.{IsFlowTold};
+
+use bihash_words::{Shape, ShapeV4, ShapeV6, flow_shapes_are_sound};
+use flow_judge::flow_bucket;
+use large_shapes::{LargeV4, LargeV6};
+use packet_view::Family;
+
+/// The family of a frame's flow, 4 or 6, and the hash of the flow's key; both are 0 where the frame takes no part in sessions.
+#[repr(C)]
+#[derive(Clone, Copy, Debug, PartialEq, Eq)]
+pub struct Flow {
+    pub family: u32,
+    pub hash: u64,
+}
+
+/// By what a frame's flow is dealt that was seen at this interface.
+#[unsafe(no_mangle)]
+pub extern "C" fn racl_flow_of(interface: u8, frame: &[u8]) -> Flow
+    ensures standard { (own : Option Mac) (seen : FrameFacts) → IsFrame frame.now (record { number = interface; own = own }) seen
+        → IsFlowTold (layout_of ⟦<ShapeV4 as Shape>⟧ ⟦<ShapeV6 as Shape>⟧) (flow_of_frame seen) result }
+    ensures large { (own : Option Mac) (seen : FrameFacts) → IsFrame frame.now (record { number = interface; own = own }) seen
+        → IsFlowTold (layout_of ⟦<LargeV4 as Shape>⟧ ⟦<LargeV6 as Shape>⟧) (flow_of_frame seen) result }
+{
+    flow_shapes_are_sound();
+    match flow_bucket::<ShapeV4, ShapeV6>(interface, frame) {
+        Some(found) => Flow {
+            family: match found.family {
+                Family::V4 => 4,
+                Family::V6 => 6,
+            },
+            hash: found.hash,
+        },
+        None => Flow { family: 0, hash: 0 },
+    }
+}

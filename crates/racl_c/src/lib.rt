@@ -1,0 +1,25 @@
+//! The packet filter for programs in C: a handle is a judge of packets together with its rules and its session tables.
+#![tactic(auto)]
+
+mod answer_numbers;
+mod box_raw_parts;
+mod burst;
+mod content;
+mod content_calls;
+mod flow_hash;
+mod handle;
+mod handle_is_send;
+mod options;
+mod place;
+mod racl_calls;
+
+pub use answer_numbers::{
+    Answer, BAD_LINE, BAD_OPTIONS, BY_DEFAULT, CONTENDED, DENY, DONE, ENDED, FULL, MALFORMED,
+    MEMORY, Made, NO_PAGES, NOT_IP, NOT_UTF8, NUMBERS, PERMIT, REFLECT, SESSION, SHORT, STRANGERS,
+    TOO_MANY, WORN,
+};
+pub use burst::Descriptor;
+pub use flow_hash::Flow;
+pub use handle::Handle;
+pub use handle_is_send::handle_crosses;
+pub use options::Options;

@@ -1,0 +1,45 @@
+//! What C asks for when a judge is made.
+ghost use Rattle.std.specs.Prelude.{◌≡◌};
+ghost use Rattle.racl_c.specs.Options.{ChoiceTold};
+
+use session_state::Timeouts;
+
+/// What a judge is made with. Seconds are how long sessions outlive their last packet.
+#[repr(C)]
+#[derive(Clone, Copy)]
+pub struct Options {
+    /// How many bytes this has.
+    pub size: u32,
+    /// 0 for tables of the usual size, 1 for large ones.
+    pub tables: u32,
+    pub established: u32,
+    pub transient: u32,
+    pub udp: u32,
+}
+
+/// What was asked for, where it is right.
+#[derive(Clone, Copy)]
+pub struct Choice {
+    pub is_large: bool,
+    pub times: Timeouts,
+}
+
+/// What was asked for. `None`: another size or other tables, or a timeout of 0.
+pub fn choice_of(options: &Options) -> Option<Choice>
+    ensures { ChoiceTold options.now result }
+{
+    if options.size != 20 || options.tables > 1 {
+        return None;
+    }
+    if options.established == 0 || options.transient == 0 || options.udp == 0 {
+        return None;
+    }
+    Some(Choice {
+        is_large: options.tables == 1,
+        times: Timeouts {
+            established: options.established,
+            transient: options.transient,
+            udp: options.udp,
+        },
+    })
+}

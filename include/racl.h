@@ -1,0 +1,272 @@
+/* The packet filter of `racl` in other programs: a frame is handed over, and whether it passes is answered. Link libracl_c.a,
+   behind it liblibc_c.a (the toolchain's three functions over malloc), and the C library. It needs C11, or C++.
+
+   A judge is a policy, timeouts, and session tables of IPv4 and IPv6. racl_new makes the first, racl_split one for each
+   other thread over the same tables, racl_join takes one back: keep it for the next thread, since tables give 65,535
+   numbers to judges and none twice. A session that one judge enters lets the frames through that another one is given.
+   Each judge has a policy of its own, which is that of the judge it was split of until it is replaced.
+
+   Any judge may judge any flow. Where another one stood in the way of a session's change, the answer is RACL_CONTENDED and
+   nothing was done: try again, as the functions at the end of this page do. Frames of one flow that two threads hand over at
+   once may be taken in either order; where that matters, deal them by racl_worker_of, the same for both directions.
+
+   Each call on a frame is what the program's own contract says of a packet: by the policy of the judge and the section of the
+   interface, and with at most one update of a session. That is proved of what the calls do; what C owes is said here alone,
+   since no compiler checks it:
+   - A handle is what the last call left there. It is never copied, written or read by others, and each call has it for
+     itself: two threads never give one handle to calls at the same time. One that goes to another thread goes by the start or
+     the end of a thread, a lock, or a sequentially consistent atomic.
+   - A handle that is given has a judge: it was made by racl_new or racl_split, and has not been joined or freed since. A call
+     that takes two handles is given two different ones; racl_join, two over the same tables.
+   - Pointers are never null, those to a frame or a text of 0 bytes included, and what they point to is there in its whole
+     length; no other thread changes it during the call.
+   - malloc, realloc and free are those of one allocator, and no call is made from a signal handler or in the forked child of a
+     process with threads.
+   No call keeps a pointer that it was given, waits for another thread, or makes one. Only racl_new, racl_set_policy, racl_split
+   and the renewals ask for memory; judging does not. Where memory is refused nothing is lost. */
+#ifndef RACL_H
+#define RACL_H
+
+#include <stddef.h>
+#include <stdint.h>
+
+#ifdef __cplusplus
+extern "C" {
+#endif
+
+/* A judge, or nothing. */
+typedef struct racl_handle {
+  void *at;
+} racl_handle;
+
+/* A handle with nothing behind it. */
+#define RACL_NO_HANDLE {0}
+
+enum racl_kind {
+  /* Of calls on judges */
+  RACL_DONE = 0,        /* it was done; of a bucket: no session in it has ended */
+  RACL_MEMORY = 1,      /* nothing was done: memory was refused */
+  RACL_NOT_UTF8 = 2,    /* nothing was done: the policy isn't UTF-8 */
+  RACL_BAD_LINE = 3,    /* nothing was done: the policy's line `line` is wrong */
+  RACL_TOO_MANY = 4,    /* nothing was done: the policy's line `line` is one rule too many */
+  RACL_BAD_OPTIONS = 5, /* nothing was done: options of another size or with other tables, or a timeout of 0 */
+  RACL_NUMBERS = 6,     /* nothing was done: the tables had 65,535 judges, and can have no more */
+  RACL_CONTENDED = 7,   /* nothing was done: another judge stood in the way; try again */
+  RACL_STRANGERS = 8,   /* nothing was done: another judge over the tables is left */
+  RACL_ENDED = 9,       /* of a bucket: a session that had ended went */
+
+  /* Of frames: what becomes of them */
+  RACL_SESSION = 16,    /* passes: a live session lets it through */
+  RACL_REFLECT = 17,    /* passes: rule `rule` lets it through, and a session was entered */
+  RACL_PERMIT = 18,     /* passes: rule `rule` lets it through */
+  RACL_DENY = 19,       /* is dropped: rule `rule` denies it */
+  RACL_BY_DEFAULT = 20, /* is dropped: no rule matches */
+  RACL_WORN = 21,       /* is dropped: its session's bucket was changed 2^33 - 1 times and waits for a renewal */
+  RACL_FULL = 22,       /* is dropped: its session's bucket has 256 sessions, all of them live */
+  RACL_NO_PAGES = 23,   /* is dropped: its session needs a block of pages that isn't there */
+  RACL_NOT_IP = 24,     /* passes: the frame carries no IP packet */
+  RACL_MALFORMED = 25,  /* is dropped: the frame breaks the form of its headers */
+  RACL_SHORT = 26       /* is dropped: the packet ends within its transport header */
+};
+
+enum racl_direction {
+  RACL_NO_DIRECTION = 0, /* the frame shows no packet */
+  RACL_INBOUND = 1,
+  RACL_OUTBOUND = 2 /* the frame comes from the interface's own address */
+};
+
+enum racl_tables {
+  RACL_STANDARD = 0, /* 65,536 places for sessions of IPv4, 16,384 of IPv6, and some 3 MB */
+  RACL_LARGE = 1     /* 1,048,576 places for each, and some 85 MB */
+};
+
+/* What a judge is made with. `size` is how many bytes this has. The seconds are how long sessions outlive their last packet:
+   of TCP where exactly SYN and ACK were seen of both sides, of other TCP, and of UDP and echoes; each is at least 1. */
+typedef struct racl_options {
+  uint32_t size;
+  uint32_t tables; /* an enum racl_tables */
+  uint32_t established;
+  uint32_t transient;
+  uint32_t udp;
+} racl_options;
+
+/* Those that `racl` takes where its words name no others. */
+#define RACL_OPTIONS {sizeof(racl_options), RACL_STANDARD, 86400, 120, 600}
+
+/* What became of a judge that was to be made or given a policy. `line` counts from 1, and is 0 where no line is meant. */
+typedef struct racl_made {
+  uint32_t kind; /* an enum racl_kind */
+  uint64_t line;
+} racl_made;
+
+/* The answer on a frame. `rule` counts from 1 among the rules of the packet's direction in its interface's section, and is 0
+   where no rule decided. `passes` is 1 or 0; where the kind is CONTENDED it is 0 and says nothing. */
+typedef struct racl_answer {
+  uint32_t kind; /* an enum racl_kind */
+  uint32_t rule;
+  uint32_t passes;
+  uint32_t direction; /* an enum racl_direction */
+} racl_answer;
+
+/* A frame in an area of memory: its bytes from `at` on. Where they don't all lie in the area it counts as one of no bytes,
+   which is malformed. */
+typedef struct racl_descriptor {
+  uint64_t at;
+  uint32_t length;
+  uint32_t second;
+  uint8_t interface;
+} racl_descriptor;
+
+/* The family of a frame's flow, 4 or 6, and the hash of the flow's key, the same for both directions at one interface. Both
+   are 0 where the frame takes no part in sessions. */
+typedef struct racl_flow {
+  uint32_t family;
+  uint64_t hash;
+} racl_flow;
+
+/* How many frames a judge gave each verdict, those of judges that were joined into it too. RACL_CONTENDED isn't counted. */
+typedef struct racl_count {
+  uint64_t session;
+  uint64_t reflect;
+  uint64_t permit;
+  uint64_t deny;
+  uint64_t by_default;
+  uint64_t worn;
+  uint64_t full;
+  uint64_t no_pages;
+  uint64_t not_ip;
+  uint64_t malformed;
+  uint64_t cut_short;
+} racl_count;
+
+/* ---- Judges ---- */
+
+/* A judge at `handle` by the policy of this text of `length` bytes (docs/FORMATS.md), over new tables. What the handle had,
+   if anything, is not freed. DONE, or BAD_OPTIONS, MEMORY, NOT_UTF8, BAD_LINE or TOO_MANY, which leave the handle as it was.
+   What is told of a text is its first fault. */
+racl_made racl_new(racl_handle *handle, const uint8_t *text, size_t length, const racl_options *options);
+
+/* A new judge over the same tables by the same policy, at `fresh`, in the same way; it counted no frame. DONE, or MEMORY,
+   NUMBERS or CONTENDED, which leave `fresh` as it was. A split that was CONTENDED may have used up a number. */
+uint32_t racl_split(racl_handle *handle, racl_handle *fresh);
+
+/* Ends the judge `other`, and leaves nothing behind its handle. */
+void racl_join(racl_handle *handle, racl_handle *other);
+
+/* Lets go of a judge, and leaves nothing behind its handle. The tables go with their last judge. One that is freed and not
+   joined is a stranger from then on: its tables can't be renewed. */
+void racl_free(racl_handle *handle);
+
+/* ---- Policies: sessions and what was counted stay, and a live session lets frames through whatever the new policy says.
+   Other judges over the same tables keep theirs. Who wants sessions gone makes a judge over new tables ---- */
+
+/* Judges by the policy of this text from now on, with the same timeouts. DONE, or MEMORY, NOT_UTF8, BAD_LINE or TOO_MANY, and
+   then the policy stays. */
+racl_made racl_set_policy(racl_handle *handle, const uint8_t *text, size_t length);
+
+/* Judges by the policy and the timeouts of `other` from now on, of which it reads nothing anew, whatever tables `other` has.
+   DONE; MEMORY where more judges than the memory could have share the policy, and then the policy stays. */
+uint32_t racl_take_policy(racl_handle *handle, racl_handle *other);
+
+/* ---- Frames: from their Ethernet addresses on and without their checksum; seconds count from whenever the caller likes,
+   and are the same for all judges over the same tables ---- */
+
+/* One try of judging a frame of `length` bytes that was seen at the interface with this number in this second. It is never
+   CONTENDED where the judge's tables are new and it was not split, nor where the frame takes no part in sessions. */
+racl_answer racl_judge(racl_handle *handle, uint8_t interface, uint32_t second, const uint8_t *frame, size_t length);
+
+/* Judges the frames that `count` descriptors name in an area of `length` bytes, in their order, and answers each at its place
+   among `room` answers. It ends before the first frame that is answered CONTENDED, and says how many were judged: that
+   frame's answer says so, and answers behind it are as they were. */
+size_t racl_judge_burst(racl_handle *handle, const uint8_t *memory, size_t length, const racl_descriptor *descriptors,
+                        size_t count, racl_answer *answers, size_t room);
+
+/* By what a frame's flow is dealt that is seen at this interface. */
+racl_flow racl_flow_of(uint8_t interface, const uint8_t *frame, size_t length);
+
+/* How many frames the judge gave each verdict. */
+void racl_counts(racl_handle *handle, racl_count *counts);
+
+/* ---- Sessions that have ended hold their places until another takes them, or someone looks at their buckets, of which
+   tables have so many. Any judge may, at any time ---- */
+
+#define RACL_IPV4_BUCKETS 4096
+#define RACL_IPV6_BUCKETS 1024
+#define RACL_LARGE_BUCKETS 65536
+
+/* One try of a look at a bucket for a session that has ended by this second by the judge's timeouts. ENDED: one went. DONE: none
+   has, or the tables have no such bucket. WORN: one has, and the bucket takes no more changes. CONTENDED. */
+uint32_t racl_expire_ipv4(racl_handle *handle, uint64_t bucket, uint32_t second);
+uint32_t racl_expire_ipv6(racl_handle *handle, uint64_t bucket, uint32_t second);
+
+/* Opens the table of a family again: its sessions stay, and no bucket is worn. Each other judge over the tables was joined
+   before. DONE, or STRANGERS or MEMORY. It asks for three times the table's memory. */
+uint32_t racl_renew_ipv4(racl_handle *handle);
+uint32_t racl_renew_ipv6(racl_handle *handle);
+
+/* ---- Tries until one is answered ---- */
+
+/* A pause between two tries. */
+static inline void racl_pause(void) {
+#if defined(__x86_64__)
+  __builtin_ia32_pause();
+#endif
+}
+
+static inline racl_answer racl_judge_wait(racl_handle *handle, uint8_t interface, uint32_t second, const uint8_t *frame,
+                                          size_t length) {
+  racl_answer answer = racl_judge(handle, interface, second, frame, length);
+  while (answer.kind == RACL_CONTENDED) {
+    racl_pause();
+    answer = racl_judge(handle, interface, second, frame, length);
+  }
+  return answer;
+}
+
+static inline void racl_judge_burst_wait(racl_handle *handle, const uint8_t *memory, size_t length,
+                                         const racl_descriptor *descriptors, size_t count, racl_answer *answers) {
+  size_t done = racl_judge_burst(handle, memory, length, descriptors, count, answers, count);
+  while (done < count) {
+    racl_pause();
+    done += racl_judge_burst(handle, memory, length, descriptors + done, count - done, answers + done, count - done);
+  }
+}
+
+static inline uint32_t racl_split_wait(racl_handle *handle, racl_handle *fresh) {
+  uint32_t answer = racl_split(handle, fresh);
+  while (answer == RACL_CONTENDED) {
+    racl_pause();
+    answer = racl_split(handle, fresh);
+  }
+  return answer;
+}
+
+#define RACL_SWEEPING(FAMILY)                                                                                          \
+  /* Sessions of the buckets from `from` to before `to` that have ended by this second go; how many went. */           \
+  static inline uint64_t racl_sweep_##FAMILY##_wait(racl_handle *handle, uint64_t from, uint64_t to, uint32_t second) { \
+    uint64_t went = 0;                                                                                                 \
+    while (from < to) {                                                                                                \
+      uint32_t answer = racl_expire_##FAMILY(handle, from, second);                                                    \
+      if (answer == RACL_CONTENDED) racl_pause();                                                                      \
+      else if (answer == RACL_ENDED) went++;                                                                           \
+      else from++;                                                                                                     \
+    }                                                                                                                  \
+    return went;                                                                                                       \
+  }
+
+RACL_SWEEPING(ipv4)
+RACL_SWEEPING(ipv6)
+
+#undef RACL_SWEEPING
+
+/* The bucket of a flow in tables of which its family has so many buckets. */
+static inline uint64_t racl_bucket_of(racl_flow flow, uint64_t buckets) { return flow.hash % buckets; }
+
+/* Of so many workers, from 0 on, the one to which a flow's frames are dealt; worker 0 gets those of no flow. */
+static inline uint32_t racl_worker_of(racl_flow flow, uint32_t workers) { return (uint32_t)(flow.hash % workers); }
+
+#ifdef __cplusplus
+}
+#endif
+
+#endif
