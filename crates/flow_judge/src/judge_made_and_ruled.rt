@@ -12,7 +12,7 @@ use crate::tables_share::TablesShare;
 use acl_policy::{PolicyFault, read_policy};
 use bihash_words::Shape;
 use flow_filter::{Filter, PreparedFilter};
-use flow_workers::create_tables;
+use flow_workers::create_cutting_tables;
 use session_state::Timeouts;
 use std::alloc::{AllocError, Global};
 use std::sync::Arc;
@@ -31,7 +31,7 @@ impl<A: Shape, B: Shape> Judge<A, B> {
         let Ok(filter) = Arc::new(alloc, filter) else {
             return Err(PolicyFault::Memory);
         };
-        let Ok((tables, callers)) = create_tables(alloc) else {
+        let Ok((tables, callers)) = create_cutting_tables(alloc) else {
             return Err(PolicyFault::Memory);
         };
         Ok(Judge {
