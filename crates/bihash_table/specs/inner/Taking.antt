@@ -87,7 +87,7 @@ pub record MayTake (z : Sizes) (row : _) (s : CallerState) (log2 : ℕ) : Type 0
   pub store : (n : LockedStore) × HasStore z s.view n
   pub small : log2 ≤ z.max_log2
 
--- a block was taken, or pages are wanting, though larger blocks might be cut, and nothing changed
+-- a block was taken, or pages are wanting and nothing changed; where larger blocks are cut, none was returned then
 pub record TellsTake (z : Sizes) (cuts : Bool) (s t : CallerState) (log2 : ℕ) (r : Result ℕ ℕ) : Type 0 where
   pub same : t ≡ with_view s t.view
   pub taken : IfOk r (λ page. (n : LockedStore) → HasStore z s.view n → TakesPages z cuts s.view n.store page log2 t.view)
