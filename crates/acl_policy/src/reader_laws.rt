@@ -1,5 +1,4 @@
-//! What readers of lines answer is what the grammar says. The functions do nothing: their
-//! contracts are the laws.
+//! What readers of lines answer is what the grammar says. The functions do nothing: their contracts are the laws.
 ghost use Rattle.std.specs.Prelude.{◌≡◌, ◌↔◌, ◌++◌, ◌∷◌, [], ℕ, List, Ok, Err};
 ghost use Rattle.packet_view.specs.declared.tuple.Direction.{Direction};
 ghost use Rattle.packet_view.specs.declared.tuple.Family.{Family};
@@ -11,8 +10,8 @@ ghost use Rattle.acl_policy.specs.Policies.{IsSurplus, IsWrong, PolicyFacts, Say
 ghost use Rattle.acl_policy.specs.inner.Reading.Lines.{action_in, direction_in, family_in, interface_in, line_in};
 ghost use Rattle.acl_policy.specs.inner.Reading.Policies.{DraftFacts, line_added, policy_so_far};
 
-/// Each reader answers a value exactly where the grammar relates it to the word or the line: those of
-/// `direction_of_word`, `action_of_word`, `family_of_word`, `interface_of_word` and `line_of`.
+/// What `direction_of_word`, `action_of_word`, `family_of_word`, `interface_of_word` and `line_of` answer by their
+/// contracts is a value exactly where the grammar relates that value to the word or the line.
 pub fn lines_are_read_as_the_grammar_says()
     ensures direction { IsReaderOf (λ (word : List ℕ) (direction : Direction). word ≡ direction_word direction) direction_in }
     ensures action { IsReaderOf (λ (word : List ℕ) (action : Action). word ≡ action_word action) action_in }
@@ -21,8 +20,8 @@ pub fn lines_are_read_as_the_grammar_says()
     ensures line { IsReaderOf IsLine line_in }
 {}
 
-/// The policy with which `empty_draft` begins is what no line says, and `read_policy_line` adds to what some lines say
-/// what they say with that line, or finds it at fault, as the grammar has it.
+/// `empty_draft` is the policy that no line says. Of the policy that some lines say `read_policy_line` makes the policy
+/// that these and one line more say, or finds this line at fault, both exactly where the grammar has it so.
 pub fn policies_grow_as_the_grammar_says()
     ensures begins { SayPolicy [] (policy_so_far (record { done = []; current = empty_section 0 })) }
     ensures adds { (number : ℕ) (texts : List (List ℕ)) (line : List ℕ) (draft : DraftFacts) (policy : PolicyFacts)

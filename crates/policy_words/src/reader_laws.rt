@@ -1,5 +1,4 @@
-//! What readers of words answer is what the grammar says. The functions do nothing: their
-//! contracts are the laws.
+//! What readers of words answer is what the grammar says. The functions do nothing: their contracts are the laws.
 ghost use Rattle.std.specs.Prelude.{ℕ};
 ghost use Rattle.packet_view.specs.declared.tuple.Family.{Family};
 ghost use Rattle.policy_words.specs.Numerals.{IsNumber, IsOctet};
@@ -11,9 +10,8 @@ ghost use Rattle.policy_words.specs.inner.Reading.Numerals.{cut_in, number_in, o
 ghost use Rattle.policy_words.specs.inner.Reading.Prefixes.{address_in, mac_in, prefix_in};
 ghost use Rattle.policy_words.specs.inner.Reading.Traffic.{flags_in, number_up_to_in, protocol_in, range_in, traffic_in};
 
-/// Each reader answers a value exactly where the grammar relates it to the word, or to the words, and nothing where
-/// there is none: those of `number_of`, `number_up_to`, `octet_of`, `address_of`, `prefix_of`, `mac_of`, `cut_at` and
-/// `next_word`.
+/// What `number_of`, `number_up_to`, `octet_of`, `address_of`, `prefix_of`, `mac_of`, `cut_at` and `next_word` answer by
+/// their contracts is a value exactly where the grammar relates that value to the words.
 pub fn words_are_read_as_the_grammar_says()
     ensures number { IsReaderOf IsNumber number_in }
     ensures number_up_to { (most : ℕ) → IsReaderOf (IsNumberUpTo most) (number_up_to_in most) }
@@ -25,7 +23,7 @@ pub fn words_are_read_as_the_grammar_says()
     ensures next { IsReaderOf IsNext next_in }
 {}
 
-/// So do those of what follows a rule's prefixes: `protocol_of`, `range_of`, `flags_of_word` and `traffic_of`.
+/// The same of the readers of what follows a rule's prefixes: `protocol_of`, `range_of`, `flags_of_word` and `traffic_of`.
 pub fn traffic_is_read_as_the_grammar_says()
     ensures protocol { (family : Family) → IsReaderOf (IsProtocol family) (protocol_in family) }
     ensures range { (most : ℕ) → IsReaderOf (IsRange most) (range_in most) }
