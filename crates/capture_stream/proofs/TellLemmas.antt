@@ -19,9 +19,9 @@ use Rattle.session_state.specs.declared.verdict.Verdict.{Verdict}
 use Rattle.racl_io.specs.declared.fault.Fault.{Fault}
 use Rattle.racl_io.specs.declared.fault.Fault.TheVariants as fault
 use Rattle.racl_io.specs.declared.totals_and_truncation.Totals.{Totals}
-use Rattle.racl_io.specs.Reports.{is_truncated, lines_from, passed, report_of, totals_line, totals_of, truncation_line}
+use Rattle.racl_io.specs.Reports.{is_truncated, lines_from, passed, report_of, totals_line, totals_of, truncation_line, without_pages}
 use Rattle.racl_io.specs.Sinks.{GotFront, HasPutFront}
-use Rattle.racl_io.proofs.ReportLemmas.{cut_at, lines_of_both, passed_of_both, totals_counted}
+use Rattle.racl_io.proofs.ReportLemmas.{cut_at, lines_of_both, passed_of_both, totals_counted, without_pages_of_both}
 use Rattle.capture_stream.specs.Lives.{HasToldAll, HasToldPart, HasToldSome, IsLiveFault, most_live, told_alone}
 use Rattle.capture_stream.specs.Telling.{AreTold, CanTell, HaveTold}
 use Rattle.capture_stream.specs.declared.live_telling.Live.{Live}
@@ -60,15 +60,17 @@ module _ {J : Type 0} (Became : J → List PacketFacts → List Verdict → J �
   pub window_judged : (Judged : J → List PacketFacts → List Verdict → Type 0) (found : Found) (new : Live J) (verdicts : List Verdict)
       → HaveFound live.order live.window.items found → new.window.items ≡ behind_of live.window.items found
       → HaveTold Became Judged live.judges (packets_at 0 (records_from live.order found.count live.window.items)) verdicts new.judges
-      → new.packets ≡ live.packets + found.count → new.passed ≡ live.passed → new.read ≡ live.read → new.order ≡ live.order
+      → new.packets ≡ live.packets + found.count → new.passed ≡ live.passed → new.without_pages ≡ live.without_pages
+      → new.read ≡ live.read → new.order ≡ live.order
       → HasJudgedWindow Became Judged live new verdicts found.stop
-  window_judged Judged found new verdicts have behind judged count passing read same = record {
+  window_judged Judged found new verdicts have behind judged count passing lacking read same = record {
     more = records_from live.order found.count live.window.items;
     records = subst (AreRecords live.order live.window.items (records_from live.order found.count live.window.items)) (sym behind) have.records;
     stops = subst (λ (b : List ℕ). Stops live.order b found.stop) (sym behind) have.stop;
     judged = judged;
     count = let many = packets_count live.order found.count live.window.items in omega arith;
     passed = passing;
+    lacking = lacking;
     read = read;
     order = same;
   }
@@ -79,20 +81,21 @@ cut : (n : ℕ) (truncated : Bool) → truncated ≡ is_truncated (told_alone n 
 cut n true = refl
 cut n false = refl
 
-pub totals_alone : (verdicts : List Verdict) (n passing : ℕ) (truncated : Bool) → length verdicts ≡ n → passing ≡ passed verdicts
-    → totals_with n passing truncated ≡ totals_of verdicts (told_alone n truncated)
-totals_alone verdicts n passing truncated count passes =
-    ap (λ m. totals_with m passing truncated) (sym count)
-    ∙ totals_counted passing verdicts (told_alone n truncated) truncated passes (cut n truncated)
+pub totals_alone : (verdicts : List Verdict) (n passing lacking : ℕ) (truncated : Bool) → length verdicts ≡ n → passing ≡ passed verdicts
+    → lacking ≡ without_pages verdicts → totals_with n passing lacking truncated ≡ totals_of verdicts (told_alone n truncated)
+totals_alone verdicts n passing lacking truncated count passes lack =
+    ap (λ m. totals_with m passing lacking truncated) (sym count)
+    ∙ totals_counted passing lacking verdicts (told_alone n truncated) truncated passes lack (cut n truncated)
 
 -- the report on one capture is its lines, and what stands behind them
-pub report_alone : (verdicts : List Verdict) (n passing : ℕ) (truncated : Bool) → length verdicts ≡ n → passing ≡ passed verdicts
-    → lines_from None 1 verdicts ++ end_text (totals_with n passing truncated) ≡ report_of verdicts (told_alone n truncated)
-report_alone verdicts n passing truncated count passes =
+pub report_alone : (verdicts : List Verdict) (n passing lacking : ℕ) (truncated : Bool) → length verdicts ≡ n → passing ≡ passed verdicts
+    → lacking ≡ without_pages verdicts
+    → lines_from None 1 verdicts ++ end_text (totals_with n passing lacking truncated) ≡ report_of verdicts (told_alone n truncated)
+report_alone verdicts n passing lacking truncated count passes lack =
     let lines = lines_from None 1 verdicts in
     let end = truncation_line None truncated n in
     let all = totals_of verdicts (told_alone n truncated) in
-    ap (λ t. lines ++ (end ++ totals_line t)) (totals_alone verdicts n passing truncated count passes)
+    ap (λ t. lines ++ (end ++ totals_line t)) (totals_alone verdicts n passing lacking truncated count passes lack)
     ∙ sym (append_assoc lines end (totals_line all))
     ∙ ap (λ b. b ++ totals_line all)
     (ap (λ vs. lines_from None 1 vs ++ end) (sym (take_all n verdicts (omega arith)))
@@ -124,8 +127,8 @@ put_more bytes failures a b c text more (Err e) wrote same put =
 module _ {J : Type 0} (Became : J → List PacketFacts → List Verdict → J → Type 0) (Judged : J → List PacketFacts → List Verdict → Type 0)
     (begun : J) (order : Order) (before old : Option (List ℕ)) where
   pub live_begun : (live : Live J) → Became begun [] [] live.judges → live.window.items ≡ [] → live.packets ≡ 0 → live.passed ≡ 0
-      → live.read ≡ 0 → live.order ≡ order → IsLive Became Judged begun order before before old old live
-  live_begun live stand empty none passing size same = record {
+      → live.without_pages ≡ 0 → live.read ≡ 0 → live.order ≡ order → IsLive Became Judged begun order before before old old live
+  live_begun live stand empty none passing lacking size same = record {
     told = record {
       read = [];
       consumed = Consumes-nil before;
@@ -139,6 +142,7 @@ module _ {J : Type 0} (Became : J → List PacketFacts → List Verdict → J �
     stand = stand;
     count = none;
     passing = passing;
+    lacking = lacking;
     size = size;
     bound = omega arith;
     same = same;
@@ -158,6 +162,7 @@ module _ {J : Type 0} (Became : J → List PacketFacts → List Verdict → J �
         count = count;
         each = is.told.count;
         passing = is.passing;
+        lacking = is.lacking;
         few = omega arith;
         bound = omega arith;
       }
@@ -200,6 +205,7 @@ module _ {J : Type 0} (Became : J → List PacketFacts → List Verdict → J �
           stand = are.stand;
           count = let e = is.count in let f = window.count in omega arith;
           passing = let e = is.passing in let f = window.passing in let g = passed_of_both t.verdicts window.verdicts in omega arith;
+          lacking = let e = is.lacking in let f = window.lacking in let g = without_pages_of_both t.verdicts window.verdicts in omega arith;
           size = window.read ∙ is.size;
           bound = let e = window.read in omega arith;
           same = window.order ∙ is.same;
@@ -271,9 +277,9 @@ module _ {J : Type 0} (Became : J → List PacketFacts → List Verdict → J �
 
     -- more was read
     pub live_more : (then : Option (List ℕ)) (new : Live J) (count : ℕ) → HasGot now then live.window.items new.window.items count
-        → new.judges ≡ live.judges → new.packets ≡ live.packets → new.passed ≡ live.passed → new.order ≡ live.order → new.read ≡ live.read + count
-        → IsLive Became Judged begun order before then old after new
-    live_more then new count got judges packets passing same size =
+        → new.judges ≡ live.judges → new.packets ≡ live.packets → new.passed ≡ live.passed
+        → new.without_pages ≡ live.without_pages → new.order ≡ live.order → new.read ≡ live.read + count → IsLive Became Judged begun order before then old after new
+    live_more then new count got judges packets passing lacking same size =
         let t = is.is.told in record {
           told = record {
             read = t.read ++ got.read;
@@ -289,6 +295,7 @@ module _ {J : Type 0} (Became : J → List PacketFacts → List Verdict → J �
           stand = subst (Became begun (packets_at 0 t.packets) t.verdicts) (sym judges) is.is.stand;
           count = packets ∙ is.is.count;
           passing = passing ∙ is.is.passing;
+          lacking = lacking ∙ is.is.lacking;
           size = let both = length-append t.read got.read in let more = got.size in let before = is.is.size in omega arith;
           bound = let few = got.few in let below = is.below in omega arith;
           same = same ∙ is.is.same;
@@ -296,13 +303,13 @@ module _ {J : Type 0} (Became : J → List PacketFacts → List Verdict → J �
 
     -- no more is there
     pub told_all : (then last : Option (List ℕ)) (window : List ℕ) (truncated : Bool) (totals : Totals) → IsCutAt stop truncated
-        → HasGot now then live.window.items window 0 → totals ≡ totals_with live.packets live.passed truncated → Appends after last (end_text totals)
+        → HasGot now then live.window.items window 0 → totals ≡ totals_with live.packets live.passed live.without_pages truncated → Appends after last (end_text totals)
         → HasToldAll Judged begun order before then old last totals
     told_all then last window truncated totals ends got same written =
         let t = is.is.told in
         let count : length t.verdicts ≡ live.packets = t.count ∙ sym is.is.count in
-        let told = totals_alone t.verdicts live.packets live.passed truncated count is.is.passing in
-        let report = report_alone t.verdicts live.packets live.passed truncated count is.is.passing in
+        let told = totals_alone t.verdicts live.packets live.passed live.without_pages truncated count is.is.passing is.is.lacking in
+        let report = report_alone t.verdicts live.packets live.passed live.without_pages truncated count is.is.passing is.is.lacking in
         record {
           read = t.read;
           consumed = got_none now then (live.window.items) window t.read t.consumed got;
@@ -323,12 +330,12 @@ module _ {J : Type 0} (Became : J → List PacketFacts → List Verdict → J �
 
     -- no more is there, and a front of what stands at the end was written
     pub end_fault : (then last : Option (List ℕ)) (window : List ℕ) (truncated : Bool) (totals : Totals) → IsCutAt stop truncated
-        → HasGot now then live.window.items window 0 → totals ≡ totals_with live.packets live.passed truncated → GotFront after last (end_text totals)
+        → HasGot now then live.window.items window 0 → totals ≡ totals_with live.packets live.passed live.without_pages truncated → GotFront after last (end_text totals)
         → IsLiveFault Judged begun order before then old last fault.Write
     end_fault then last window truncated totals ends got same written =
         let t = is.is.told in
         let count : length t.verdicts ≡ live.packets = t.count ∙ sym is.is.count in
-        let report = report_alone t.verdicts live.packets live.passed truncated count is.is.passing in
+        let report = report_alone t.verdicts live.packets live.passed live.without_pages truncated count is.is.passing is.is.lacking in
         record {
           read = t.read;
           consumed = got_none now then (live.window.items) window t.read t.consumed got;

@@ -8,8 +8,8 @@ use crate::telling_judges::Tellers;
 use crate::windows_of_records::{Found, find_records};
 use packet_view::{Order, Packets, Records, Stop};
 use racl_io::{
-    Captured, Fault, Piece, Place, Sink, Source, Totals, write_lines_whole, write_totals,
-    write_truncation,
+    Captured, Fault, Piece, Place, Sink, Source, Totals, without_pages, write_lines_whole,
+    write_totals, write_truncation,
 };
 use session_state::Verdict;
 use std::alloc::{AllocError, Global};
@@ -34,6 +34,8 @@ pub struct Live<J> {
     pub packets: usize,
     /// How many of them pass.
     pub passed: u64,
+    /// How many found no pages for their sessions.
+    pub without_pages: u64,
     /// How many bytes were read.
     pub read: usize,
 }
@@ -52,6 +54,7 @@ fn judge_window<J: Tellers + Drop>(
         mut spare,
         packets,
         passed,
+        without_pages,
         read,
     } = live;
     let Found {
@@ -77,6 +80,7 @@ fn judge_window<J: Tellers + Drop>(
                 spare: window,
                 packets: packets + count,
                 passed,
+                without_pages,
                 read,
             };
             Ok((next, verdicts, stop))
@@ -107,6 +111,7 @@ fn tell_window<J: Tellers + Drop, W: Sink>(
     match write_lines_whole(writer, piece, place, &verdicts) {
         Ok(more) => {
             next.passed += more;
+            next.without_pages += without_pages(&verdicts);
             Ok((next, stop))
         }
         Err(fault) => Err(fault),
@@ -144,13 +149,14 @@ fn read_live_part<R: Source>(reader: &mut R, window: &mut Vec<u8>) -> Result<usi
 // The totals over the packets of a live capture that were told.
 fn totals_at<J>(live: &Live<J>, truncated: bool) -> Totals
     requires { live.now.passed ≤ live.now.packets }
-    ensures { result ≡ totals_with live.now.packets live.now.passed truncated }
+    ensures { result ≡ totals_with live.now.packets live.now.passed live.now.without_pages truncated }
 {
     let packets = live.packets as u64;
     Totals {
         packets,
         passed: live.passed,
         dropped: packets - live.passed,
+        without_pages: live.without_pages,
         truncated,
     }
 }
@@ -200,6 +206,7 @@ pub fn tell_live<J: Tellers + Drop, R: Source, W: Sink>(
         spare: Vec::new(alloc),
         packets: 0,
         passed: 0,
+        without_pages: 0,
         read: 0,
     };
     'reads: while live.read < MOST_LIVE {

@@ -8,9 +8,9 @@ use racl_cli::{run, run_live, run_saving};
 use racl_io::{Device, FrontKept, Joined, Source};
 use racl_options::{Asked, Files, Options, Origin};
 use racl_system::{
-    LiveFiles, Output, Parts, Ran, Watched, asked_or_status, failure_status, opened_input,
-    opened_live, saves_to, say_end_of_live, say_end_of_run, say_unsaved, say_used_twice, settled,
-    texts_of, words_of,
+    LiveFiles, LiveInput, Output, Parts, Ran, Watched, asked_or_status, failure_status,
+    opened_input, opened_live, saves_to, say_end_of_live, say_end_of_run, say_unsaved,
+    say_used_twice, settled, texts_of, words_of,
 };
 use std::alloc::Global;
 use std::io;
@@ -66,7 +66,7 @@ fn status_of_run<T: Threads + Wait + Sync>(
     };
     let mut reader = Watched::new(rt, Joined::new(policy, captures));
     match run_main_program(rt, threads, alloc, asked, &mut reader) {
-        Ok(Some(ran)) => say_end_of_run(rt, alloc, &asked.origin, &mut reader, &ran),
+        Ok(Some(ran)) => say_end_of_run(rt, alloc, asked, &mut reader, &ran),
         Ok(None) => Ok(4),
         Err(error) => Err(error),
     }
@@ -125,5 +125,10 @@ fn status_of_live<T: Wait>(
     let mut reader = Device::new(FrontKept::new(capture));
     let mut writer = Device::new(rt.stdout());
     let outcome = run_live(threads, alloc, options, text, &mut reader, &mut writer);
-    say_end_of_live(rt, alloc, files, text, reader.inner.front(), &outcome)
+    let input = LiveInput {
+        files: *files,
+        text,
+        front: reader.inner.front(),
+    };
+    say_end_of_live(rt, alloc, options, input, &outcome)
 }

@@ -5,7 +5,7 @@ use Rattle.std.specs.Io.KnownBytes.{Appends}
 use Rattle.std.proofs.lemmas.List.Sums.{sum_by-append, sum_by-cons}
 use Rattle.session_state.specs.Passes.{passes}
 use Rattle.session_state.specs.declared.verdict.Verdict.{Verdict}
-use Rattle.racl_io.specs.Reports.{captures_from, dropped, is_truncated, line_of, lines_from, packets_in, passed, totals_of, truncation_line}
+use Rattle.racl_io.specs.Reports.{captures_from, dropped, is_truncated, lacks_pages, line_of, lines_from, packets_in, passed, totals_of, truncation_line, without_pages}
 use Rattle.racl_io.specs.Sinks.{GotFront}
 use Rattle.racl_io.specs.declared.totals_and_truncation.Captured.{Captured}
 use Rattle.racl_io.specs.declared.totals_and_truncation.Totals.{Totals}
@@ -19,6 +19,9 @@ lines_of_both named n m (x ∷ xs) ys e =
 
 pub passed_of_both : (xs ys : List Verdict) → passed (xs ++ ys) ≡ passed xs + passed ys
 passed_of_both xs ys = sum_by-append (λ v. cond (passes v) 1 0) xs ys
+
+pub without_pages_of_both : (xs ys : List Verdict) → without_pages (xs ++ ys) ≡ without_pages xs + without_pages ys
+without_pages_of_both xs ys = sum_by-append (λ v. cond (lacks_pages v) 1 0) xs ys
 
 yes_or_no : (b : Bool) → cond b 1 0 + cond (not b) 1 0 ≡ 1
 yes_or_no true = refl
@@ -67,12 +70,15 @@ pub counted_behind : (rest : List Verdict) (captured : Captured) (left after : L
     → captured.packets + packets_in after ≡ length rest
 counted_behind rest captured left after counted parted = sym (ap packets_in parted) ∙ counted
 
-abbrev totals_with : List Verdict → Bool → ℕ → ℕ → Totals
-totals_with verdicts truncated passing dropping = record { packets = length verdicts; passed = passing; dropped = dropping; truncated = truncated }
+abbrev totals_with : List Verdict → Bool → ℕ → ℕ → ℕ → Totals
+totals_with verdicts truncated lacking passing dropping =
+    record { packets = length verdicts; passed = passing; dropped = dropping; without_pages = lacking; truncated = truncated }
 
 -- those that don't pass are dropped
-pub totals_counted : (n : ℕ) (verdicts : List Verdict) (captures : List Captured) (truncated : Bool) → n ≡ passed verdicts → truncated ≡ is_truncated captures
-    → totals_with verdicts truncated n (length verdicts - n) ≡ totals_of verdicts captures
-totals_counted n verdicts captures truncated e cut =
+pub totals_counted : (n lacking : ℕ) (verdicts : List Verdict) (captures : List Captured) (truncated : Bool) → n ≡ passed verdicts
+    → lacking ≡ without_pages verdicts → truncated ≡ is_truncated captures
+    → totals_with verdicts truncated lacking n (length verdicts - n) ≡ totals_of verdicts captures
+totals_counted n lacking verdicts captures truncated e lack cut =
     let others : length verdicts - n ≡ dropped verdicts = omega (arith, e, passed_or_dropped verdicts) in
-    ap₂ (totals_with verdicts truncated) e others ∙ ap (λ t. totals_with verdicts t (passed verdicts) (dropped verdicts)) cut
+    ap₂ (totals_with verdicts truncated lacking) e others
+    ∙ ap₂ (λ t l. totals_with verdicts t l (passed verdicts) (dropped verdicts)) cut lack

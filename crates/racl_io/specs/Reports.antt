@@ -59,13 +59,27 @@ passed verdicts = count_by passes verdicts
 abbrev pub dropped : List Verdict → ℕ
 dropped verdicts = count_by (λ v. not (passes v)) verdicts
 
+abbrev pub lacks_pages : Verdict → Bool
+lacks_pages NoPages = true
+lacks_pages _ = false
+
+-- how many verdicts say no-pages
+abbrev pub without_pages : List Verdict → ℕ
+without_pages verdicts = count_by lacks_pages verdicts
+
 -- whether a capture of these was truncated
 abbrev pub is_truncated : List Captured → Bool
 is_truncated captures = list_any (λ c. c.truncated) captures
 
 abbrev pub totals_of : List Verdict → List Captured → Totals
 totals_of verdicts captures =
-    record { packets = length verdicts; passed = passed verdicts; dropped = dropped verdicts; truncated = is_truncated captures }
+    record {
+      packets = length verdicts;
+      passed = passed verdicts;
+      dropped = dropped verdicts;
+      without_pages = without_pages verdicts;
+      truncated = is_truncated captures;
+    }
 
 abbrev pub totals_line : Totals → List ℕ
 totals_line t = codes "packets " ++ (decimal t.packets ++ (codes " pass " ++ (decimal t.passed ++ (codes " drop " ++ (decimal t.dropped ++ codes "\n")))))

@@ -35,5 +35,7 @@ pub use read_buffer::ReadBuffer;
 pub use reading_and_writing::{MOST_BYTES, drain, read_until, write_all};
 pub use report_piece::Piece;
 pub use shown_lines_report::write_shown;
-pub use totals_and_truncation::{Captured, Totals, totals_on, write_totals, write_truncation};
+pub use totals_and_truncation::{
+    Captured, Totals, totals_on, without_pages, write_totals, write_truncation,
+};
 pub use whole_report::{Place, write_lines_whole, write_report};

@@ -29,6 +29,8 @@ pub struct Totals {
     pub packets: u64,
     pub passed: u64,
     pub dropped: u64,
+    /// How many of those that were dropped found no pages for their sessions.
+    pub without_pages: u64,
     /// Whether a capture ends within a record.
     pub truncated: bool,
 }
@@ -82,6 +84,16 @@ fn is_truncated(captures: &[Captured]) -> bool
     captures.iter().any(|captured| captured.truncated)
 }
 
+/// How many of a report's verdicts say no-pages, in its totals.
+pub fn without_pages(verdicts: &[Verdict]) -> u64
+    ensures { result ≡ Reports.without_pages verdicts.now }
+{
+    verdicts
+        .iter()
+        .filter(|it| matches!(it, Verdict::NoPages))
+        .count() as u64
+}
+
 /// The totals of a report, over all its packets, of which so many pass.
 pub fn totals_on(passed: u64, verdicts: &[Verdict], captures: &[Captured]) -> Totals
     requires { passed ≡ Reports.passed verdicts.now }
@@ -92,6 +104,7 @@ pub fn totals_on(passed: u64, verdicts: &[Verdict], captures: &[Captured]) -> To
         packets,
         passed,
         dropped: packets - passed,
+        without_pages: without_pages(verdicts),
         truncated: is_truncated(captures),
     }
 }

@@ -17,7 +17,7 @@ use Rattle.clap.specs.declared.builder.value_parser.ValueParser.TheVariants.{Sig
 use Rattle.clap.proofs.ValueTestLemmas.{Accepts-accepts}
 use Rattle.racl_options.specs.Asking.{AskForRun}
 use Rattle.racl_options.specs.CommandLine.{IsInRange, OptionName, Workers, Established, Transient, Udp, Spells, default_of, has_flag, most_of, name_of, number_of, racl, values_at}
-use Rattle.racl_options.specs.Selections.{FlagName, Summary, Hits, Sessions, Explain, JsonLines, Live, flag_id, is_given, lines_by, shown_by}
+use Rattle.racl_options.specs.Selections.{FlagName, Summary, Hits, Sessions, Explain, JsonLines, Live, Age, flag_id, is_given, lines_by, shown_by}
 use Rattle.racl_options.specs.Sizes.{size_by}
 use Rattle.racl_options.specs.Options.{AreNames, AreSettings, Setting, Use, asked_as, sets, value_at, values_of, words_as}
 use Rattle.racl_options.specs.Origins.{Name, OriginFacts}
@@ -228,6 +228,10 @@ no_flag Live Workers = refl
 no_flag Live Established = refl
 no_flag Live Transient = refl
 no_flag Live Udp = refl
+no_flag Age Workers = refl
+no_flag Age Established = refl
+no_flag Age Transient = refl
+no_flag Age Udp = refl
 
 no_other_row : (id : Text) (ss : List Setting) → IsOther id → has_row id (map row_of ss) ≡ false
 no_other_row id [] other = refl
@@ -271,6 +275,7 @@ flag_is_no_file Sessions = (refl, refl, refl)
 flag_is_no_file Explain = (refl, refl, refl)
 flag_is_no_file JsonLines = (refl, refl, refl)
 flag_is_no_file Live = (refl, refl, refl)
+flag_is_no_file Age = (refl, refl, refl)
 
 option_found : (o : OptionName) (rows : List Row) (uses : List Use) (names : List Text) → find_row (name_of o) (rows ++ other_rows uses names) ≡ find_row (name_of o) rows
 option_found o rows uses names = find_both (name_of o) rows (other_rows uses names) ∙ or_nothing (find_row (name_of o) rows) _ (none_of_files (name_of o) uses names (no_file o))
@@ -324,6 +329,7 @@ words_ask program ss uses names origin are named says = record {
       hits = no_flag_given Hits;
       sessions = no_flag_given Sessions;
       live = no_flag_given Live;
+      ages = no_flag_given Age;
     };
     names = rw (policy_named, capture_named, captures_named) says;
     drops = no_value drops_id no_drops refl (refl, refl, refl);

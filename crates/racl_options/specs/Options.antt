@@ -75,6 +75,7 @@ asked_as settings origin = record {
     hits = false;
     sessions = false;
     live = false;
+    ages = false;
   };
   origin = origin;
   drops = None;

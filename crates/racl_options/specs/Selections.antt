@@ -1,5 +1,6 @@
 -- What the words select: which packets have a line in the report and what it tells, whether hits and sessions are told,
--- whether verdicts are written as packets come, and the files that get packets (this project's profile).
+-- whether verdicts are written as packets come, whether sessions that have ended are removed, and the files that get packets
+-- (this project's profile).
 use Rattle.std.specs.Prelude.{Bool, false, Option, None, Some, codes, option_map, if◌then◌else◌}
 use Rattle.std.specs.Str.{bytes_eq}
 use Rattle.clap.specs.Words.{Text}
@@ -21,6 +22,7 @@ pub data FlagName : Type 0 where
   Explain : FlagName
   JsonLines : FlagName
   Live : FlagName
+  Age : FlagName
 
 abbrev pub flag_id : FlagName → Text
 flag_id Summary = codes "summary"
@@ -29,6 +31,7 @@ flag_id Sessions = codes "sessions"
 flag_id Explain = codes "explain"
 flag_id JsonLines = codes "json"
 flag_id Live = codes "live"
+flag_id Age = codes "age"
 
 -- whether a flag was given, by its value
 abbrev pub is_given : Option Text → Bool

@@ -7,7 +7,7 @@ ghost use Rattle.racl_options.specs.CommandLine as line;
 ghost use Rattle.racl_options.specs.Checks.{text_behind};
 ghost use Rattle.racl_options.specs.CommandLine.{HoldsNumber, HoldsNumbers, OptionName, Spells, has_flag, option_facts};
 ghost use Rattle.racl_options.specs.Origins.{origin_facts};
-ghost use Rattle.racl_options.specs.Selections.{Explain, Hits, JsonLines, Live, Sessions, lines_by};
+ghost use Rattle.racl_options.specs.Selections.{Age, Explain, Hits, JsonLines, Live, Sessions, lines_by};
 ghost use Rattle.racl_options.specs.inner.Naming.{IsRefused, SpellOptions, values_in};
 
 use crate::named_files::{Refusal, origin_named};
@@ -26,7 +26,8 @@ const NOT_SAVED: &str = "--drops and --passes are of one capture: they need POLI
 
 const ONE_FILE: &str = "--drops and --passes need a file each";
 
-const NOT_LIVE: &str = "--live needs POLICY CAPTURE, and goes with --tables and timeouts alone";
+const NOT_LIVE: &str =
+    "--live needs POLICY CAPTURE, and goes with --age, --tables and timeouts alone";
 
 /// What the matches ask for.
 pub fn asked_by<'a>(alloc: Global, matches: &ArgMatches<'a>) -> Result<Asked<'a>, Refusal>
@@ -121,6 +122,7 @@ fn read_options(matches: &ArgMatches<'_>, tables: TableSize, shown: Shown) -> Op
     ensures hits { has_flag (values_in (found_of matches.now)) Hits ≡ result.hits }
     ensures sessions { has_flag (values_in (found_of matches.now)) Sessions ≡ result.sessions }
     ensures live { has_flag (values_in (found_of matches.now)) Live ≡ result.live }
+    ensures ages { has_flag (values_in (found_of matches.now)) Age ≡ result.ages }
 {
     let workers = number_at(matches, "workers");
     let established = number_at(matches, "tcp-established");
@@ -139,6 +141,7 @@ fn read_options(matches: &ArgMatches<'_>, tables: TableSize, shown: Shown) -> Op
         hits: is_given(matches, "hits"),
         sessions: is_given(matches, "sessions"),
         live: is_given(matches, "live"),
+        ages: is_given(matches, "age"),
     }
 }
 

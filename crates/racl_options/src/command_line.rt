@@ -76,7 +76,7 @@ fn after_help() -> &'static str {
     "INPUT is a policy, a line `pcap` or `hex`, and the capture in that form; POLICY and CAPTURE are such \
     a policy and a capture's bytes. Except with --live they have at most 67108864 bytes in all, in which a byte \
     of a capture after --interface counts twice. The report goes to standard output. --drops, --passes and \
-    --live need POLICY CAPTURE; --live goes with --tables and timeouts alone.
+    --live need POLICY CAPTURE; --live goes with --age, --tables and timeouts alone.
 
 Examples:
   racl check host.policy
@@ -124,7 +124,16 @@ fn command_with_flags<'a>(alloc: Global) -> Result<Command<'a>, AllocError>
             "json",
             "Each line and the totals as an object of JSON",
         ))?
-        .arg(flag(alloc, "live", "Lines are written as packets come"))
+        .arg(flag(
+            alloc,
+            "live",
+            "Lines are written as packets come; it implies --age",
+        ))?
+        .arg(flag(
+            alloc,
+            "age",
+            "Sessions that have ended leave the tables, which makes room for new ones",
+        ))
 }
 
 // The command with its options and the flags that say what is reported, up to the sessions.

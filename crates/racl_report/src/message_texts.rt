@@ -39,6 +39,23 @@ pub struct Remark<'a> {
     pub other: Other,
 }
 
+/// What is said behind a report where packets found no pages for their sessions: how many, and which options help that
+/// weren't asked for.
+#[derive(Clone, Copy, Debug, PartialEq, Eq, Error)]
+pub enum Shortage {
+    #[error("racl: packets dropped as no-pages: {0}; --age removes sessions that have ended, --tables large has room for more")]
+    Standing(u64),
+    /// Sessions that have ended are removed.
+    #[error("racl: packets dropped as no-pages: {0}; --tables large has room for more sessions")]
+    Ageing(u64),
+    /// The tables are large.
+    #[error("racl: packets dropped as no-pages: {0}; --age removes sessions that have ended")]
+    Large(u64),
+    /// Both are so.
+    #[error("racl: packets dropped as no-pages: {0}")]
+    AgeingLarge(u64),
+}
+
 /// What is said where something else is likely to be meant.
 #[derive(Clone, Copy, Debug, PartialEq, Eq, Error)]
 pub enum Hint {

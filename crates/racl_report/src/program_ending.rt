@@ -2,15 +2,15 @@
 ghost use Rattle.std.specs.Prelude.{◌≡◌, ◌≢◌, None, Some};
 ghost use Rattle.clap.specs.Words.{kind_of};
 ghost use Rattle.std.specs.IoError.{error_kind};
-ghost use Rattle.racl_report.specs.Endings.{hint_on, remark_on, said_after};
+ghost use Rattle.racl_report.specs.Endings.{hint_on, remark_on, said_after, shortage_on};
 ghost use Rattle.racl_report.specs.Statuses.{status_of};
 ghost use Rattle.racl_io.specs.declared.fault.Fault.TheVariants.{Memory, Write};
 ghost use Rattle.racl_options.specs.CommandLine.{IsRequest};
 
-use crate::message_texts::{Ending, Hint, Message};
+use crate::message_texts::{Ending, Hint, Message, Shortage};
 use clap::error::ErrorKind;
 use racl_io::{Fault, Other, Totals, is_capture, other_file};
-use racl_options::words_status;
+use racl_options::{TableSize, words_status};
 use std::io;
 use std::io::ErrorKind as FailureKind;
 
@@ -61,6 +61,26 @@ pub fn hint(outcome: &Result<Totals, Fault>, policy: &[u8]) -> Option<Hint>
         Err(Fault::NotUtf8) if is_capture(policy) => Some(Hint::Swapped),
         _ => None,
     }
+}
+
+/// What the program tells behind a report where packets found no pages, by whether sessions that have ended were removed,
+/// and the size of the tables.
+pub fn shortage(outcome: &Result<Totals, Fault>, ages: bool, tables: TableSize) -> Option<Shortage>
+    ensures { result ≡ shortage_on ages tables outcome.now }
+{
+    let Ok(totals) = outcome else {
+        return None;
+    };
+    let count = totals.without_pages;
+    if count == 0 {
+        return None;
+    }
+    Some(match (ages, tables) {
+        (false, TableSize::Standard) => Shortage::Standing(count),
+        (true, TableSize::Standard) => Shortage::Ageing(count),
+        (false, TableSize::Large) => Shortage::Large(count),
+        (true, TableSize::Large) => Shortage::AgeingLarge(count),
+    })
 }
 
 /// The message and the status after words that `options` refuses. Without a message `clap`'s own text is printed.

@@ -9,10 +9,11 @@ use crate::progress::Watched;
 use crate::say_and_answer_status::say_ending;
 use crate::say_policy_remarks::{Seen, say_foreign, say_unlooked};
 use racl_io::{Fault, Joined, Totals};
-use racl_options::{Files, Origin};
-use racl_report::{Remark, ending, hint, remark};
+use racl_options::{Asked, Files, Options, Origin, TableSize};
+use racl_report::{Remark, ending, hint, remark, shortage};
 use std::alloc::Global;
 use std::io;
+use std::io::Eprint;
 
 /// How a run ended, and whether the reader of what it wrote was gone.
 #[derive(Drop)]
@@ -71,14 +72,23 @@ fn say_remark(
     rt.eprintln(format_args!("racl: that is {name}, the capture of interface {interface}"))
 }
 
+// Says behind a report how many packets found no pages, where some did, and what helps. Where standard error fails, the
+// report stands.
+fn say_shortage(rt: &impl Eprint, outcome: &Result<Totals, Fault>, ages: bool, tables: TableSize) {
+    if let Some(shortage) = shortage(outcome, ages, tables) {
+        let _ = rt.eprintln(&shortage);
+    }
+}
+
 // Says the notes behind a run on files: what is likely to be wrong with them.
 fn say_run_notes(
     rt: &HostRuntime,
     alloc: Global,
-    origin: &Origin<'_>,
+    asked: &Asked<'_>,
     reader: &Joined<Reader>,
     outcome: &Result<Totals, Fault>,
 ) -> io::Result<()> {
+    let origin = &asked.origin;
     let Reader::Held(policy) = reader.policy() else {
         return Ok(());
     };
@@ -100,6 +110,7 @@ fn say_run_notes(
     if let Some(hint) = hint(outcome, policy.get_ref().as_slice()) {
         rt.eprintln(&hint)?;
     }
+    say_shortage(rt, outcome, asked.options.ages, asked.options.tables);
     Ok(())
 }
 
@@ -108,7 +119,7 @@ fn say_run_notes(
 pub fn say_end_of_run(
     rt: &HostRuntime,
     alloc: Global,
-    origin: &Origin<'_>,
+    asked: &Asked<'_>,
     reader: &mut Watched<'_, Joined<Reader>>,
     ran: &Ran,
 ) -> io::Result<u8>
@@ -116,7 +127,7 @@ pub fn say_end_of_run(
 {
     reader.progress.end();
     let mut end = ending(&ran.outcome);
-    if ran.is_closed && !matches!(origin, Origin::Standard) {
+    if ran.is_closed && !matches!(asked.origin, Origin::Standard) {
         // Who asked for a report of files took as much of it as was wanted.
         end.message = None;
     }
@@ -124,21 +135,29 @@ pub fn say_end_of_run(
         Ok(status) => status,
         Err(error) => return Err(error),
     };
-    say_run_notes(rt, alloc, origin, &reader.source, &ran.outcome)?;
+    say_run_notes(rt, alloc, asked, &reader.source, &ran.outcome)?;
     Ok(status)
+}
+
+/// What a live run was on: its files, the policy's text, and the first bytes of the capture.
+#[derive(Clone, Copy)]
+pub struct LiveInput<'a> {
+    pub files: Files<'a>,
+    pub text: &'a [u8],
+    pub front: &'a [u8],
 }
 
 /// Says how a live run ended, with notes on what is likely to be wrong with its files; and answers the status.
 pub fn say_end_of_live(
     rt: &HostRuntime,
     alloc: Global,
-    files: &Files<'_>,
-    text: &[u8],
-    front: &[u8],
+    options: &Options,
+    input: LiveInput<'_>,
     outcome: &Result<Totals, Fault>,
 ) -> io::Result<u8>
     ensures { IfOk result (λ status. status ≡ status_of outcome.now) }
 {
+    let LiveInput { files, text, front } = input;
     let status = match say_ending(rt, &ending(outcome)) {
         Ok(status) => status,
         Err(error) => return Err(error),
@@ -155,5 +174,6 @@ pub fn say_end_of_live(
         front,
     };
     say_foreign(rt, alloc, files.policy, text, &[seen]);
+    say_shortage(rt, outcome, true, options.tables);
     Ok(status)
 }

@@ -18,7 +18,7 @@ mod say_and_answer_status;
 mod say_policy_remarks;
 
 pub use command_words::{asked_or_status, texts_of, words_of};
-pub use end_of_run::{Ran, say_end_of_live, say_end_of_run};
+pub use end_of_run::{LiveInput, Ran, say_end_of_live, say_end_of_run};
 pub use input_files::{Parts, opened_input};
 pub use live_files::{LiveFiles, opened_live};
 pub use named_reader::Reader;

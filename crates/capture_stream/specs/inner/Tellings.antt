@@ -10,7 +10,7 @@ use Rattle.session_state.specs.declared.verdict.Verdict.{Verdict}
 use Rattle.racl_io.specs.declared.fault.Fault.{Fault}
 use Rattle.racl_io.specs.declared.fault.Fault.TheVariants.{LongRecord, Memory, Read, Write}
 use Rattle.racl_io.specs.declared.totals_and_truncation.Totals.{Totals}
-use Rattle.racl_io.specs.Reports.{lines_from, passed, totals_line, truncation_line}
+use Rattle.racl_io.specs.Reports.{lines_from, passed, totals_line, truncation_line, without_pages}
 use Rattle.racl_io.specs.Sinks.{GotFront}
 use Rattle.capture_stream.specs.Lives.{HasToldSome, most_live}
 use Rattle.capture_stream.specs.Telling.{HaveTold}
@@ -25,6 +25,7 @@ pub record MayTell {J : Type 0} (Became : J → List PacketFacts → List Verdic
   pub count : live.packets ≡ length packets
   pub each : length said ≡ length packets
   pub passing : live.passed ≡ passed said
+  pub lacking : live.without_pages ≡ without_pages said
   pub few : live.packets + length live.window.items ≤ live.read
   pub bound : live.read < 2 ^ 63
 
@@ -37,6 +38,7 @@ pub record HasJudgedWindow {J : Type 0} (Became : J → List PacketFacts → Lis
   pub judged : HaveTold Became Judged old.judges (packets_at 0 more) verdicts new.judges
   pub count : new.packets ≡ old.packets + length more
   pub passed : new.passed ≡ old.passed
+  pub lacking : new.without_pages ≡ old.without_pages
   pub read : new.read ≡ old.read
   pub order : new.order ≡ old.order
 
@@ -51,6 +53,7 @@ pub record HasToldWindow {J : Type 0} (Became : J → List PacketFacts → List 
   pub text : Appends before after (lines_from None (old.packets + 1) verdicts)
   pub count : new.packets ≡ old.packets + length more
   pub passing : new.passed ≡ old.passed + passed verdicts
+  pub lacking : new.without_pages ≡ old.without_pages + without_pages verdicts
   pub read : new.read ≡ old.read
   pub order : new.order ≡ old.order
 
@@ -95,8 +98,9 @@ IsCutAt stop truncated = (order : Order) (rest : List ℕ) → Stops order rest 
 abbrev pub IsLongAt : Stop → ℕ → Fault → Type 0
 IsLongAt stop packets fault = (stop ≡ TooLong) × (fault ≡ LongRecord (packets + 1))
 
-abbrev pub totals_with : ℕ → ℕ → Bool → Totals
-totals_with packets passing truncated = record { packets = packets; passed = passing; dropped = packets - passing; truncated = truncated }
+abbrev pub totals_with : ℕ → ℕ → ℕ → Bool → Totals
+totals_with packets passing lacking truncated =
+    record { packets = packets; passed = passing; dropped = packets - passing; without_pages = lacking; truncated = truncated }
 
 -- what stands behind the lines of all packets
 abbrev pub end_text : Totals → List ℕ
@@ -109,6 +113,7 @@ pub record IsLive {J : Type 0} (Became : J → List PacketFacts → List Verdict
   pub stand : Became begun (packets_at 0 told.packets) told.verdicts live.judges
   pub count : live.packets ≡ length told.packets
   pub passing : live.passed ≡ passed told.verdicts
+  pub lacking : live.without_pages ≡ without_pages told.verdicts
   pub size : live.read ≡ length told.read
   pub bound : live.read < most_live + 65536
   pub same : live.order ≡ order

@@ -4,7 +4,7 @@ use Rattle.clap.specs.Simple.{on_top}
 use Rattle.clap.specs.Words.{App, Rule, Text, new_app, with_rule}
 use Rattle.clap.specs.declared.builder.action.ArgAction.TheVariants.{Append, Set}
 use Rattle.racl_options.specs.CommandLine.{Workers, Established, Transient, Udp, flag_rule, long_rule, number_rule}
-use Rattle.racl_options.specs.Selections.{Summary, Hits, Sessions, Explain, JsonLines, Live}
+use Rattle.racl_options.specs.Selections.{Summary, Hits, Sessions, Explain, JsonLines, Live, Age}
 
 -- ---- words
 
@@ -56,4 +56,4 @@ abbrev pub with_reports : App
 with_reports = with_rule (with_rule (with_rule with_values (flag_rule Summary)) (flag_rule Hits)) (flag_rule Sessions)
 
 abbrev pub with_flags : App
-with_flags = with_rule (with_rule (with_rule with_reports (flag_rule Explain)) (flag_rule JsonLines)) (flag_rule Live)
+with_flags = with_rule (with_rule (with_rule (with_rule with_reports (flag_rule Explain)) (flag_rule JsonLines)) (flag_rule Live)) (flag_rule Age)

@@ -112,6 +112,7 @@ fn words_set_the_options(rt: HostRuntime) {
         hits: false,
         sessions: false,
         live: false,
+        ages: false,
     };
     const MOST: Options = Options {
         workers: 16,
@@ -122,11 +123,15 @@ fn words_set_the_options(rt: HostRuntime) {
         hits: false,
         sessions: false,
         live: false,
+        ages: true,
     };
     const CASES: [(&[&str], Options); 3] = [
         (&["racl"], DEFAULTS),
         (&["racl", "--workers", "1"], DEFAULTS),
-        (&["racl", "--tables=large", "--workers", "16"], MOST),
+        (
+            &["racl", "--tables=large", "--age", "--workers", "16"],
+            MOST,
+        ),
     ];
     for (words, wanted) in CASES {
         assert!(rt; set_after(rt.alloc(), words) == Some(wanted));
@@ -163,7 +168,10 @@ fn words_select_what_lines_tell(rt: HostRuntime) {
     const CASES: [(&[&str], Option<(Lines, bool)>); 8] = [
         (&["racl", "--explain"], Some((Lines::Explained, false))),
         (&["racl", "--explain", "--json"], Some((Lines::Json, false))),
-        (&["racl", "--live", "p", "-"], Some((Lines::Plain, true))),
+        (
+            &["racl", "--live", "--age", "p", "-"],
+            Some((Lines::Plain, true)),
+        ),
         (&["racl", "--json", "--hits"], Some((Lines::Json, false))),
         (&["racl", "--live", "--sessions", "p", "-"], None),
         (&["racl", "--live"], None),

@@ -51,4 +51,5 @@ const DEFAULTS: Options = Options {
     hits: false,
     sessions: false,
     live: false,
+    ages: false,
 };

@@ -37,4 +37,4 @@ returns-in-Ok g c =
     c.in-Ok.verdicts.items c.in-Ok.judges = c.in-Ok.ensures in
     window_judged _ live c.requires _ found _ _ have kept
     (subst (λ b. HaveTold g.J.Tellers.became g.J.Tellers.judged live.judges (packets_at 0 (records_from live.order found.count b)) c.in-Ok.verdicts.items
-    c.in-Ok.judges) c.deref-3.ensures.value told) refl refl refl refl
+    c.in-Ok.judges) c.deref-3.ensures.value told) refl refl refl refl refl

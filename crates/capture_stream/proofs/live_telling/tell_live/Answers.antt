@@ -10,7 +10,7 @@ returns-in-Err-clause-told g c = none_told g.J.Tellers.judged c.args.judges c.ar
 
 pub reads-init : goal.reads-init
 reads-init g c = record {
-  live = live_begun g.J.Tellers.became g.J.Tellers.judged c.args.judges c.args.order _ _ _ c.requires.begun c.new-2.ensures.items refl refl refl refl;
+  live = live_begun g.J.Tellers.became g.J.Tellers.judged c.args.judges c.args.order _ _ _ c.requires.begun c.new-2.ensures.items refl refl refl refl refl;
   reads = refl;
   writes = refl;
 }
@@ -74,7 +74,7 @@ reads-preserved g c =
     live_told g.J.Tellers.became g.J.Tellers.judged c.args.judges c.args.order (g.R.Source.bytes c.args.reader.now) (g.W.Sink.bytes c.args.writer.now) _ _ _ c.reads.live c.in-Ok-tell_window.told.0
     c.in-Ok-tell_window.told.1 c.reads.invariant.live c.reads-test.true c.in-Ok-tell_window.ensures.told in
     record {
-      live = live_more _ _ _ _ _ _ _ _ _ _ told _ _ c.in-Ok-read_live_part.n c.in-Ok-read_live_part.ensures.got refl refl refl refl refl;
+      live = live_more _ _ _ _ _ _ _ _ _ _ told _ _ c.in-Ok-read_live_part.n c.in-Ok-read_live_part.ensures.got refl refl refl refl refl refl;
       reads = c.in-Ok-read_live_part.ensures.failures ∙ c.reads.invariant.reads;
       writes = c.in-Ok-tell_window.ensures.failures ∙ c.reads.invariant.writes;
     }

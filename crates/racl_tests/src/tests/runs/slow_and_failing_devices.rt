@@ -102,6 +102,7 @@ fn run_on_sound_devices(rt: HostRuntime) {
         packets: 3,
         passed: 2,
         dropped: 1,
+        without_pages: 0,
         truncated: false,
     };
     assert!(rt; outcome == Ok(totals));

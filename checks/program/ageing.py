@@ -1,0 +1,95 @@
+"""Runs that remove sessions which have ended: slow captures of both families, packets that are late, and what is said where pages
+are out."""
+from support.captures import report_of
+from support.cases import Case, each, wanted
+from support.slow_captures import POLICY, capture_of, slow, verdicts_on
+
+RATES = 0.1, 1, 5
+AGEING = ["--age"], ["--age", "--workers", "4"], ["--age", "--tables", "large"], ["--live"], ["--live", "--age"]
+
+# A flow, another one so long after it that all buckets are gone over, and an answer of the first that comes late. What ended less
+# than a minute before is kept.
+SOON = [(1000, True, 4, 0), (1620, True, 4, 1), (1590, False, 4, 0)]
+LATE = [(1000, True, 4, 0), (1675, True, 4, 1), (1585, False, 4, 0)]
+FORGOTTEN = ["pass rule 1 reflect", "pass rule 1 reflect", "drop default"]
+
+# What is told of hits, and of the session that is left, where the late answer finds none.
+TOLD = b"""interface 0 out rule 1 line 2 packets 2
+interface 0 out rule 2 line 3 packets 0
+session packets 0
+default packets 1
+full packets 0
+worn packets 0
+no-pages packets 0
+not-ip packets 0
+malformed packets 0
+short packets 0
+sessions entered 2
+sessions matched 0
+sessions expired 1
+session interface 0 udp 10.0.0.1 port 1025 and 10.0.0.2 port 53 last 1675 until 2275
+"""
+
+
+def refused_in(report):
+    return report.count(b" drop no-pages\n")
+
+
+class Ageing(Case):
+    def files_of(self, capture):
+        return [self.hold("policy", POLICY), self.hold("capture", capture)]
+
+    @each((f"{it} packets a second", it) for it in RATES)
+    def slow_captures(self, a_second):
+        capture, verdicts = slow(a_second)
+        files, want = self.files_of(capture), wanted(report_of(verdicts))
+        for words in AGEING:
+            self.compare(self.program.run([*words, *files]), want, *words)
+        self.compare(self.program.run(["--age"], POLICY + b"pcap\n" + capture), want, "standard input")
+
+    @each((f"no ageing at {it} packets a second", it) for it in RATES)
+    def without_ageing(self, a_second):
+        """A run that doesn't age runs out of pages. Of files it is said how often, and what helps."""
+        capture, verdicts = slow(a_second)
+        files = self.files_of(capture)
+        for number in ("1", "4"):
+            whole = self.program.run(["--workers", number], POLICY + b"pcap\n" + capture)
+            count = refused_in(whole["stdout"])
+            said = (f"racl: packets dropped as no-pages: {count}; "
+                    "--age removes sessions that have ended, --tables large has room for more\n")
+            self.compare({"some": count > 1000, **whole}, {"some": True, "stderr": b"", "status": 0}, f"{number} workers")
+            if number == "1":
+                self.compare(self.program.run(files), wanted(whole["stdout"], said), "files")
+                self.compare(self.program.run(["--summary", "--interface", f"0={files[1]}", files[0]]), {"stderr": said.encode()}, "interface")
+        self.compare(self.program.run(["--tables", "large", *files]), wanted(report_of(verdicts)), "large tables")
+
+    @each((f"an answer that is late by {'a minute at most' if it is SOON else 'more than a minute'}", it) for it in (SOON, LATE))
+    def late(self, packets):
+        files = self.files_of(capture_of(packets))
+        kept = verdicts_on(packets)
+        aged = kept if packets is SOON else FORGOTTEN
+        self.compare({"kept": kept[2]}, {"kept": "pass session"}, "the filter that forgets nothing")
+        self.compare(self.program.run(files), wanted(report_of(kept)), "no ageing")
+        for words in ["--age"], ["--live"], ["--live", "--age"]:
+            self.compare(self.program.run([*words, *files]), wanted(report_of(aged)), *words)
+
+    def test_forms(self):
+        """Ageing beside what else is asked for."""
+        capture = capture_of(LATE)
+        policy, file = self.files_of(capture)
+        report = report_of(FORGOTTEN)
+        dropped, passed = (f"{self.folder}/{it}" for it in ("dropped", "passed"))
+        self.compare(self.program.run(["--age"], POLICY + b"hex\n" + capture.hex().encode()), wanted(report), "standard input")
+        got = self.program.run(["--age", "--interface", f"0={file}", policy])
+        self.compare(got, wanted(report.replace(b" pass rule", b" if 0 pass rule").replace(b" drop def", b" if 0 drop def")), "interface")
+        self.compare(self.program.run(["--age", "--hits", "--sessions", policy, file]), wanted(report + TOLD), "hits and sessions")
+        self.compare(self.program.run(["--age", "--summary", policy, file]), wanted(report.splitlines(True)[-1]), "summary")
+        got = self.program.run(["--age", "--drops", dropped, "--passes", passed, policy, file])
+        self.compare(got, wanted(report), "saved packets")
+        with open(dropped, "rb") as saved:
+            self.compare({"dropped": saved.read()}, {"dropped": capture_of(LATE[2:])}, "saved packets")
+        got = self.program.run(["--age", "--json", policy, file])
+        told = {"dropped": got["stdout"].count(b'"verdict":"drop","reason":"default"'), "status": got["status"]}
+        self.compare(told, {"dropped": 1, "status": 0}, "json")
+        got = self.program.run(["--age", "--explain", policy, file])
+        self.compare({"third": got["stdout"].splitlines()[2].partition(b" |")[0]}, {"third": b"3 drop default"}, "explained")

@@ -1,0 +1,63 @@
+"""Captures of few packets a second, and what a filter says of them that keeps its sessions in a plain map and forgets none."""
+import functools
+import random
+import struct
+
+from support.captures import header, record
+
+TIMEOUT = 600
+POLICY = b"mac 02:00:00:00:00:01\nout permit+reflect ipv4 any any udp\nout permit+reflect ipv6 any any udp\n"
+PACKETS = 100_000
+
+INSIDE, OUTSIDE = b"\x02\0\0\0\0\x01", b"\x02\0\0\0\0\x02"
+# What stands between the Ethernet addresses of a frame and the IP addresses, by the family.
+HEADS = {4: bytes.fromhex("0800 4500001c 00000000 40110000"), 6: bytes.fromhex("86dd 60000000 0008 11 40")}
+
+
+def address(family, number):
+    return struct.pack(">I", 10 << 24 | number) if family == 4 else b"\x20\x01\x0d\xb8" + struct.pack(">IQ", 0, number)
+
+
+def datagram(moment, outbound, family, number):
+    """A record of a UDP packet of the flow with this number, from the host inside or to it."""
+    ends = (address(family, 1), 1024 + number % 60_000), (address(family, 2 + number // 60_000), 53)
+    source, target = ends if outbound else ends[::-1]
+    way = OUTSIDE + INSIDE if outbound else INSIDE + OUTSIDE
+    ports = struct.pack(">HHHH", source[1], target[1], 8, 0)
+    return record(moment, way + HEADS[family] + source[0] + target[0] + ports)
+
+
+def capture_of(packets):
+    return header() + b"".join(datagram(*it) for it in packets)
+
+
+def verdicts_on(packets):
+    """The verdicts of a filter whose map has the latest second of each flow that ever had a session."""
+    latest, verdicts = {}, []
+    for moment, outbound, *flow in packets:
+        flow = tuple(flow)
+        if moment <= latest.get(flow, -1 - TIMEOUT) + TIMEOUT:
+            latest[flow] = max(latest[flow], moment)
+            verdicts.append("pass session")
+        elif outbound:
+            latest[flow] = moment
+            verdicts.append(f"pass rule {1 if flow[0] == 4 else 2} reflect")
+        else:
+            verdicts.append("drop default")
+    return verdicts
+
+
+@functools.lru_cache(maxsize=None)
+def slow(a_second):
+    """A capture of so many packets a second, and its verdicts. Most packets are the first of a flow; the others are of one of the
+    last 1200 seconds, either way."""
+    chance, packets, flows = random.Random(a_second), [], []
+    for number in range(PACKETS):
+        moment = 1_000_000 + int(number / a_second)
+        if not flows or chance.random() < 0.7:
+            flows.append((6 if chance.random() < 0.35 else 4, len(flows)))
+            packets.append((moment, True, *flows[-1]))
+        else:
+            back = chance.randint(1, min(len(flows), int(1200 * a_second)))
+            packets.append((moment, chance.random() < 0.5, *flows[-back]))
+    return capture_of(packets), verdicts_on(packets)
