@@ -1,16 +1,10 @@
 -- Indexes of the rules of a policy's sections.
-use Rattle.std.specs.Prelude.{◌≡◌, ◌↔◌, ℕ, length, IsSome}
+use Rattle.std.specs.Prelude.{◌≡◌}
 use Rattle.std.specs.Option.{ForSome}
 use Rattle.acl_policy.specs.declared.policy.Section.{Section}
-use Rattle.rule_index.specs.Worth.{IsWorthPreparing}
 use Rattle.flow_filter.specs.declared.rule_indexes.RuleIndexes.{RuleIndexes}
 
 -- each index is of the rules of its direction
 pub record ArePrepared (section : Section) (prepared : RuleIndexes) : Type 0 where
   pub inbound : ForSome prepared.inbound (λ index. index.rules.items ≡ section.inbound.items)
   pub outbound : ForSome prepared.outbound (λ index. index.rules.items ≡ section.outbound.items)
-
--- exactly those directions have an index whose rules are worth preparing for this many packets
-pub record ArePreparedFor (packets : ℕ) (section : Section) (prepared : RuleIndexes) : Type 0 where
-  pub inbound : IsSome prepared.inbound ↔ IsWorthPreparing (length section.inbound.items) packets
-  pub outbound : IsSome prepared.outbound ↔ IsWorthPreparing (length section.outbound.items) packets

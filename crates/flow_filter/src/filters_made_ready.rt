@@ -3,7 +3,7 @@ ghost use Rattle.std.specs.Prelude.{◌≡◌, [], IfOk, map};
 ghost use Rattle.std.specs.List.{AllZip};
 ghost use Rattle.acl_policy.specs.Policies.{empty_section, section_among, section_facts};
 ghost use Rattle.flow_filter.specs.Filters.{section_in};
-ghost use Rattle.flow_filter.specs.RuleIndexes.{ArePrepared, ArePreparedFor};
+ghost use Rattle.flow_filter.specs.RuleIndexes.{ArePrepared};
 ghost use Rattle.flow_filter.specs.Rulesets.{rules_in};
 
 use crate::filter::Filter;
@@ -81,8 +81,7 @@ fn prepare_section(
     section: &Section,
     packets: usize,
 ) -> Result<RuleIndexes, AllocError>
-    ensures indexes { IfOk result (ArePrepared section.now) }
-    ensures when { IfOk result (ArePreparedFor packets section.now) }
+    ensures { IfOk result (ArePrepared section.now) }
 {
     let inbound = index_of(alloc, &section.inbound, packets)?;
     let outbound = index_of(alloc, &section.outbound, packets)?;
@@ -117,7 +116,7 @@ impl Filter {
     ghost use Rattle.std.specs.List.{AllZip};
     ghost use Rattle.acl_policy.specs.Policies.{policy_facts, section_of};
     ghost use Rattle.flow_filter.specs.Filters.{section_in};
-    ghost use Rattle.flow_filter.specs.RuleIndexes.{ArePrepared, ArePreparedFor};
+    ghost use Rattle.flow_filter.specs.RuleIndexes.{ArePrepared};
 
     /// The filter at an interface, by its section of the policy, whose rules are searched one after the other.
     pub fn ready(&self, interface: u8) -> InterfaceFilter<'_>
@@ -132,9 +131,7 @@ impl Filter {
 
     /// The rules that the filter of each section searches, prepared for this many packets where that pays.
     pub fn prepare(&self, alloc: Global, packets: usize) -> Result<Vec<RuleIndexes>, AllocError>
-        ensures indexes { IfOk result (λ all. AllZip ArePrepared self.now.policy.sections.items all.items) }
-        ensures when { IfOk result (λ all.
-            AllZip (ArePreparedFor packets) self.now.policy.sections.items all.items) }
+        ensures { IfOk result (λ all. AllZip ArePrepared self.now.policy.sections.items all.items) }
     {
         let mut all = Vec::with_capacity(alloc, self.policy.sections.len())?;
         for section in &self.policy.sections {

@@ -2,7 +2,7 @@
 ghost use Rattle.std.specs.Prelude.{◌≡◌, ◌≤◌, ◌↔◌, IfOk, IsSome, length, map};
 ghost use Rattle.std.specs.Option.{ForSome};
 ghost use Rattle.acl_policy.specs.Rules.{most_rules, rule_facts};
-ghost use Rattle.rule_index.specs.Worth.{IsWorthPreparing};
+ghost use Rattle.rule_index.specs.inner.Worth.{IsWorthPreparing};
 ghost use Rattle.flow_filter.specs.Rulesets.{rules_in};
 
 use crate::rule_search::RuleSearch;
@@ -24,6 +24,7 @@ pub fn index_of(
     rules: &[Rule],
     packets: usize,
 ) -> Result<Option<RuleIndex>, AllocError>
+    requires { length rules.now ≤ most_rules }
     ensures index { IfOk result (λ found. ForSome found (λ index. index.rules.items ≡ rules.now)) }
     ensures when { IfOk result (λ found. IsSome found ↔ IsWorthPreparing (length rules.now) packets) }
 {

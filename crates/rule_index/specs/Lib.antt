@@ -3,5 +3,4 @@ pub mod FlagBits
 pub mod Flagged
 pub mod Indexes
 pub mod Rows
-pub mod Worth
 pub mod inner

@@ -2,3 +2,4 @@
 pub mod Candidates
 pub mod Columns
 pub mod Sieves
+pub mod Worth

@@ -1,8 +1,8 @@
 //! Rules prepared for many packets, and the rule of a packet found by them.
-ghost use Rattle.std.specs.Prelude.{◌≡◌, ◌<◌, ℕ, IfOk, IfSome, Option, length, map};
+ghost use Rattle.std.specs.Prelude.{◌≡◌, ◌≤◌, ◌<◌, ℕ, IfOk, IfSome, Option, length, map};
 ghost use Rattle.acl_policy.specs.declared.rule.Action.{Action};
 ghost use Rattle.acl_policy.specs.Matching.{IsRuling};
-ghost use Rattle.acl_policy.specs.Rules.{rule_facts};
+ghost use Rattle.acl_policy.specs.Rules.{most_rules, rule_facts};
 ghost use Rattle.packet_view.specs.Tuples.{tuple_facts};
 ghost use Rattle.rule_index.specs.inner.Candidates.{AllSift};
 ghost use Rattle.rule_index.specs.declared.dimension.Dimension.TheVariants.{Dest, First, Protocol, Second, Source};
@@ -81,6 +81,7 @@ fn lookup_protocol(tuple: &Tuple) -> u128
 impl RuleIndex {
     /// The index of some rules. It takes memory, and no lookup in it does.
     pub fn new(alloc: Global, rules: &[Rule]) -> Result<RuleIndex, AllocError>
+        requires { length rules.now ≤ most_rules }
         ensures { IfOk result (λ index. index.rules.items ≡ rules.now) }
     {
         let source = Column::of_rules(alloc, rules, Dimension::Source)?;

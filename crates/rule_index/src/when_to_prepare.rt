@@ -1,6 +1,6 @@
 //! When to prepare rules.
 ghost use Rattle.std.specs.Prelude.{◌↔◌, IsTrue};
-ghost use Rattle.rule_index.specs.Worth.{IsWorthPreparing};
+ghost use Rattle.rule_index.specs.inner.Worth.{IsWorthPreparing};
 
 /// Whether rules are to be prepared for this many packets.
 ///

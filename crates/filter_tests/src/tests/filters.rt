@@ -58,7 +58,7 @@ fn many_filter_rules(alloc: Global) -> Result<Vec<u8>, AllocError> {
     Ok(text)
 }
 
-/// A filter's inbound rules, searched one by one and by their index.
+/// A filter's inbound rules, searched one by one and by their index, which is made for any number of packets.
 #[test]
 fn prepared_rules_decide_as_the_listed_ones(rt: HostRuntime) -> Result<(), Fail> {
     let Ok(text) = many_filter_rules(rt.alloc()) else {
@@ -67,7 +67,7 @@ fn prepared_rules_decide_as_the_listed_ones(rt: HostRuntime) -> Result<(), Fail>
     let Some(filter) = filter_of(rt.alloc(), text.as_slice()) else {
         return filter_test_refused();
     };
-    let Ok(prepared) = filter.prepare(rt.alloc(), 10_000) else {
+    let Ok(prepared) = filter.prepare(rt.alloc(), usize::MAX) else {
         return filter_test_refused();
     };
     let Some(first) = prepared.first() else {

@@ -23,15 +23,9 @@ fn no_rules(rt: HostRuntime) -> Result<(), Fail> {
 /// An index finds the first of several equal rules, in the second word of the rows too.
 #[test]
 fn first_of_equal_rules(rt: HostRuntime) -> Result<(), Fail> {
-    let mut rules = Vec::new(rt.alloc());
-    for number in 0..140u8 {
-        let (action, proto) = if number < 70 {
-            (Action::Deny, 6)
-        } else {
-            (Action::Permit, 17)
-        };
-        let next = rule(action, proto, EVERY, EVERY, (0, 0));
-        rules.push(next)?;
+    let mut rules = [rule(Action::Deny, 6, EVERY, EVERY, (0, 0)); 140];
+    for number in 70..140 {
+        rules[number] = rule(Action::Permit, 17, EVERY, EVERY, (0, 0));
     }
     let Ok(index) = RuleIndex::new(rt.alloc(), &rules) else {
         return filter_test_refused();

@@ -98,7 +98,7 @@ fn a_line_at_fault_leaves_the_policy(rt: HostRuntime) -> Result<(), Fail> {
     read_policy_line(rt.alloc(), &mut draft, b"mac 02:00:00:00:00:01", 1)?;
     let second = read_policy_line(rt.alloc(), &mut draft, b"mac 02:00:00:00:00:02", 2);
     assert!(rt; second == Err(PolicyFault::BadLine(2)));
-    read_policy_line(rt.alloc(), &mut draft, b"in deny ipv4 any any", 3)?;
+    read_policy_line(rt.alloc(), &mut draft, b"in deny ipv4 any any", u64::MAX)?;
     assert!(rt; draft.current.own == Some(Mac([2, 0, 0, 0, 0, 1])));
     assert!(rt; draft.current.inbound.len() == 1);
     Ok(())

@@ -1,6 +1,6 @@
 //! Columns made of ranges, and read at a number.
-ghost use Rattle.std.specs.Prelude.{IfOk, IfSome, List, map};
-ghost use Rattle.acl_policy.specs.Rules.{RuleFacts, rule_facts};
+ghost use Rattle.std.specs.Prelude.{◌≤◌, IfOk, IfSome, List, length, map};
+ghost use Rattle.acl_policy.specs.Rules.{RuleFacts, most_rules, rule_facts};
 ghost use Rattle.packet_view.specs.Tuples.{TupleFacts};
 ghost use Rattle.rule_index.specs.inner.Columns.{Holds};
 ghost use Rattle.rule_index.specs.declared.dimension.Dimension.{Dimension};
@@ -20,13 +20,12 @@ use std::alloc::{AllocError, Global};
 impl Column {
     /// Builds the column of some ranges.
     pub fn new(alloc: Global, ranges: &[(u128, u128)]) -> Result<Column, AllocError>
+        requires { length ranges.now ≤ most_rules }
         ensures { IfOk result (Holds ranges.now) }
     {
         let starts = starts_of(alloc, ranges)?;
         let width = words_for(ranges.len());
-        let Some(words) = starts.len().checked_mul(width) else {
-            return Err(AllocError);
-        };
+        let words = starts.len() * width;
         let mut rows = Vec::from_elem(alloc, 0u64, words)?;
         fill(&mut rows, &starts, width, ranges);
         Ok(Column {
@@ -42,6 +41,7 @@ impl Column {
         rules: &[Rule],
         dimension: Dimension,
     ) -> Result<Column, AllocError>
+        requires { length rules.now ≤ most_rules }
         ensures { IfOk result (Sieves dimension (map rule_facts rules.now)) }
     {
         let ranges = ranges_of(alloc, rules, dimension)?;

@@ -1,5 +1,5 @@
 //! Where the intervals of a column begin.
-ghost use Rattle.std.specs.Prelude.{IfOk};
+ghost use Rattle.std.specs.Prelude.{◌≤◌, ◌+◌, ◌*◌, IfOk, length};
 ghost use Rattle.rule_index.specs.Rows.{AreStarts, IsPlace};
 
 use std::alloc::{AllocError, Global};
@@ -23,7 +23,8 @@ pub fn place(starts: &[u128], x: u128) -> usize
 
 /// An interval begins at 0, where a range begins, and after its end.
 pub fn starts_of(alloc: Global, ranges: &[(u128, u128)]) -> Result<Vec<u128>, AllocError>
-    ensures { IfOk result (λ starts. AreStarts starts.items) }
+    ensures starts { IfOk result (λ starts. AreStarts starts.items) }
+    ensures few { IfOk result (λ starts. length starts.items ≤ 2 * length ranges.now + 1) }
 {
     let mut bounds = Vec::new(alloc);
     for range in ranges {
@@ -38,16 +39,18 @@ pub fn starts_of(alloc: Global, ranges: &[(u128, u128)]) -> Result<Vec<u128>, Al
 
 /// The starts of intervals: 0, and then each number that is above all before it.
 fn distinct(alloc: Global, bounds: &[u128]) -> Result<Vec<u128>, AllocError>
-    ensures { IfOk result (λ starts. AreStarts starts.items) }
+    ensures starts { IfOk result (λ starts. AreStarts starts.items) }
+    ensures few { IfOk result (λ starts. length starts.items ≤ length bounds.now + 1) }
 {
     let mut starts = Vec::new(alloc);
     starts.push(0)?;
     let mut last = 0;
     for bound in bounds {
-        if last < *bound {
-            starts.push(*bound)?;
-            last = *bound;
+        if *bound <= last {
+            continue;
         }
+        starts.push(*bound)?;
+        last = *bound;
     }
     Ok(starts)
 }

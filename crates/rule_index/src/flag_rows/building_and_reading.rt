@@ -1,7 +1,7 @@
 //! Rows for flags, made of rules and read at a value.
 ghost use Rattle.std.specs.Prelude.{◌≡◌, ◌≢◌, ◌≤◌, ◌<◌, ◌*◌, ◌/◌, ℕ, IfOk, IfSome, IsTrue, List, Some, length, map, slice_get};
 ghost use Rattle.acl_policy.specs.Matching.{Matches};
-ghost use Rattle.acl_policy.specs.Rules.{RuleFacts, rule_facts};
+ghost use Rattle.acl_policy.specs.Rules.{RuleFacts, most_rules, rule_facts};
 ghost use Rattle.packet_view.specs.Tuples.{TupleFacts};
 ghost use Rattle.rule_index.specs.FlagBits.{HaveFree, SievesFlags};
 ghost use Rattle.rule_index.specs.Flagged.{IsFlagsOf};
@@ -87,13 +87,11 @@ fn fill(rows: &mut [u64], width: usize, rules: &[Rule])
 impl FlagRows {
     /// Builds the rows that some rules have for flags.
     pub fn of_rules(alloc: Global, rules: &[Rule]) -> Result<FlagRows, AllocError>
+        requires { length rules.now ≤ most_rules }
         ensures { IfOk result (SievesFlags (map rule_facts rules.now)) }
     {
         let width = words_for(rules.len());
-        let Some(words) = 256usize.checked_mul(width) else {
-            return Err(AllocError);
-        };
-        let mut rows = Vec::from_elem(alloc, 0u64, words)?;
+        let mut rows = Vec::from_elem(alloc, 0u64, 256 * width)?;
         fill(&mut rows, width, rules);
         Ok(FlagRows { width, rows })
     }

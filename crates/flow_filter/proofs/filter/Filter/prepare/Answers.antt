@@ -3,7 +3,7 @@ use Rattle.std.specs.List.{AllZip}
 use Rattle.std.proofs.lemmas.List.{take_more}
 use Rattle.std.proofs.lemmas.Slice.Zip.{all_zipped_more}
 use Rattle.acl_policy.specs.declared.policy.Section.{Section}
-use Rattle.flow_filter.specs.RuleIndexes.{ArePrepared, ArePreparedFor}
+use Rattle.flow_filter.specs.RuleIndexes.{ArePrepared}
 use Rattle.flow_filter.specs.declared.rule_indexes.RuleIndexes.{RuleIndexes}
 use Rattle.flow_filter.proofs.filter.Filter.prepare.Goals as goal
 
@@ -26,10 +26,5 @@ loop-section-preserved c =
     let more : take (i + 1) sections ≡ take i sections ++ section ∷ [] =
     take_more sections i section (omega (arith, ap length same))
     ∙ ap (λ (s : Section). take i sections ++ s ∷ []) (sym read) in
-    record {
-      indexes = one_more ArePrepared sections i section c.loop-section.all.items _ c.in_ok-prepare_section.field-0 more
-          c.in_ok-push.ensures.items c.loop-section.invariant.indexes c.in_ok-prepare_section.ensures.indexes;
-      when = one_more (ArePreparedFor c.args.packets) sections i section c.loop-section.all.items _
-          c.in_ok-prepare_section.field-0 more c.in_ok-push.ensures.items c.loop-section.invariant.when
-          c.in_ok-prepare_section.ensures.when;
-    }
+    one_more ArePrepared sections i section c.loop-section.all.items _ c.in_ok-prepare_section.field-0 more
+    c.in_ok-push.ensures.items c.loop-section.invariant c.in_ok-prepare_section.ensures

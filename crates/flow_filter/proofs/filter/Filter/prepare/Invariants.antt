@@ -1,11 +1,8 @@
 use Rattle.std.proofs.Common.{take}
 use Rattle.std.specs.List.{AllZip}
-use Rattle.flow_filter.specs.RuleIndexes.{ArePrepared, ArePreparedFor}
+use Rattle.flow_filter.specs.RuleIndexes.{ArePrepared}
 use Rattle.flow_filter.proofs.filter.Filter.prepare.Given as goal
 
 -- the rules of the sections so far are prepared
 abbrev pub invariant-loop-section : goal.invariant-loop-section
-invariant-loop-section l = record {
-  indexes : AllZip ArePrepared (take l.section-index l.self.policy.sections.items) l.all.items;
-  when : AllZip (ArePreparedFor l.packets) (take l.section-index l.self.policy.sections.items) l.all.items;
-}
+invariant-loop-section l = AllZip ArePrepared (take l.section-index l.self.policy.sections.items) l.all.items

@@ -1,4 +1,4 @@
--- When rules are prepared.
+-- When rules are prepared, by measurement. That is no promise.
 use Rattle.std.specs.Prelude.{◌<◌, ℕ, ◌+◌, ◌/◌}
 
 -- so many rules are prepared for so many packets
