@@ -201,7 +201,7 @@ fn judge_digit_content<T: Threads + Wait + Sync>(
     ensures fault { IfErr result (λ fault. (fault ≡ Memory) ⊎ IsFaultOfContent form content.now fault) }
 {
     let Plan { beside, manner } = plan;
-    let Ok((tables, callers)) = create_sized(alloc, options.tables) else {
+    let Ok((tables, callers)) = create_sized(alloc, options.tables, options.ages) else {
         return Err(Fault::Memory);
     };
     let Ok(workers) = SizedWorkers::new(rt, alloc, manner, &tables, callers) else {

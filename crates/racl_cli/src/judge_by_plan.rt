@@ -69,7 +69,7 @@ fn judge_planned<R: Source + Send, T: Threads + Wait + Sync>(
     ensures within { HasReadWithin R.bytes R.failures (most_bytes + 1 - length opening.bytes.items) reader.old reader.new result }
 {
     let Plan { beside, manner } = plan;
-    let Ok((tables, callers)) = create_sized(alloc, options.tables) else {
+    let Ok((tables, callers)) = create_sized(alloc, options.tables, options.ages) else {
         return Err(Fault::Memory);
     };
     let Ok(workers) = SizedWorkers::new(rt, alloc, manner, &tables, callers) else {

@@ -44,7 +44,7 @@ fn tell_capture<R: Source, W: Sink, T: Wait>(
     ensures read { MatchResult result (λ _. R.failures reader.new ≡ R.failures reader.old) (λ fault. R.failures reader.new ≡ with_read (R.failures reader.old) fault) }
     ensures write { MatchResult result (λ _. W.failures writer.new ≡ W.failures writer.old) (λ fault. W.failures writer.new ≡ with_write (W.failures writer.old) fault) }
 {
-    let Ok((tables, callers)) = create_sized(alloc, options.tables) else {
+    let Ok((tables, callers)) = create_sized(alloc, options.tables, true) else {
         return Err(Fault::Memory);
     };
     let manner = Manner {

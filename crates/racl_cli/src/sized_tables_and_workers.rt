@@ -1,15 +1,19 @@
 //! Session tables of the size that the words ask for, and workers over them.
 ghost use Rattle.std.specs.Prelude.{[], ◌≡◌, ◌≤◌, IfOk};
+ghost use Rattle.bihash_words.specs.Sizes.{IsSound, sizes_of};
 ghost use Rattle.packet_dealing.specs.declared.dealing.Dealing.TheVariants.{Bucket};
 ghost use Rattle.racl_views.specs.Stored.{stored_facts};
-ghost use Rattle.racl_cli.specs.Crews.{AreAfter, AreFirstOf, AreIdleOf, HasFollowedAlone, HaveEndedOn, HaveJudgedSome, MayFollowAlone};
+ghost use Rattle.racl_cli.specs.Crews.{AreAfter, AreFirst, AreFirstOf, AreIdleOf, HasFollowedAlone, HaveEndedOn, HaveJudgedSome, MayFollowAlone};
 ghost use Rattle.racl_cli.specs.Crews.{orders_for, size_of, views_with};
 ghost use Rattle.racl_cli.specs.Runs.{AreStoredOf, layout_for};
 
 use crate::open_gate::OpenGate;
 use bihash_words::{Shape, ShapeV4, ShapeV6, flow_shapes_are_sound};
 use flow_filter::InterfaceFilters;
-use flow_workers::{Callers, Dealing, Setup, Tables, Workers, close_tables, create_tables};
+use flow_workers::{
+    Callers, Dealing, RunFault, Setup, Tables, Workers, close_tables, create_cutting_tables,
+    create_tables,
+};
 use large_shapes::{LargeV4, LargeV6, large_shapes_are_sound};
 use packet_view::Packets;
 use racl_options::TableSize;
@@ -74,10 +78,28 @@ pub enum SizedWorkers<'t, 'f, T: Wait> {
     Large(Workers<'t, 'f, LargeV4, LargeV6, T, OpenGate>),
 }
 
-/// New tables of this size, and callers of both families' that made no call. An error says that memory was refused.
+// New tables, and callers of both families' that made no call. Tables that cut blocks give a larger returned one in parts where
+// no other is left.
+fn created<A: Shape, B: Shape>(
+    alloc: Global,
+    cuts: bool,
+) -> Result<(Tables<A, B>, Callers<A, B>), RunFault>
+    requires four { IsSound (sizes_of A.Shape) }
+    requires six { IsSound (sizes_of B.Shape) }
+    ensures { IfOk result (λ r. AreFirst r.0 r.1) }
+{
+    if cuts {
+        return create_cutting_tables(alloc);
+    }
+    create_tables(alloc)
+}
+
+/// New tables of this size, which perhaps cut blocks, and callers of both families' that made no call. An error says that
+/// memory was refused.
 pub fn create_sized(
     alloc: Global,
     size: TableSize,
+    cuts: bool,
 ) -> Result<(SizedTables, SizedCallers), AllocError>
     ensures first { IfOk result (λ r. AreFirstOf r.0 r.1) }
     ensures size { IfOk result (λ r. size_of r.0 ≡ size) }
@@ -85,7 +107,7 @@ pub fn create_sized(
     match size {
         TableSize::Standard => {
             flow_shapes_are_sound();
-            match create_tables(alloc) {
+            match created(alloc, cuts) {
                 Ok((tables, callers)) => Ok((
                     SizedTables::Standard(tables),
                     SizedCallers::Standard(callers),
@@ -95,7 +117,7 @@ pub fn create_sized(
         }
         TableSize::Large => {
             large_shapes_are_sound();
-            match create_tables(alloc) {
+            match created(alloc, cuts) {
                 Ok((tables, callers)) => Ok((
                     SizedTables::Large(tables),
                     SizedCallers::Large(callers),
