@@ -1,8 +1,8 @@
 -- The bucket of a flow (this project's profile).
-use Rattle.std.specs.Prelude.{◌≡◌, ℕ, Option, None, Some}
+use Rattle.std.specs.Prelude.{◌≡◌, Option, None, Some}
 use Rattle.session_state.specs.declared.flow.Flow.{Flow}
 use Rattle.session_state.specs.declared.flow.FlowKey.{FlowKey}
-use Rattle.flow_filter.specs.OneThread.{Home, Layout, home_of}
+use Rattle.flow_filter.specs.OneThread.{Layout, home_of}
 use Rattle.packet_dealing.specs.Dealings.{hash_in}
 use Rattle.flow_judge.specs.declared.packet_bucket.FlowBucket.{FlowBucket}
 

@@ -1,5 +1,4 @@
 -- What a judge of packets is, as contracts see it: what it judges by, its callers, and what it counted.
-use Rattle.std.specs.Prelude.{◌≡◌}
 use Rattle.acl_policy.specs.Policies.{PolicyFacts}
 use Rattle.bihash_steps.specs.Seats.{CallerState}
 use Rattle.session_state.specs.declared.timeouts.Timeouts.{Timeouts}

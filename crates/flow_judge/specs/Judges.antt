@@ -1,12 +1,10 @@
 -- What becomes of a judge: s is the judge before a call, t after it.
-use Rattle.std.specs.Prelude.{◌≡◌, ◌≢◌, ◌≤◌, ◌<◌, ◌⊎◌, ℕ, List, true, Result, IfOk, IfErr, is_ok}
+use Rattle.std.specs.Prelude.{◌≡◌, ◌≤◌, ◌<◌, ◌⊎◌, ℕ, List, true, Result, IfOk, IfErr, is_ok}
 use Rattle.packet_view.specs.Captures.{PacketFacts}
-use Rattle.acl_policy.specs.Policies.{IsPolicyText, PolicyFacts}
+use Rattle.acl_policy.specs.Policies.{IsPolicyText}
 use Rattle.bihash_words.specs.Sizes.{Sizes}
-use Rattle.bihash_words.specs.declared.patch.Reply.{Reply}
 use Rattle.bihash_words.specs.declared.shape.Shape.{Ghosts}
 use Rattle.bihash_rule.specs.Callers.{Agrees, IsLawfulCaller}
-use Rattle.bihash_rule.specs.declared.view.View.{View}
 use Rattle.bihash_steps.specs.CallerCalls.{IsJoined}
 use Rattle.bihash_steps.specs.Seats.{CallerState, with_view}
 use Rattle.bihash_steps.specs.Steps.{IsRefused, newcomer, parent}
@@ -14,7 +12,6 @@ use Rattle.bihash_steps.specs.declared.split_fault.SplitFault.{SplitFault}
 use Rattle.bihash_steps.specs.declared.split_fault.SplitFault.TheVariants.{Memory}
 use Rattle.session_state.specs.declared.timeouts.Timeouts.{Timeouts}
 use Rattle.flow_filter.specs.OneThread.{Layout, layout_of}
-use Rattle.session_state.specs.declared.verdict.Verdict.{Verdict}
 use Rattle.session_state.specs.declared.verdict.Verdict.TheVariants.{NoPages}
 use Rattle.flow_workers.specs.Callers.{first_views}
 use Rattle.flow_workers.specs.Judging.{IsJudged, IsPacketRefused, TookByOneTry}

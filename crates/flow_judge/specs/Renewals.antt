@@ -2,10 +2,10 @@
 use Rattle.std.specs.Prelude.{◌≡◌, ◌⊎◌}
 use Rattle.packet_view.specs.declared.tuple.Family.{Family}
 use Rattle.packet_view.specs.declared.tuple.Family.TheVariants.{V4, V6}
-use Rattle.bihash_words.specs.Sizes.{Sizes, sizes_of}
+use Rattle.bihash_words.specs.Sizes.{sizes_of}
 use Rattle.bihash_words.specs.declared.shape.Shape.{Ghosts}
 use Rattle.bihash_steps.specs.Renewals.{IsRenewed}
-use Rattle.bihash_steps.specs.Seats.{CallerState, with_view}
+use Rattle.bihash_steps.specs.Seats.{with_view}
 use Rattle.bihash_table.specs.Closing.{WasWhole}
 use Rattle.bihash_table.specs.Renewing.{IsRenewRefused}
 use Rattle.bihash_table.specs.declared.renew_fault.RenewFault.{RenewFault}

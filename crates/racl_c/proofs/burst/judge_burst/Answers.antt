@@ -1,5 +1,5 @@
 -- The frame is judged behind those before it, and answered at its place.
-use Rattle.std.proofs.Common.{◌≡◌, ◌≢◌, ◌∙◌, ap, arith, inl, inr, length, refl, slice_index_or, slice_set, subst, sym}
+use Rattle.std.proofs.Common.{◌≢◌, ◌∙◌, ap, arith, inl, inr, refl, subst, sym}
 use Rattle.std.proofs.lemmas.List.{get_or-set_same, length-set}
 use Rattle.racl_c.specs.declared.answer_numbers.Answer.{Answer}
 use Rattle.racl_c.proofs.BurstLemmas.{answer_before, answer_behind, are_judged_still, judged_here, judged_more, met_none_more}

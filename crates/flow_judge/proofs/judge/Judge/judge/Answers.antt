@@ -1,5 +1,5 @@
 -- The frame that was viewed is the packet's, and the filter at hand is that of the judge's policy at its interface.
-use Rattle.std.proofs.Common.{rules, ◌≡◌, ◌∙◌, ap, refl, subst, sym}
+use Rattle.std.proofs.Common.{rules, ◌≡◌, ◌∙◌, ap, subst, sym}
 use Rattle.packet_view.specs.Captures.{PacketFacts}
 use Rattle.acl_policy.specs.Policies.{PolicyFacts, SectionFacts, policy_facts, section_of}
 use Rattle.flow_filter.specs.Readings.{IsSeenAt}
