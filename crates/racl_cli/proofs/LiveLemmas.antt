@@ -1,7 +1,7 @@
 -- A run over a capture that is told while it comes.
 use Rattle.std.specs.Io.KnownBytes.{Appends}
 use Rattle.std.proofs.KnownBytes.{Consumes-all, Consumes-trans}
-use Rattle.std.proofs.Common.{◌≡◌, ◌∙◌, ◌≤◌, ◌++◌, ℕ, List, [], Option, ap, arith, inl, inr, refl, subst, sym, drop}
+use Rattle.std.proofs.Common.{◌≡◌, ◌∙◌, ◌≤◌, ◌++◌, ℕ, List, [], Option, ap, arith, inl, inr, refl, subst, sym, drop, true}
 use Rattle.std.proofs.lemmas.List.{drop_all, length-map}
 use Rattle.packet_view.specs.Captures.{AreRecords, PacketFacts, packet_at, packets_at}
 use Rattle.packet_view.specs.declared.capture.Order.{Order}
@@ -9,9 +9,6 @@ use Rattle.packet_view.proofs.FrontLemmas.{behind_header_appended, header_append
 use Rattle.acl_policy.specs.Policies.{IsPolicyText, PolicyFacts, policy_facts}
 use Rattle.flow_filter.specs.declared.interface_filters.InterfaceFilters.{InterfaceFilters}
 use Rattle.session_state.specs.declared.verdict.Verdict.{Verdict}
-use Rattle.flow_dealing.specs.WorkerRecords.{AreJudged, HavePages}
-use Rattle.flow_dealing.proofs.FewPackets.{pages_for_few}
-use Rattle.flow_dealing.proofs.OneReport.{one_report}
 use Rattle.flow_workers.proofs.AloneLemmas.{alone_begun}
 use Rattle.racl_options.specs.declared.settings.Options.{Options}
 use Rattle.racl_io.specs.declared.fault.Fault.{Fault}
@@ -20,12 +17,11 @@ use Rattle.racl_io.specs.Reports.{report_of, totals_of}
 use Rattle.capture_stream.specs.Lives.{HasToldAll, told_alone}
 use Rattle.racl_cli.specs.Crews.{AreResting, AreSaid, IsRestingAlone, Orders, orders_for, orders_of, size_of}
 use Rattle.racl_cli.specs.LiveRuns.{ByOneWorker, HasRunLive, IsEarlyFault}
-use Rattle.racl_cli.specs.Runs.{ByOneThread, bucket_deal}
 use Rattle.racl_cli.specs.inner.Heads.{HasReadHeader, IsHeadless}
 use Rattle.racl_cli.specs.declared.sized_tables_and_workers.SizedTables.{SizedTables}
 use Rattle.racl_cli.specs.declared.sized_tables_and_workers.SizedWorkers.{SizedWorkers}
 use Rattle.racl_cli.specs.declared.sized_tables_and_workers.SizedWorkers.TheVariants.{Standard, Large}
-use Rattle.racl_cli.proofs.OutcomeLemmas.{given_by_workers, judged_as}
+use Rattle.racl_cli.proofs.OutcomeLemmas.{by_one, given_by_workers, judged_as}
 
 -- a worker that begins alone
 pub begun_alone : {T : Type 0} (workers : SizedWorkers T) → (orders_of workers).deal.workers ≡ 1 → AreResting [] workers → IsRestingAlone [] [] workers
@@ -34,19 +30,13 @@ begun_alone (Large workers) one rest = alone_begun _ _ workers one rest
 
 -- what one worker said
 pub by_one_worker : (options : Options) (ready : InterfaceFilters) (tables : SizedTables) (orders : Orders) (packets : List PacketFacts)
-    (verdicts : List Verdict) → orders ≡ orders_for tables ready 1 → size_of tables ≡ options.tables
+    (verdicts : List Verdict) → orders ≡ orders_for tables ready 1 true → size_of tables ≡ options.tables
     → ready.times ≡ options.times → 1 ≤ options.workers → AreSaid orders packets verdicts → ByOneWorker options (policy_facts ready.policy.now) packets verdicts
 by_one_worker options ready tables orders packets verdicts given sized same some said =
     let policy = policy_facts ready.policy.now in
-    let judged : AreJudged (bucket_deal options.tables 1) ready.times policy packets verdicts =
-    (judged_as packets verdicts said.views orders tables options.tables ready 1 given sized (said, refl)).0 in
-    record {
-      judged = subst (λ t. AreJudged (bucket_deal options.tables 1) t policy packets verdicts) same judged;
-      by_workers = (given_by_workers options ready.times policy packets verdicts judged.views 1 same (omega arith) some (judged, refl) (pages_for_few _ _ _ _ _)).0;
-      by_one_thread =
-          subst (λ t. HavePages verdicts → ByOneThread options.tables t policy packets verdicts) same
-          (one_report _ _ _ _ _ judged (inl refl));
-    }
+    let judged = judged_as packets verdicts said.0 orders tables options.tables ready 1 true given sized said.1 in
+    let by = given_by_workers options ready.times true policy packets verdicts said.0 1 same (omega arith) some judged in
+    record { by_workers = by.0; one = by.2; by_one_thread = by_one options true policy packets verdicts by.0 }
 
 -- the header has the fault, or couldn't be read
 pub early_fault : (text : List ℕ) (before after : Option (List ℕ)) (fault : Fault) (policy : PolicyFacts) → IsPolicyText text policy → IsHeadless before after fault

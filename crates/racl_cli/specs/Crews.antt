@@ -1,5 +1,5 @@
 -- Tables of the size that the words ask for, and workers over them after the packets that they judged.
-use Rattle.std.specs.Prelude.{◌≡◌, ◌+◌, ◌++◌, ◌<◌, ◌^◌, ℕ, List, length}
+use Rattle.std.specs.Prelude.{◌≡◌, ◌+◌, ◌++◌, ◌<◌, ◌^◌, ℕ, Bool, List, length}
 use Rattle.packet_view.specs.Captures.{PacketFacts}
 use Rattle.packet_view.specs.CheckedCaptures.{remaining}
 use Rattle.packet_view.specs.declared.packets.Packets.{Packets}
@@ -11,7 +11,7 @@ use Rattle.flow_filter.specs.declared.interface_filters.InterfaceFilters.{Interf
 use Rattle.session_state.specs.declared.verdict.Verdict.{Verdict}
 use Rattle.packet_dealing.specs.Dealings.{Deal}
 use Rattle.flow_dealing.specs.Views.{Views}
-use Rattle.flow_dealing.specs.WorkerRecords.{AreJudged, AreJudgedBy}
+use Rattle.flow_dealing.specs.WorkerRecords.{AreJudgedAgeing}
 use Rattle.flow_workers.specs.Callers.{AreIdle, first_views, views_of}
 use Rattle.flow_workers.specs.Progress.{AreAtRest, IsAlone}
 use Rattle.flow_workers.specs.declared.session_tables.Callers.{Callers}
@@ -63,16 +63,23 @@ views_with (called.Large callers) = views_in callers
 
 -- ---- workers
 
--- what workers judge by: their tables, how packets are dealt to them, how long sessions live, and the rules
+-- what workers judge by: their tables, how packets are dealt to them, how long sessions live, whether those that have ended are
+-- removed, and the rules
 pub record Orders : Type 0 where
   pub tables : SizedTables
   pub deal : Deal
   pub times : Timeouts
+  pub ages : Bool
   pub policy : PolicyFacts
 
-abbrev pub orders_for : SizedTables → InterfaceFilters → ℕ → Orders
-orders_for tables filter workers =
-    record { tables = tables; deal = bucket_deal (size_of tables) workers; times = filter.times; policy = policy_facts filter.policy.now }
+abbrev pub orders_for : SizedTables → InterfaceFilters → ℕ → Bool → Orders
+orders_for tables filter workers ages = record {
+  tables = tables;
+  deal = bucket_deal (size_of tables) workers;
+  times = filter.times;
+  ages = ages;
+  policy = policy_facts filter.policy.now;
+}
 
 -- those of workers whatever the size of their tables
 abbrev orders_in : {A B R G K L : Type 0} {ga : Ghosts A K} {gb : Ghosts B L} → SizedTables → Workers A B R G K L ga gb → Orders
@@ -80,6 +87,7 @@ orders_in {ga = ga} {gb = gb} tables workers = record {
   tables = tables;
   deal = record { layout = layout_of ga gb; dealing = workers.setup.dealing; workers = workers.setup.workers };
   times = workers.setup.filter.now.times;
+  ages = workers.setup.ages;
   policy = policy_facts workers.setup.filter.now.policy.now;
 }
 
@@ -101,14 +109,18 @@ pub record AreAfter {T : Type 0} (orders : Orders) (packets : List PacketFacts) 
 abbrev pub HaveJudgedSome : {T : Type 0} → SizedWorkers T → Type 0
 HaveJudgedSome workers = (packets : List PacketFacts) × AreResting packets workers
 
--- the verdicts on these packets by workers with these orders
+-- the verdicts on these packets by workers with these orders, who know this then
+abbrev pub AreSaidKnowing : Orders → List PacketFacts → List Verdict → Views → Type 0
+AreSaidKnowing orders packets verdicts views = AreJudgedAgeing orders.deal orders.times orders.ages orders.policy packets verdicts views
+
+-- so they are, whatever the workers know then
 abbrev pub AreSaid : Orders → List PacketFacts → List Verdict → Type 0
-AreSaid orders packets verdicts = AreJudged orders.deal orders.times orders.policy packets verdicts
+AreSaid orders packets verdicts = (views : Views) × AreSaidKnowing orders packets verdicts views
 
 -- callers of their tables that hold nothing, and these are the verdicts on these packets by workers who knew what the callers know
 pub record AreSaidBy (orders : Orders) (packets : List PacketFacts) (verdicts : List Verdict) (callers : SizedCallers) : Type 0 where
   pub idle : AreIdleOf orders.tables callers
-  pub said : AreJudgedBy orders.deal orders.times orders.policy packets verdicts (views_with callers)
+  pub said : AreSaidKnowing orders packets verdicts (views_with callers)
 
 -- these are the verdicts on the packets that they judged, and their callers
 abbrev pub HaveEndedOn : {T : Type 0} → SizedWorkers T → List Verdict → SizedCallers → Type 0

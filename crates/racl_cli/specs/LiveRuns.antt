@@ -1,5 +1,5 @@
--- A run over a capture that is told while it comes: its policy is text of its own.
-use Rattle.std.specs.Prelude.{◌≡◌, ◌<◌, ◌⊎◌, ℕ, Bool, List, ◌∷◌, [], None, Option, IfSome, length}
+-- A run over a capture that is told while it comes: its policy is text of its own, and sessions that have ended are removed.
+use Rattle.std.specs.Prelude.{◌≡◌, ◌<◌, ◌⊎◌, ℕ, Bool, true, List, ◌∷◌, [], None, Option, IfSome, length}
 use Rattle.std.specs.Io.KnownBytes.{Appends, Consumes, IsAtEnd}
 use Rattle.packet_view.specs.Captures.{HasFileHeader, IsCaptureAt, IsHeaderFault, PacketFacts, end_of}
 use Rattle.packet_view.specs.declared.capture.CaptureFault.{CaptureFault}
@@ -7,7 +7,7 @@ use Rattle.packet_view.specs.declared.capture.Order.{Order}
 use Rattle.acl_policy.specs.Policies.{IsPolicyFault, IsPolicyText, PolicyFacts}
 use Rattle.acl_policy.specs.declared.policy.PolicyFault.{PolicyFault}
 use Rattle.session_state.specs.declared.verdict.Verdict.{Verdict}
-use Rattle.flow_dealing.specs.WorkerRecords.{AreJudged, HavePages}
+use Rattle.flow_dealing.specs.WorkerRecords.{HavePages}
 use Rattle.racl_options.specs.declared.settings.Options.{Options}
 use Rattle.racl_io.specs.declared.fault.Fault.{Fault}
 use Rattle.racl_io.specs.declared.fault.Fault.TheVariants.{Memory, Read}
@@ -16,14 +16,15 @@ use Rattle.racl_io.specs.Faults.{capture_fault, policy_fault}
 use Rattle.racl_io.specs.Reports.{report_of, totals_of}
 use Rattle.racl_io.specs.Transfers.{GaveAtMost}
 use Rattle.capture_stream.specs.Lives.{IsLiveFault}
-use Rattle.racl_cli.specs.Runs.{ByOneThread, ByWorkers, bucket_deal}
+use Rattle.racl_cli.specs.Runs.{AgeInTime, ByOneThread, ByWorkers}
 use Rattle.racl_report.specs.ReadInputs.{told_of}
 
--- one worker gave these verdicts, and they are the one-thread filter's where none says no-pages
+-- One worker that ages gave these verdicts. They are those of the one-thread filter, which forgets nothing, where none of them
+-- says no-pages, and ageing is in time.
 pub record ByOneWorker (options : Options) (policy : PolicyFacts) (packets : List PacketFacts) (verdicts : List Verdict) : Type 0 where
-  pub judged : AreJudged (bucket_deal options.tables 1) options.times policy packets verdicts
-  pub by_workers : ByWorkers options policy packets verdicts
-  pub by_one_thread : HavePages verdicts → ByOneThread options.tables options.times policy packets verdicts
+  pub by_workers : ByWorkers options true policy packets verdicts
+  pub one : by_workers.workers ≡ 1
+  pub by_one_thread : HavePages verdicts → AgeInTime by_workers → ByOneThread options.tables options.times policy packets verdicts
 
 -- a policy was read, and the header of the capture behind which the source has its records
 pub record HasHead (text : List ℕ) (before : Option (List ℕ)) : Type 0 where

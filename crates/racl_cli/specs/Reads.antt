@@ -23,18 +23,18 @@ use Rattle.racl_cli.specs.declared.input_front.Marked.{Marked}
 use Rattle.racl_cli.specs.declared.input_front.Opened.{Opened}
 use Rattle.racl_cli.specs.declared.input_front.Opened.TheVariants.{Bytes, Digits}
 use Rattle.racl_cli.specs.declared.input_front.Front.{Front}
-use Rattle.racl_cli.specs.Runs.{AreStoredOf, ByOneThread, ByWorkers, keeps_stored, layout_for}
+use Rattle.racl_cli.specs.Runs.{AgeInTime, AreStoredOf, ByOneThread, ByWorkers, keeps_stored, layout_for}
 use Rattle.racl_report.specs.ReadInputs.{IsRead, told_of}
 use Rattle.racl_report.specs.RunReports.{JudgedFacts}
 
 -- ---- what is answered of the bytes of an input
 
--- workers gave the verdicts on these packets, and these are the one-thread filter's where none says no-pages; the sessions
--- stood in the tables then
+-- workers gave the verdicts on these packets, and these are the one-thread filter's where none says no-pages and ageing is in
+-- time; the sessions stood in the tables then
 pub record IsReached (options : Options) (policy : PolicyFacts) (packets : List PacketFacts) (captures : List Captured) (judged : JudgedFacts) : Type 0 where
-  pub by_workers : ByWorkers options policy packets judged.outcome.verdicts
-  pub kept : keeps_stored options ≡ true → AreStoredOf (layout_for options.tables) by_workers.judged.views judged.stored
-  pub by_one_thread : HavePages judged.outcome.verdicts → ByOneThread options.tables options.times policy packets judged.outcome.verdicts
+  pub by_workers : ByWorkers options options.ages policy packets judged.outcome.verdicts
+  pub kept : keeps_stored options ≡ true → AreStoredOf (layout_for options.tables) by_workers.views judged.stored
+  pub by_one_thread : HavePages judged.outcome.verdicts → AgeInTime by_workers → ByOneThread options.tables options.times policy packets judged.outcome.verdicts
   pub told : judged.outcome.captures ≡ captures
 
 -- the bytes are an input, and its outcome is one that workers reached

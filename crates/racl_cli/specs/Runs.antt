@@ -11,7 +11,7 @@ use Rattle.flow_filter.specs.OneThread.{AreVerdicts, Layout}
 use Rattle.packet_dealing.specs.declared.dealing.Dealing.TheVariants.{Bucket}
 use Rattle.packet_dealing.specs.Dealings.{Deal}
 use Rattle.flow_dealing.specs.Views.{Views}
-use Rattle.flow_dealing.specs.WorkerRecords.{AreFew, AreJudged, HasPagesIn, HavePages}
+use Rattle.flow_dealing.specs.WorkerRecords.{AreFewBetween, AreInTimeOrder, AreJudgedAgeing, AreWithinLimit, HasPagesIn, HavePages}
 use Rattle.flow_workers.specs.Stored.{AreStored}
 use Rattle.racl_options.specs.declared.settings.Options.{Options}
 use Rattle.racl_options.specs.declared.settings.TableSize.{TableSize}
@@ -47,14 +47,23 @@ bucket_deal size workers = record { layout = layout_for size; dealing = Bucket; 
 abbrev pub ByOneThread : TableSize → Timeouts → PolicyFacts → List PacketFacts → List Verdict → Type 0
 ByOneThread size times policy packets verdicts = AreVerdicts (layout_for size) times policy packets verdicts
 
--- Those that some workers gave, and no more workers than the words ask for. No packet of a family's flows is refused
--- for want of pages where the family has at most 256 such packets for IPv4, 64 for IPv6; over large tables 4096 for each.
-pub record ByWorkers (options : Options) (policy : PolicyFacts) (packets : List PacketFacts) (verdicts : List Verdict) : Type 0 where
+-- Those that some workers gave who age or don't, and no more workers than the words ask for; and what they know then. No packet
+-- of a family's flows is refused for want of pages where the family has at most 256 such packets, and removals of sessions, for
+-- IPv4, 64 for IPv6; over large tables 4096 for each.
+pub record ByWorkers (options : Options) (ages : Bool) (policy : PolicyFacts) (packets : List PacketFacts) (verdicts : List Verdict) : Type 0 where
   pub workers : ℕ
   pub some : 1 ≤ workers
   pub few : workers ≤ options.workers
-  pub judged : AreJudged (bucket_deal options.tables workers) options.times policy packets verdicts
-  pub paged : (family : Family) → AreFew (layout_for options.tables) options.times family judged.judged → All (HasPagesIn options.times family) judged.judged
+  pub views : Views
+  pub said : AreJudgedAgeing (bucket_deal options.tables workers) options.times ages policy packets verdicts views
+  pub paged : (family : Family) → AreFewBetween (layout_for options.tables) options.times family said.removals said.judged.judged
+      → All (HasPagesIn options.times family) said.judged.judged
+
+-- where they age, the packets' moments never fall, and packets and removals are no more than the writes that a bucket may have
+abbrev pub AgeInTime : {options : Options} {ages : Bool} {policy : PolicyFacts} {packets : List PacketFacts} {verdicts : List Verdict}
+    → ByWorkers options ages policy packets verdicts → Type 0
+AgeInTime {options = options} {ages = ages} {packets = packets} by =
+    ages ≡ true → AreInTimeOrder packets × AreWithinLimit (bucket_deal options.tables by.workers) packets by.said.removals
 
 -- ---- sessions that stand in tables at the end
 
@@ -79,8 +88,9 @@ pub record HasOutcome (size : TableSize) (times : Timeouts) (bytes : List ℕ) (
 -- ---- runs
 
 -- An input was read, workers gave these verdicts on its packets, and after what was written before stands the report on it.
--- The verdicts are those of the one-thread filter where none of them says no-pages. The sessions that are told stood in the
--- tables when these workers had ended. Where it is known which bytes the reader gives, these are the input.
+-- The verdicts are those of the one-thread filter, which forgets nothing, where none of them says no-pages, and ageing is in
+-- time. The sessions that are told stood in the tables when these workers had ended. Where it is known which bytes the reader
+-- gives, these are the input.
 pub record HasRun (options : Options) (given old new : Option (List ℕ)) (totals : Totals) : Type 0 where
   pub bytes : List ℕ
   pub known : IfSome given (λ known. bytes ≡ known)
@@ -88,17 +98,18 @@ pub record HasRun (options : Options) (given old new : Option (List ℕ)) (total
   pub packets : List PacketFacts
   pub outcome : Outcome
   pub read : IsRead bytes policy packets outcome.captures
-  pub by_workers : ByWorkers options policy packets outcome.verdicts
+  pub by_workers : ByWorkers options options.ages policy packets outcome.verdicts
   pub stored : StoredFacts
-  pub kept : keeps_stored options ≡ true → AreStoredOf (layout_for options.tables) by_workers.judged.views stored
-  pub by_one_thread : HavePages outcome.verdicts → ByOneThread options.tables options.times policy packets outcome.verdicts
+  pub kept : keeps_stored options ≡ true → AreStoredOf (layout_for options.tables) by_workers.views stored
+  pub by_one_thread : HavePages outcome.verdicts → AgeInTime by_workers → ByOneThread options.tables options.times policy packets outcome.verdicts
   pub report : List ℕ
   pub told : IsReport options bytes policy packets (record { outcome = outcome; stored = stored }) report
   pub text : Appends old new report
   pub counted : totals ≡ totals_of outcome.verdicts outcome.captures
 
--- Bytes that are an input get the report on them: the outcome of the one-thread filter, or one of workers that says no-pages.
--- Or memory ran out or a device failed.
+-- Bytes that are an input get the report on them: the outcome of the one-thread filter, or one of workers that says no-pages or
+-- whose ageing isn't in time. Or memory ran out or a device failed.
 abbrev pub AnswersRight : Options → List ℕ → Option (List ℕ) → Option (List ℕ) → Result Totals Fault → Type 0
 AnswersRight options bytes old new result = (outcome : Outcome) → HasOutcome options.tables options.times bytes outcome
-    → MatchResult result (λ totals. (run : HasRun options (Some bytes) old new totals) × (HavePages run.outcome.verdicts → outcome ≡ run.outcome)) IsSystemFault
+    → MatchResult result (λ totals. (run : HasRun options (Some bytes) old new totals)
+    × (HavePages run.outcome.verdicts → AgeInTime run.by_workers → outcome ≡ run.outcome)) IsSystemFault

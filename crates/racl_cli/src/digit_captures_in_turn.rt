@@ -15,7 +15,7 @@ use crate::ended_workers::Ended;
 use crate::input_front::Marked;
 use crate::judge_by_plan::end_capture_by_plan;
 use crate::run_plan::{Plan, plan_for, threads_beside, window_size};
-use crate::sized_tables_and_workers::{SizedWorkers, create_sized};
+use crate::sized_tables_and_workers::{Manner, SizedWorkers, create_sized};
 use crate::stored_sessions::with_stored;
 use crate::workers_as_judges::Crew;
 use capture_stream::{HexDigits, Opening, Streamed, are_digits, judge_stream};
@@ -197,18 +197,14 @@ fn judge_digit_content<T: Threads + Wait + Sync>(
     content: &[u8],
 ) -> Result<Judged, Fault>
     requires { MayJudgeContent options.now plan form content.now }
-    ensures ok { IfOk result (HasReached options.now (policy_facts plan.entry.filter.now.policy.now) form content.now) }
+    ensures ok { IfOk result (HasReached options.now (policy_facts plan.entry.manner.filter.now.policy.now) form content.now) }
     ensures fault { IfErr result (λ fault. (fault ≡ Memory) ⊎ IsFaultOfContent form content.now fault) }
 {
-    let Plan {
-        beside,
-        filter,
-        workers,
-    } = plan;
+    let Plan { beside, manner } = plan;
     let Ok((tables, callers)) = create_sized(alloc, options.tables) else {
         return Err(Fault::Memory);
     };
-    let Ok(workers) = SizedWorkers::new(rt, alloc, filter, &tables, callers, workers) else {
+    let Ok(workers) = SizedWorkers::new(rt, alloc, manner, &tables, callers) else {
         return Err(Fault::Memory);
     };
     match judge_all(beside, Crew { alloc, workers }, form, content) {
@@ -238,10 +234,12 @@ pub fn judge_digit_captures<T: Threads + Wait + Sync>(
     let Ok(ready) = filter.ready_with(alloc, &prepared) else {
         return Err(Fault::Memory);
     };
-    let plan = Plan {
-        beside: threads_beside(rt, workers > 1),
+    let beside = threads_beside(rt, workers > 1);
+    let manner = Manner {
         filter: &ready,
         workers,
+        ages: options.ages,
     };
+    let plan = Plan { beside, manner };
     judge_digit_content(rt, alloc, options, plan, form, content)
 }

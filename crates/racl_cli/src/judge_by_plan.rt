@@ -12,7 +12,7 @@ ghost use Rattle.racl_cli.specs.Reads.{HasJudged, MayJudge};
 
 use crate::ended_workers::Ended;
 use crate::run_plan::{Plan, plan_for, threads_beside, window_size};
-use crate::sized_tables_and_workers::{SizedWorkers, create_sized};
+use crate::sized_tables_and_workers::{Manner, SizedWorkers, create_sized};
 use crate::stored_sessions::with_stored;
 use crate::workers_as_judges::Crew;
 use capture_stream::{Opening, Streamed, judge_stream};
@@ -64,19 +64,15 @@ fn judge_planned<R: Source + Send, T: Threads + Wait + Sync>(
 ) -> Result<Judged, Fault>
     requires may { MayJudgeBy options.now plan opening (R.bytes reader.old) }
     requires sound { R.failures reader.old < 2 ^ 64 - 1 }
-    ensures ok { IfOk result (HasJudged options.now (policy_facts plan.entry.filter.now.policy.now) opening (R.bytes reader.old) (R.bytes reader.new)) }
+    ensures ok { IfOk result (HasJudged options.now (policy_facts plan.entry.manner.filter.now.policy.now) opening (R.bytes reader.old) (R.bytes reader.new)) }
     ensures fault { IfErr result (IsStreamFault opening (R.bytes reader.old) (R.bytes reader.new)) }
     ensures within { HasReadWithin R.bytes R.failures (most_bytes + 1 - length opening.bytes.items) reader.old reader.new result }
 {
-    let Plan {
-        beside,
-        filter,
-        workers,
-    } = plan;
+    let Plan { beside, manner } = plan;
     let Ok((tables, callers)) = create_sized(alloc, options.tables) else {
         return Err(Fault::Memory);
     };
-    let Ok(workers) = SizedWorkers::new(rt, alloc, filter, &tables, callers, workers) else {
+    let Ok(workers) = SizedWorkers::new(rt, alloc, manner, &tables, callers) else {
         return Err(Fault::Memory);
     };
     let crew = Crew { alloc, workers };
@@ -115,8 +111,11 @@ pub fn judge_records<R: Source + Send, T: Threads + Wait + Sync>(
     };
     let plan = Plan {
         beside: threads_beside(rt, workers > 1),
-        filter: &ready,
-        workers,
+        manner: Manner {
+            filter: &ready,
+            workers,
+            ages: options.ages,
+        },
     };
     judge_planned(rt, alloc, options, reader, plan, opening)
 }

@@ -5,7 +5,7 @@ ghost use Rattle.capture_stream.specs.Lives.{HasToldAll, IsLiveFault, with_read,
 ghost use Rattle.racl_cli.specs.LiveRuns.{ByOneWorker, HasRunLive, IsLiveRunFault};
 
 use crate::capture_header_reading::read_header;
-use crate::sized_tables_and_workers::{SizedWorkers, create_sized};
+use crate::sized_tables_and_workers::{Manner, SizedWorkers, create_sized};
 use crate::workers_as_judges::Lone;
 use acl_policy::read_policy;
 use capture_stream::tell_live;
@@ -27,7 +27,8 @@ pub struct LiveHead<'t, 'f> {
     pub order: Order,
 }
 
-// In a live run one worker tells the packets of the capture behind its header while they come.
+// In a live run one worker tells the packets of the capture behind its header while they come. It removes sessions that have
+// ended, as the run may never end.
 fn tell_capture<R: Source, W: Sink, T: Wait>(
     rt: &T,
     alloc: Global,
@@ -46,15 +47,20 @@ fn tell_capture<R: Source, W: Sink, T: Wait>(
     let Ok((tables, callers)) = create_sized(alloc, options.tables) else {
         return Err(Fault::Memory);
     };
-    let Ok(workers) = SizedWorkers::new(rt, alloc, head.filter, &tables, callers, 1) else {
+    let manner = Manner {
+        filter: head.filter,
+        workers: 1,
+        ages: true,
+    };
+    let Ok(workers) = SizedWorkers::new(rt, alloc, manner, &tables, callers) else {
         return Err(Fault::Memory);
     };
     tell_live(alloc, reader, writer, Lone { alloc, workers }, head.order)
 }
 
 /// Filters a capture by this policy while it comes, and writes the report: after each read the lines of all packets whose
-/// records were read whole, and at its end what stands behind them. One worker judges, and keeps no verdict, so that a
-/// capture may be of any length. A fault leaves what was written.
+/// records were read whole, and at its end what stands behind them. One worker judges, which keeps no verdict and removes
+/// sessions that have ended, so that a capture may be of any length. A fault leaves what was written.
 pub fn run_live<R: Source, W: Sink, T: Wait>(
     rt: &T,
     alloc: Global,

@@ -1,5 +1,5 @@
 //! What the definitions of an input and its report say of all bytes at once.
-ghost use Rattle.std.specs.Prelude.{◌≡◌, ◌⊎◌, true, ℕ, List, Option};
+ghost use Rattle.std.specs.Prelude.{◌≡◌, ◌⊎◌, false, true, ℕ, List, Option};
 ghost use Rattle.packet_view.specs.Bytes.{AreBytes};
 ghost use Rattle.session_state.specs.declared.timeouts.Timeouts.{Timeouts};
 ghost use Rattle.flow_dealing.specs.WorkerRecords.{HavePages};
@@ -24,9 +24,10 @@ pub fn each_input_has_one_outcome()
         → HasOutcome size times bytes outcome → IsInputFault bytes fault → ⊥ }
 {}
 
-/// The sessions that are told of a run are those that the one-thread filter leaves, where no verdict says no-pages.
+/// The sessions that are told of a run that doesn't age are those that the one-thread filter leaves, where no verdict says
+/// no-pages.
 pub fn told_sessions_are_those_of_one_thread()
     ensures { (options : Options) (given old new : Option (List ℕ)) (totals : Totals) (run : HasRun options given old new totals)
-        → HavePages run.outcome.verdicts → keeps_stored options ≡ true
+        → options.ages ≡ false → HavePages run.outcome.verdicts → keeps_stored options ≡ true
         → AreLeftByOneThread (layout_for options.tables) options.times run.policy run.packets run.outcome.verdicts run.stored }
 {}

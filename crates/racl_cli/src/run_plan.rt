@@ -2,9 +2,8 @@
 ghost use Rattle.std.specs.Prelude.{◌≡◌, ◌≤◌, is_some};
 ghost use Rattle.capture_stream.specs.Streams.{IsSize};
 
-use crate::sized_tables_and_workers::MANY_PACKETS;
+use crate::sized_tables_and_workers::{MANY_PACKETS, Manner};
 use capture_stream::WindowSize;
-use flow_filter::InterfaceFilters;
 use racl_options::Options;
 
 /// How many bytes of an input are read at first for one worker.
@@ -72,10 +71,9 @@ pub fn plan_for(options: &Options, ended: bool, count: usize) -> (usize, usize)
     }
 }
 
-/// Who judges packets: so many workers, by rules that are ready.
+/// Who judges packets.
 pub struct Plan<'t, 'f, T> {
     /// Whose threads may read a window beside the one before.
     pub beside: Option<&'t T>,
-    pub filter: &'t InterfaceFilters<'f>,
-    pub workers: usize,
+    pub manner: Manner<'t, 'f>,
 }

@@ -21,27 +21,35 @@ use std::sync::Wait;
 /// From how many packets of a window on each worker judges them in a thread of its own.
 pub const MANY_PACKETS: usize = 49_152;
 
-// What so many workers share over tables of one of the sizes, who judge by this filter. Packets are dealt by bucket.
+/// What workers judge by, over tables of either size.
+#[derive(Clone, Copy)]
+pub struct Manner<'t, 'f> {
+    pub filter: &'t InterfaceFilters<'f>,
+    pub workers: usize,
+    /// Whether they remove sessions that have ended.
+    pub ages: bool,
+}
+
+// What workers share over tables of one of the sizes, who judge in this manner. Packets are dealt by bucket.
 fn setup_of<'t, 'f, A: Shape, B: Shape, T: Wait>(
     rt: &'t T,
-    filter: &'t InterfaceFilters<'f>,
+    manner: Manner<'t, 'f>,
     tables: &'t Tables<A, B>,
-    workers: usize,
 ) -> Setup<'t, 'f, A, B, T, OpenGate>
-    ensures filter { result.filter.now ≡ filter.now }
+    ensures filter { result.filter.now ≡ manner.entry.filter.now }
     ensures tables { result.tables.now ≡ tables.now }
     ensures dealing { result.dealing ≡ Bucket }
-    ensures workers { result.workers ≡ workers }
+    ensures manner { (result.workers ≡ manner.entry.workers) × (result.ages ≡ manner.entry.ages) }
 {
     Setup {
         rt,
         gate: &OpenGate,
-        filter,
+        filter: manner.filter,
         tables,
         dealing: Dealing::Bucket,
-        workers,
+        workers: manner.workers,
+        ages: manner.ages,
         many: MANY_PACKETS,
-        ages: false,
     }
 }
 
@@ -132,19 +140,18 @@ pub fn close_sized<T: Wait>(
 }
 
 impl<'t, 'f, T: Wait> SizedWorkers<'t, 'f, T> {
-    /// So many workers that judged no packet, and judge by this filter. The callers are of the tables, and made no call.
-    /// An error says that memory was refused.
+    /// Workers that judged no packet, and judge in this manner. The callers are of the tables, and made no call. An error
+    /// says that memory was refused.
     pub fn new(
         rt: &'t T,
         alloc: Global,
-        filter: &'t InterfaceFilters<'f>,
+        manner: Manner<'t, 'f>,
         tables: &'t SizedTables,
         callers: SizedCallers,
-        workers: usize,
     ) -> Result<SizedWorkers<'t, 'f, T>, AllocError>
         requires first { AreFirstOf tables.now callers }
-        requires count { (1 ≤ workers) × (workers ≤ 16) }
-        ensures { IfOk result (AreAfter (orders_for tables.now filter.now workers) []) }
+        requires count { (1 ≤ manner.workers) × (manner.workers ≤ 16) }
+        ensures { IfOk result (AreAfter (orders_for tables.now manner.entry.filter.now manner.entry.workers manner.entry.ages) []) }
     {
         match callers {
             SizedCallers::Standard(callers) => {
@@ -152,7 +159,7 @@ impl<'t, 'f, T: Wait> SizedWorkers<'t, 'f, T> {
                     unreachable!()
                 };
                 flow_shapes_are_sound();
-                match Workers::new(alloc, setup_of(rt, filter, tables, workers), callers) {
+                match Workers::new(alloc, setup_of(rt, manner, tables), callers) {
                     Ok(workers) => Ok(SizedWorkers::Standard(workers)),
                     Err(_) => Err(AllocError),
                 }
@@ -162,7 +169,7 @@ impl<'t, 'f, T: Wait> SizedWorkers<'t, 'f, T> {
                     unreachable!()
                 };
                 large_shapes_are_sound();
-                match Workers::new(alloc, setup_of(rt, filter, tables, workers), callers) {
+                match Workers::new(alloc, setup_of(rt, manner, tables), callers) {
                     Ok(workers) => Ok(SizedWorkers::Large(workers)),
                     Err(_) => Err(AllocError),
                 }

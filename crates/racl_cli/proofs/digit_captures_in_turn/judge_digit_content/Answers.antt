@@ -12,7 +12,7 @@ pub returns-in-Ok-judge_all-clause-ok : goal.returns-in-Ok-judge_all-clause-ok
 returns-in-Ok-judge_all-clause-ok g c =
     let options = c.args.options.now in
     let plan = c.args.plan in
-    let ready = plan.filter.now in
+    let ready = plan.manner.filter.now in
     let ended = c.in-Ok-judge_all.ended in
     let has = c.in-Ok-judge_all.ensures.ok in
     IfOk-weaker c.with_stored.result _ _
@@ -22,7 +22,7 @@ returns-in-Ok-judge_all-clause-ok g c =
       packets = has.packets;
       taken = subst (λ (cs : List Captured). HasPackets c.args.form c.args.content.now has.packets cs) same has.taken;
       reached = subst (λ (cs : List Captured). IsReached options (policy_facts ready.policy.now) has.packets cs judged) same
-          (reached_by options ready _ plan.workers _ has.packets ended judged c.requires.by.times c.requires.by.some c.requires.by.few
+          (reached_by options ready _ plan.manner.workers plan.manner.ages _ has.packets ended judged c.requires.by.times c.requires.by.some c.requires.by.few c.requires.by.ages
           c.in-Ok-new.ensures.given c.in-Ok.ensures.size has.said stored);
     })
     c.with_stored.ensures.ok

@@ -12,7 +12,7 @@ pub invariant_of-result : goal.invariant_of-result
 invariant_of-result g c =
     let amid = c.captures-2.invariant in
     let said = subst (λ o. AreSaidBy o amid.packets c.in-Ok.verdicts.items c.in-Ok.callers) amid.by (c.in-Ok.ensures amid.packets amid.rest) in
-    record { counted = amid.counted ∙ sym (judged_count _ _ _ amid.packets c.in-Ok.verdicts.items said.said.0) }
+    record { counted = amid.counted ∙ sym (judged_count _ _ _ amid.packets c.in-Ok.verdicts.items said.said.removals said.said.judged) }
 
 pub returns-clause-ok : goal.returns-clause-ok
 returns-clause-ok g c =

@@ -10,5 +10,5 @@ returns-in-Ok g c begun packets said is =
     record {
       stand = record { given = c.in-Ok.ensures.orders ∙ is.given; rest = c.in-Ok.ensures.rest packets said is.rest };
       judged = judged;
-      count = judged_count _ _ _ _ _ judged;
+      count = judged_count _ _ _ _ _ judged.1.removals judged.1.judged;
     }
