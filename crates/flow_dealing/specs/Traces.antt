@@ -5,7 +5,6 @@ use lib.ListN.{get_elem?}
 use mathlib.Core.Option.{some}
 use Rattle.packet_view.specs.Captures.{PacketFacts}
 use Rattle.packet_view.specs.Frames as frames
-use Rattle.packet_view.specs.declared.tuple.Family.{Family}
 use Rattle.acl_policy.specs.Policies.{PolicyFacts}
 use Rattle.bihash_rule.specs.Histories.{event_of}
 use Rattle.bihash_rule.specs.declared.view.Call.{Call}
@@ -16,7 +15,6 @@ use Rattle.flow_filter.specs.Updates.{Update, update_of}
 use Rattle.flow_filter.specs.Judged.{IsAsked, Judged, verdict_on}
 use Rattle.flow_filter.specs.OneThread.{Layout, home_of}
 use Rattle.packet_dealing.specs.Dealings.{Deal, flow_of_reading, flow_of_frame, worker_of}
-use Rattle.flow_dealing.specs.WorkerRecords.{add_in}
 
 -- a packet by its number, from 0, its reading, and the call that it made
 pub record Item : Type 0 where
@@ -40,11 +38,6 @@ pub record IsItemOf (d : Deal) (worker : ℕ) (policy : PolicyFacts) (packets : 
   pub there : slice_get packets i.packet ≡ Some packet
   pub read : IsReading policy packet i.reading
   pub dealt : worker_of d i.packet (flow_of_reading i.reading) ≡ worker
-
--- the calls on one family's table, in the order of the items
-abbrev pub calls_in : Timeouts → Family → List Item → List Call
-calls_in times family [] = []
-calls_in times family (i ∷ is) = add_in family (update_of times i.reading) i.call (calls_in times family is)
 
 -- what each packet's frame turns out to be
 abbrev pub AreFrames : PolicyFacts → List PacketFacts → List frames.FrameFacts → Type 0

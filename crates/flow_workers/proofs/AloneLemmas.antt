@@ -100,16 +100,16 @@ module _ {A B R G K L : Type 0} (ga : Ghosts A K) (gb : Ghosts B L) (setup : Set
       let v : Views = views_of ga gb new.callers in (
         v,
         judge_each_packet run.deal run.times run.ages run.policy run.packets (done.deeds ∷ []) v (before ++ said) (omega arith)
-        (record {
-          count = sym one;
-          each = λ w t at.
-              only_there done.deeds t w (λ n x. AreDeeds run.deal run.times run.ages n run.policy run.packets x) done.are at;
-        })
-        (gathered ga gb setup.tables.now run (done.deeds ∷ []) v
-        (gone.four.lawful, gone.six.lawful) (gone.four.whole, gone.six.whole)
-        (same_deeds _ _ V4 _ _ _ gone.four.records gone.four.known done.four)
-        (same_deeds _ _ V6 _ _ _ gone.six.records gone.six.known done.six))
-        (one_placed run (items_in done.deeds) (before ++ said) one done.are.trace (ap (λ vs. before ++ vs) gone.said ∙ done.said)),
+            (record {
+              count = sym one;
+              each = λ w t at.
+                  only_there done.deeds t w (λ n x. AreDeeds run.deal run.times run.ages n run.policy run.packets x) done.are at;
+            })
+            (gathered ga gb setup.tables.now run (done.deeds ∷ []) v
+            (gone.four.lawful, gone.six.lawful) (gone.four.whole, gone.six.whole)
+            (same_deeds _ _ V4 _ _ _ gone.four.records gone.four.known done.four)
+            (same_deeds _ _ V6 _ _ _ gone.six.records gone.six.known done.six))
+            (one_placed run (items_in done.deeds) (before ++ said) one done.are.trace (ap (λ vs. before ++ vs) gone.said ∙ done.said)),
       )
 
 -- ---- The only worker

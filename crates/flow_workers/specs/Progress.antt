@@ -83,22 +83,22 @@ abbrev pub deal_in : {A B R G K L : Type 0} (ga : Ghosts A K) (gb : Ghosts B L) 
 deal_in ga gb setup = record { layout = layout_of ga gb; dealing = setup.dealing; workers = setup.workers }
 
 -- these are the verdicts on these packets, by workers of this setup, who know this then
-abbrev pub HaveSaidAll : {A B R G K L : Type 0} (ga : Ghosts A K) (gb : Ghosts B L) → Setup A B R G K L → List PacketFacts
+abbrev pub HaveSaidKnowing : {A B R G K L : Type 0} (ga : Ghosts A K) (gb : Ghosts B L) → Setup A B R G K L → List PacketFacts
     → List Verdict → Views → Type 0
-HaveSaidAll ga gb setup packets verdicts known =
+HaveSaidKnowing ga gb setup packets verdicts known =
     AreJudgedAgeing (deal_in ga gb setup) setup.filter.now.times setup.ages (policy_of setup) packets verdicts known
 
 -- so they are, whatever the workers know then
 abbrev pub HaveAllSaid : {A B R G K L : Type 0} (ga : Ghosts A K) (gb : Ghosts B L) → Setup A B R G K L → List PacketFacts
     → List Verdict → Type 0
-HaveAllSaid ga gb setup packets verdicts = (known : Views) × HaveSaidAll ga gb setup packets verdicts known
+HaveAllSaid ga gb setup packets verdicts = (known : Views) × HaveSaidKnowing ga gb setup packets verdicts known
 
 -- These are the verdicts on the packets that they judged, and callers that are all of theirs, joined: they hold nothing, and
 -- know what the workers knew.
 pub record HaveEnded {A B R G K L : Type 0} {ga : Ghosts A K} {gb : Ghosts B L} (all : Workers A B R G K L ga gb)
     (verdicts : List Verdict) (callers : Callers A B K L ga gb) : Type 0 where
   pub idle : AreIdle ga gb all.setup.tables.now callers
-  pub said : (packets : List PacketFacts) → AreAtRest packets all → HaveSaidAll ga gb all.setup packets verdicts (views_of ga gb callers)
+  pub said : (packets : List PacketFacts) → AreAtRest packets all → HaveSaidKnowing ga gb all.setup packets verdicts (views_of ga gb callers)
 
 -- ---- One worker that keeps no verdict
 

@@ -12,7 +12,7 @@ use crate::gate::Gate;
 use crate::worker_share::{Batch, Share};
 use bihash_table::{Caller, Sessions};
 use bihash_words::Shape;
-use session_state::SessionExpiry;
+use session_state::{SessionExpiry, Timeouts};
 use std::sync::Wait;
 
 // How many seconds after its end a session is removed, so that a packet which is late by less finds it.
@@ -72,6 +72,13 @@ fn age_table<S: Shape, R: Wait>(
     at
 }
 
+// How many seconds a round over this table takes.
+fn round_of<S: Shape>(table: &Sessions<S>, times: &Timeouts) -> u64
+    ensures { 0 < result }
+{
+    round_seconds(times, table.unused_pages() < S::PAGES / 2)
+}
+
 // How many of a worker's own buckets of a table are due.
 fn due_of<S: Shape>(worker: usize, workers: usize, elapsed: u64, round: u64) -> u64
     requires sound { IsSound (sizes_of S.Shape) }
@@ -106,25 +113,26 @@ fn age<A: Shape, B: Shape, R: Wait, G: Gate>(
     };
     let elapsed = u64::from(moment).saturating_sub(share.clock.last);
     let workers = setup.workers;
-    let round = round_seconds(&expiry.times, false);
+    let tables = setup.tables;
+    let round_four = round_of(&tables.four, &expiry.times);
+    let round_six = round_of(&tables.six, &expiry.times);
     let four = OwnBuckets {
         worker,
         workers,
         from: share.clock.four,
-        count: due_of::<A>(worker, workers, elapsed, round),
+        count: due_of::<A>(worker, workers, elapsed, round_four),
     };
     let six = OwnBuckets {
         worker,
         workers,
         from: share.clock.six,
-        count: due_of::<B>(worker, workers, elapsed, round),
+        count: due_of::<B>(worker, workers, elapsed, round_six),
     };
-    let tables = setup.tables;
     let callers = &mut share.callers;
     share.clock.four = age_table(setup.rt, &tables.four, &mut callers.four, four, &expiry);
     share.clock.six = age_table(setup.rt, &tables.six, &mut callers.six, six, &expiry);
     share.clock.last = u64::from(moment);
-    share.clock.due = u64::from(moment).saturating_add(part_seconds(round));
+    share.clock.due = u64::from(moment).saturating_add(part_seconds(round_four.min(round_six)));
 }
 
 /// Removes sessions that have ended, where that is due, before the worker judges the packet at this place of the batch, which

@@ -135,18 +135,30 @@ fn verdicts<'a, R: Threads + Wait + Sync, G: Gate + Sync>(
 /// Pairs of a table of IPv4 flows.
 type Pairs = Vec<([u64; 2], u64)>;
 
-// The verdicts of a test's two workers on two parts, one after the other; then the pairs of the table of IPv4 flows,
+/// What a test's workers are asked for.
+#[derive(Clone, Copy)]
+struct Asked<'t> {
+    filter: &'t Filter,
+    workers: usize,
+    dealing: Dealing,
+    ages: bool,
+}
+
+// The verdicts of a test's workers on two parts, one after the other; then the pairs of the table of IPv4 flows,
 // and how many the other one has.
 fn verdicts_on_parts<R: Threads + Wait + Sync, G: Gate + Sync>(
     rt: &R,
     alloc: Global,
-    filter: &Filter,
+    asked: Asked<'_>,
     gate: &G,
     first: &[Packet<'_>],
     second: &[Packet<'_>],
 ) -> Result<(Vec<Verdict>, Pairs, usize), RunFault>
-    requires few { length first.now + length second.now ≤ 4 }
+    requires some { 1 ≤ asked.workers }
+    requires few_workers { asked.workers ≤ 16 }
+    requires few { length first.now + length second.now ≤ 8 }
 {
+    let filter = asked.filter;
     flow_shapes_are_sound();
     let Ok((tables, callers)) = create_tables::<ShapeV4, ShapeV6>(alloc) else {
         return Err(RunFault::Memory);
@@ -162,10 +174,10 @@ fn verdicts_on_parts<R: Threads + Wait + Sync, G: Gate + Sync>(
         gate,
         filter: &ready,
         tables: &tables,
-        dealing: Dealing::Bucket,
-        workers: 2,
+        dealing: asked.dealing,
+        workers: asked.workers,
         many: 0,
-        ages: false,
+        ages: asked.ages,
     };
     let Ok(begun) = Workers::new(alloc, setup, callers) else {
         return Err(RunFault::Memory);
@@ -301,7 +313,13 @@ fn workers_judge_two_parts(rt: HostRuntime) -> Result<(), Fail> {
         before: AtomicU64::new(0),
         after: AtomicU64::new(0),
     };
-    let Ok((found, four, others)) = verdicts_on_parts(&rt, alloc, &filter, &gate, &first, &second)
+    let asked = Asked {
+        filter: &filter,
+        workers: 2,
+        dealing: Dealing::Bucket,
+        ages: false,
+    };
+    let Ok((found, four, others)) = verdicts_on_parts(&rt, alloc, asked, &gate, &first, &second)
     else {
         return filter_test_refused();
     };
@@ -320,5 +338,65 @@ fn workers_judge_two_parts(rt: HostRuntime) -> Result<(), Fail> {
     assert!(rt; others == 0);
     assert!(rt; gate.before.load(Ordering::SeqCst) == 0x0101_0101);
     assert!(rt; gate.after.load(Ordering::SeqCst) == 0x0101_0101);
+    Ok(())
+}
+
+// A packet of a test with this frame.
+fn packet_at(moment: u32, frame: &[u8; 42]) -> Packet<'_> {
+    Packet {
+        interface: 0,
+        moment,
+        frame,
+    }
+}
+
+// Workers that age: a session of second 100 has ended in second 701, and is removed from second 761 on, that of second 200
+// stays. Each of four workers has a packet of the second part, and so looks at all of its own buckets.
+#[test]
+fn sessions_that_ended_are_removed(rt: HostRuntime) -> Result<(), Fail> {
+    let alloc = rt.alloc();
+    let Ok(filter) = filter_for_session_tables(alloc, NAMES) else {
+        return filter_test_refused();
+    };
+    let early = [request_for_tables(2), request_for_tables(3)];
+    let between = [request_for_tables(4), request_for_tables(5)];
+    let late = [request_for_tables(6), answer_for_tables(4)];
+    let rows = [
+        (1, true, 760, 5),
+        (1, true, 761, 3),
+        (4, true, 760, 5),
+        (4, true, 761, 3),
+        (4, false, 761, 5),
+    ];
+    for (workers, ages, moment, left) in rows {
+        let first = [
+            packet_at(100, &early[0]),
+            packet_at(100, &early[1]),
+            packet_at(200, &between[0]),
+            packet_at(200, &between[1]),
+        ];
+        let second = [
+            packet_at(moment, &late[0]),
+            packet_at(moment, &late[0]),
+            packet_at(moment, &late[1]),
+            packet_at(moment, &late[1]),
+        ];
+        let gate = Counts {
+            before: AtomicU64::new(0),
+            after: AtomicU64::new(0),
+        };
+        let asked = Asked {
+            filter: &filter,
+            workers,
+            dealing: Dealing::Round,
+            ages,
+        };
+        let Ok((found, four, _)) = verdicts_on_parts(&rt, alloc, asked, &gate, &first, &second)
+        else {
+            return filter_test_refused();
+        };
+        assert!(rt; found.as_slice().get(6).copied() == Some(Verdict::Session));
+        assert!(rt; four.len() == left);
+    }
     Ok(())
 }
