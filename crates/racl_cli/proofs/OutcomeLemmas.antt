@@ -1,10 +1,9 @@
 -- What is answered of an input, and the report on it.
-use Rattle.std.proofs.Common.{◌≡◌, ◌≢◌, ◌∙◌, ◌≤◌, ◌⊎◌, All, ℕ, Bool, false, List, [], ◌∷◌, None, drop, length, Option, Result, Ok, Err, IfOk, IfErr, MatchResult, Some, true, refl, sym, ap, ap₂, subst, inl, inr}
+use Rattle.std.proofs.Common.{◌≡◌, ◌≢◌, ◌∙◌, ◌≤◌, ◌⊎◌, ℕ, Bool, false, List, [], ◌∷◌, None, drop, length, Option, Result, Ok, Err, IfOk, IfErr, MatchResult, Some, true, refl, sym, ap, ap₂, subst, inl, inr}
 use Rattle.std.proofs.lemmas.List.{length-map}
 use Rattle.packet_view.specs.Captures.{End, AreRecords, IsCapture, IsCaptureFault, IsEnd, PacketFacts, RecordFacts, end_of, packets_at}
 use Rattle.packet_view.specs.declared.capture.CaptureFault.{CaptureFault}
 use Rattle.packet_view.specs.declared.capture.Order.{Order}
-use Rattle.packet_view.specs.declared.tuple.Family.{Family}
 use Rattle.packet_view.proofs.CaptureLemmas.{IsHeaderOf, ended_accepts, ended_is_right}
 use Rattle.acl_policy.specs.Policies.{IsPolicyFault, IsPolicyText, PolicyFacts, policy_facts}
 use Rattle.acl_policy.specs.declared.policy.PolicyFault.{PolicyFault}
@@ -18,7 +17,7 @@ use Rattle.flow_filter.specs.Judged.{readings_of, verdict_on}
 use Rattle.flow_filter.specs.Readings.{IsReading}
 use Rattle.packet_dealing.specs.Dealings.{Deal}
 use Rattle.flow_dealing.specs.Views.{Views}
-use Rattle.flow_dealing.specs.WorkerRecords.{AreJudged, AreJudgedAgeing, AreJudgedBetween, AreJudgedBy, HavePages}
+use Rattle.flow_dealing.specs.WorkerRecords.{AreJudgedAgeing, AreJudgedBetween, AreJudgedBy, HavePages}
 use Rattle.flow_dealing.proofs.FewPackets.{pages_for_few_between}
 use Rattle.flow_dealing.proofs.OneReport.{one_report, one_report_ageing}
 use Rattle.flow_dealing.proofs.Places.{zip_count}
@@ -29,7 +28,7 @@ use Rattle.racl_io.specs.declared.fault.Fault.TheVariants.{Memory, NoCapture, Wr
 use Rattle.racl_io.specs.declared.totals_and_truncation.Totals.{Totals}
 use Rattle.racl_io.specs.Faults.{IsFaultOfBytes, IsFaultOfContent, IsSystemFault, capture_fault, policy_fault}
 use Rattle.racl_io.specs.Inputs.{IsContent, IsInput, InputFacts, most_bytes}
-use Rattle.racl_cli.specs.Crews.{AreAfter, AreIdleOf, AreSaid, AreSaidBy, AreSaidKnowing, Orders, orders_for, size_of, views_with}
+use Rattle.racl_cli.specs.Crews.{AreAfter, AreIdleOf, AreSaidBy, AreSaidKnowing, Orders, orders_for, size_of, views_with}
 use Rattle.capture_stream.specs.Streams.{AreAllRead, records_in}
 use Rattle.capture_stream.specs.declared.stream_judging.Opening.{Opening}
 use Rattle.racl_cli.specs.declared.ended_workers.Ended.{Ended}
