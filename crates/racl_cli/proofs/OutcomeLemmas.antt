@@ -18,6 +18,7 @@ use Rattle.flow_filter.specs.Readings.{IsReading}
 use Rattle.packet_dealing.specs.Dealings.{Deal}
 use Rattle.flow_dealing.specs.Views.{Views}
 use Rattle.flow_dealing.specs.WorkerRecords.{AreJudgedAgeing, AreJudgedBetween, AreJudgedBy, HavePages}
+use Rattle.flow_dealing.proofs.Passing.{pass_at_place}
 use Rattle.flow_dealing.proofs.FewPackets.{pages_for_few_between}
 use Rattle.flow_dealing.proofs.OneReport.{one_report, one_report_ageing}
 use Rattle.flow_dealing.proofs.Places.{zip_count}
@@ -60,6 +61,7 @@ given_by_workers options times ages policy packets verdicts views workers same s
         views = views;
         said = moved;
         paged = λ family few. pages_for_few_between _ _ _ _ moved.removals _ moved.judged family few;
+        places = pass_at_place _ _ _ _ _ _ moved.judged;
       },
       refl,
       refl,

@@ -10,6 +10,7 @@ use Rattle.session_state.specs.declared.verdict.Verdict.{Verdict}
 use Rattle.flow_filter.specs.OneThread.{AreVerdicts, Layout}
 use Rattle.packet_dealing.specs.declared.dealing.Dealing.TheVariants.{Bucket}
 use Rattle.packet_dealing.specs.Dealings.{Deal}
+use Rattle.flow_dealing.specs.Places.{PassByRecords}
 use Rattle.flow_dealing.specs.Views.{Views}
 use Rattle.flow_dealing.specs.WorkerRecords.{AreFewBetween, AreInTimeOrder, AreJudgedAgeing, AreWithinLimit, HasPagesIn, HavePages}
 use Rattle.flow_workers.specs.Stored.{AreStored}
@@ -49,7 +50,7 @@ ByOneThread size times policy packets verdicts = AreVerdicts (layout_for size) t
 
 -- Those that some workers gave who age or don't, and no more workers than the words ask for; and what they know then. No packet
 -- of a family's flows is refused for want of pages where the family has at most 256 such packets, and removals of sessions, for
--- IPv4, 64 for IPv6; over large tables 4096 for each.
+-- IPv4, 64 for IPv6; over large tables 4096 for each. Each packet of a flow passes by what stands at the place of its own call.
 pub record ByWorkers (options : Options) (ages : Bool) (policy : PolicyFacts) (packets : List PacketFacts) (verdicts : List Verdict) : Type 0 where
   pub workers : ℕ
   pub some : 1 ≤ workers
@@ -58,6 +59,7 @@ pub record ByWorkers (options : Options) (ages : Bool) (policy : PolicyFacts) (p
   pub said : AreJudgedAgeing (bucket_deal options.tables workers) options.times ages policy packets verdicts views
   pub paged : (family : Family) → AreFewBetween (layout_for options.tables) options.times family said.removals said.judged.judged
       → All (HasPagesIn options.times family) said.judged.judged
+  pub places : PassByRecords said.judged
 
 -- where they age, the packets' moments never fall, and packets and removals are no more than the writes that a bucket may have
 abbrev pub AgeInTime : {options : Options} {ages : Bool} {policy : PolicyFacts} {packets : List PacketFacts} {verdicts : List Verdict}
