@@ -1,0 +1,83 @@
+"""The page of a report (`racl-page`): it shows the report's own numbers, nothing of a policy or a name is markup, nothing is loaded
+from elsewhere, and a browser renders it, where one is there."""
+import html
+import json
+import os
+import re
+import shutil
+import subprocess
+
+from support.captures import CAPTURE, NAMES, parts_of
+from support.cases import SECONDS, TOP, Case, bytes_of_file, each, names_in
+
+PAGE = f"{TOP}/racl-page"
+BROWSER = next(filter(None, map(shutil.which, ("chromium", "chromium-browser", "google-chrome"))), None)
+HOSTILE = '<script>document.title="changed"</script><img src=http://127.0.0.1/x onerror=alert(1)>'
+
+
+def page_of(words, data=b""):
+    ran = subprocess.run([PAGE, *words], input=data, stdout=subprocess.PIPE, stderr=subprocess.PIPE, timeout=SECONDS)
+    return {"stdout": ran.stdout.decode(), "stderr": ran.stderr.decode(), "status": ran.returncode}
+
+
+def shown(page):
+    """What a page shows: its totals by their names, and its tables' rows, all as text."""
+    totals = {name: count for name, count in re.findall(r"<dt>(.*?)</dt><dd>(.*?)</dd>", page)}
+    rows = [[html.unescape(re.sub(r"<[^>]*>", "", it)) for it in re.findall(r"<td.*?>(.*?)</td>", row)]
+            for row in re.findall(r"<tr>(<td.*?)</tr>", page)]
+    return {"totals": totals, "rows": rows}
+
+
+def spaced(count):
+    return f"{count:,}".replace(",", "\u202f")
+
+
+class Page(Case):
+    @each((name, f"{TOP}/examples/{name}.racl") for name in names_in("examples", ".racl"))
+    def stored(self, path):
+        data = bytes_of_file(path)
+        policy = parts_of(data)[0].decode().split("\n")
+        report = self.program.run(["--json", "--hits"], data)
+        told = list(map(json.loads, report["stdout"].splitlines()))
+        totals = next(it for it in told if "pass" in it)
+        rules = [[str(it["interface"]), f"{it['direction']} {it['rule']}", str(it["line"]),
+                  policy[it["line"] - 1].partition("#")[0].strip(), spaced(it["packets"]), ""]
+                 for it in told if "line" in it and "packets" in it]
+        reasons = [[it["reason"], spaced(it["packets"])] for it in told if "reason" in it and "packets" in it]
+        got = page_of(["--policy", self.hold("policy", "\n".join(policy).encode()), "-"], report["stdout"])
+        self.compare(got, {"stderr": "", "status": 0}, "the page")
+        page = shown(got["stdout"])
+        self.compare(page["totals"], {"packets": spaced(totals["packets"]), "passed": spaced(totals["pass"]),
+                                      "dropped": spaced(totals["drop"])}, "totals")
+        self.compare({"rules": page["rows"][:len(rules)]}, {"rules": rules})
+        behind = [[it[0], it[2]] for it in page["rows"][len(rules):len(rules) + len(reasons)]]
+        self.compare({"verdicts": behind}, {"verdicts": reasons})
+
+    def test_hostile_text(self):
+        policy = self.hold("policy", NAMES + f"in deny ipv4 any any # {HOSTILE}\n".encode())
+        report = self.program.run(["--json", "--hits", policy, self.hold("capture", CAPTURE)])["stdout"]
+        lines = NAMES.decode().rstrip() + HOSTILE + "\n"
+        got = page_of(["--policy", self.hold("shown", lines.encode()), "--title", HOSTILE], report)
+        self.compare(got, {"stderr": "", "status": 0})
+        markup = got["stdout"]
+        self.compare({"script": "<script" in markup, "image": "<img" in markup, "named": html.escape(HOSTILE, quote=True) in markup},
+                     {"script": False, "image": False, "named": True}, "escaped")
+        self.compare({"addresses": re.findall(r"(?:src|href|url\()\s*=?\s*['\"]?(?!#)[^\s>]*:", re.sub(r"&lt;.*?&gt;", "", markup))},
+                     {"addresses": []}, "nothing is loaded")
+        if BROWSER:
+            path = self.hold("page.html", markup.encode())
+            ran = subprocess.run([BROWSER, "--headless", "--no-sandbox", "--disable-gpu", f"--user-data-dir={self.folder}/browser",
+                                  "--dump-dom", f"file://{path}"], stdout=subprocess.PIPE, stderr=subprocess.DEVNULL, timeout=SECONDS)
+            shown_there = ran.stdout.decode()
+            self.compare({"rendered": "<h2>Rules</h2>" in shown_there, "run": 'title>changed' in shown_there},
+                         {"rendered": True, "run": False}, "in a browser")
+
+    @each([("no object", b'{"packets":0,"pass":0,"drop":0}\n1\n', "line 2 is no object of racl --json"),
+           ("plain lines", b"1 pass session\n", "line 1 is no object of racl --json"),
+           ("no totals", b"", "the totals are missing: the report isn't whole")])
+    def wrong(self, data, told):
+        self.compare(page_of([], data), {"stdout": "", "stderr": f"racl-page: -: {told}\n", "status": 1})
+
+    def test_no_file(self):
+        name = os.path.join(self.folder, "none")
+        self.compare(page_of([name]), {"stdout": "", "stderr": f"racl-page: {name}: No such file or directory\n", "status": 4})
