@@ -7,17 +7,15 @@ use Rattle.bihash_words.specs.Maps.{Event, Pairs, IsEvent}
 use Rattle.bihash_words.specs.Runs.{IsRun, writes_of}
 use Rattle.bihash_words.proofs.RunLemmas.{run_parts, run_push}
 use Rattle.session_state.specs.declared.timeouts.Timeouts.{Timeouts}
-use Rattle.session_state.specs.declared.verdict.Verdict.TheVariants.{Full}
 use Rattle.flow_filter.specs.Readings.{Ruled, Ruling}
 use Rattle.flow_filter.specs.Updates.{Update, update_of}
 use Rattle.flow_filter.specs.Judged.{Asked, Asks, IsAsked, IsEventOf, Judged, Settled, verdict_on, verdict_with}
 use Rattle.flow_filter.specs.OneThread.{Home, IsOneThread, Layout, add_event, bounds_in, events_at, home_of, same_home}
-use Rattle.flow_filter.specs.Passing.{FindsNoRoom, HoldsLive, Leave, LetsThrough}
+use Rattle.flow_filter.specs.Passing.{HoldsLive, Leave, LetsThrough}
 use Rattle.session_state.specs.Passes.{passes}
 use Rattle.flow_filter.proofs.AskedLemmas.{asks_once}
 use Rattle.flow_filter.proofs.HomeLemmas.{is_home, same_as_itself}
 use Rattle.flow_filter.proofs.OneThreadLemmas.{Runs, events_are}
-use Rattle.filter_laws.proofs.FullLemmas.{full_by_reading}
 use Rattle.flow_filter.proofs.PassingLemmas.{pass_by_reading}
 
 -- what holds of all holds of each
@@ -113,20 +111,4 @@ pass_in_order l times opening before after j moment tuple ruling u thread reads 
       (p.count, p.before_it),
       leaves_behind l opening before j u p,
       subst (λ v. (passes v ≡ true) ↔ (HoldsLive u p.left ⊎ LetsThrough u p.leaves ruling)) (sym same) passing,
-    )
-
-pub full_in_order : (l : Layout) (times : Timeouts) (opening : Home → Pairs) (before after : List Judged) (j : Judged)
-    (moment : ℕ) (tuple : TupleFacts) (ruling : Ruling) (u : Update) → IsOneThread l times opening (before ++ j ∷ after)
-    → j.reading ≡ Ruled moment tuple ruling → update_of times j.reading ≡ Some u
-    → (m : Pairs) × (left : Leave l opening before (home_of l u.key) m)
-    × ((verdict_on j ≡ Full) ↔ FindsNoRoom u (bounds_in l (home_of l u.key).family) m left.0)
-full_in_order l times opening before after j moment tuple ruling u thread reads is =
-    let p = placed l times opening before after j u thread is in
-    let same : verdict_on j ≡ verdict_with (Ruled moment tuple ruling) (Asks u p.event) = ap₂ verdict_with reads p.is in
-    let full =
-    full_by_reading times moment tuple ruling u (bounds_in l (home_of l u.key).family) p.left p.leaves p.count p.event
-    (ap (update_of times) (sym reads) ∙ is) p.of p.step in (
-      p.left,
-      (p.count, p.before_it),
-      subst (λ v. (v ≡ Full) ↔ FindsNoRoom u (bounds_in l (home_of l u.key).family) p.left p.count) (sym same) full,
     )

@@ -1,5 +1,5 @@
 -- Each verdict is given exactly where its row of the table of verdicts holds.
-use Rattle.std.proofs.Common.{◌≡◌, ◌∙◌, ◌+◌, ◌++◌, ◌<◌, ◌≤◌, ◌^◌, ℕ, Bool, true, false, List, ◌∷◌, Option, Some, None, ap, ap₂, sym, refl, subst, inl, inr, arith}
+use Rattle.std.proofs.Common.{◌≡◌, ◌∙◌, ◌+◌, ◌++◌, ◌<◌, ◌≤◌, ◌^◌, ℕ, Bool, true, false, List, ◌∷◌, Option, Some, None, ap, ap₂, sym, refl, subst, subst₂, inl, inr, arith}
 use Rattle.std.specs.FinMap.{get, len}
 use Rattle.std.specs.Prelude.{◌↔◌, if◌then◌else◌, nat_lt}
 use Rattle.std.proofs.lemmas.Bool.{cases_Bool, ltb-true, ltb-false}
@@ -24,7 +24,7 @@ use Rattle.session_state.specs.Sessions.{SessionFacts}
 use Rattle.session_state.proofs.LiveLemmas.{live_told}
 use Rattle.flow_filter.specs.Judged.{Asked, Asks, IsAsked, IsEventOf, Judged, Settled, verdict_by_event, verdict_on, verdict_with}
 use Rattle.flow_filter.specs.OneThread.{Home, IsOneThread, Layout, bounds_in, home_of}
-use Rattle.flow_filter.specs.Passing.{HoldsLive, HoldsStarted}
+use Rattle.flow_filter.specs.Passing.{FindsNoRoom, HoldsLive, HoldsStarted, Leave}
 use Rattle.flow_filter.specs.Readings.{Framed, IsReading, IsReadingOf, IsSeen, Reading, Ruled, Ruling}
 use Rattle.flow_filter.specs.Updates.{Update, reflects, update_of, words_of}
 use Rattle.flow_filter.specs.Verdicts.{verdict_entered, verdict_of, verdict_of_rules, verdict_reflected}
@@ -367,4 +367,17 @@ row_in_order l times opening before after j moment tuple ruling u thread reads i
       },
       λ v. subst (λ found. (found ≡ v) ↔ IsFlowRow u ruling at v) (sym same)
           (row_by_reading times moment tuple ruling u at v (ap (update_of times) (sym reads) ∙ is) (record { of = p.of; step = p.step })),
+    )
+
+-- the row of a full bucket
+pub full_in_order : (l : Layout) (times : Timeouts) (opening : Home → Pairs) (before after : List Judged) (j : Judged)
+    (moment : ℕ) (tuple : TupleFacts) (ruling : Ruling) (u : Update) → IsOneThread l times opening (before ++ j ∷ after)
+    → j.reading ≡ Ruled moment tuple ruling → update_of times j.reading ≡ Some u
+    → (m : Pairs) × (left : Leave l opening before (home_of l u.key) m)
+    × ((verdict_on j ≡ verdict.Full) ↔ FindsNoRoom u (bounds_in l (home_of l u.key).family) m left.0)
+full_in_order l times opening before after j moment tuple ruling u thread reads is =
+    let (at, met, rows) = row_in_order l times opening before after j moment tuple ruling u thread reads is in (
+      at.before,
+      met.left,
+      subst₂ (λ b w. (verdict_on j ≡ verdict.Full) ↔ FindsNoRoom u b at.before w) met.bounds met.counted (rows verdict.Full),
     )
