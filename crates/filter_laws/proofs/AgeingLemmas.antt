@@ -13,6 +13,7 @@ use Rattle.bihash_words.specs.declared.patch.Change.{Change}
 use Rattle.bihash_words.specs.declared.patch.Change.TheVariants.{Keep, Set, Remove}
 use Rattle.bihash_words.specs.declared.patch.Reply.{Reply}
 use Rattle.bihash_words.specs.declared.patch.Reply.TheVariants.{Kept, Changed, Worn, Full, NoPages}
+use Rattle.bihash_words.specs.Refusals.{IsNoRefusal}
 use Rattle.bihash_words.specs.Runs.{writes_of}
 use Rattle.bihash_words.proofs.MapLemmas.{stays_bounded}
 use Rattle.bihash_words.proofs.SpareLemmas.{among_words}
@@ -20,7 +21,7 @@ use Rattle.session_state.specs.declared.flow.Flow.{Flow}
 use Rattle.session_state.specs.declared.timeouts.Timeouts.{Timeouts}
 use Rattle.session_state.specs.Flows.{flow_of}
 use Rattle.session_state.specs.Sessions.{is_expired_at}
-use Rattle.flow_filter.specs.Judged.{IsAsked, IsAskedBy, Judged, expired_for, readings_of, verdict_by_event, verdict_on, verdict_with, verdicts_on}
+use Rattle.flow_filter.specs.Judged.{Asks, IsAsked, Judged, WhereAsked, expired_for, readings_of, verdict_on, verdict_with, verdicts_on}
 use Rattle.flow_filter.specs.OneThread.{AreVerdicts, HasPages, Home, IsHome, IsOneThread, Layout, nothing, add_event, bounds_in, home_of, same_home}
 use Rattle.flow_filter.specs.Readings.{AreReadings, Framed, Reading, Ruled, Ruling}
 use Rattle.flow_filter.specs.Updates.{Update, update_in, update_of}
@@ -29,6 +30,7 @@ use Rattle.packet_view.specs.Captures.{PacketFacts}
 use Rattle.packet_view.specs.declared.tuple.Family.{Family}
 use Rattle.acl_policy.specs.Policies.{PolicyFacts}
 use Rattle.flow_filter.proofs.ReadingLemmas.{one_readings}
+use Rattle.flow_filter.proofs.AskedLemmas.{asks_nothing, asks_once, of_asked}
 use Rattle.flow_filter.proofs.HomeLemmas.{holds_key, homes_are_one, is_home, same_as_itself}
 use Rattle.flow_filter.proofs.OneThreadLemmas.{IsThread, Runs, after_run, counts_after, first_asked, first_unasked, maps_after, of_one_thread}
 use Rattle.flow_filter.specs.Ageing.{IsAgedThread, IsOfExpired, IsNotWorn, IsRightStep, IsUnworn, Judges, NeverFall, Removal, Removes, Step, moment_of, moment_of_reading, packets_in, removed_from, steps_at}
@@ -41,7 +43,7 @@ use Rattle.session_state.specs.Decisions.{is_live_for}
 record IsAged (l : Layout) (times : Timeouts) (maps : Home → Pairs) (counts : Home → ℕ) (steps : List Step) : Type 0 where
   pub right : All (IsRightStep times) steps
   pub runs : (home : Home) → IsHome l home
-      → Runs (bounds_in l home.family) (maps home) (counts home) (steps_at l times home steps)
+      → Runs (bounds_in l home.family) (maps home) (counts home) (steps_at l home steps)
 
 -- the first event of a bucket, and the runs after it
 record IsNext (l : Layout) (maps : Home → Pairs) (counts : Home → ℕ) (at : Home) (e : Event) (events : Home → List Event) : Type 0 where
@@ -100,26 +102,25 @@ patch_is times (Ruled moment tuple ruling) u is = go (flow_of tuple) is
         (ap (λ (v : Update). Some v.patch.moment) both, ap (λ (v : Update). v.patch.times) both)
 
 -- packets of one reading with such events get one verdict
-one_verdict : (times : Timeouts) (reading : Reading) (u : Update) (e f : Event) → update_of times reading ≡ Some u
+one_verdict : (reading : Reading) (u : Update) (e f : Event)
     → ((ruling : Ruling) → verdict_of u.patch ruling e.found e.reply ≡ verdict_of u.patch ruling f.found f.reply)
-    → verdict_with times reading (Some f) ≡ verdict_with times reading (Some e)
-one_verdict times (Framed verdict) u e f is same = refl
-one_verdict times (Ruled moment tuple ruling) u e f is same =
-    subst (λ (v : Option Update). verdict_by_event ruling v (Some f) ≡ verdict_by_event ruling v (Some e)) (sym is) (sym (same ruling))
+    → verdict_with reading (Asks u f) ≡ verdict_with reading (Asks u e)
+one_verdict (Framed verdict) u e f same = refl
+one_verdict (Ruled moment tuple ruling) u e f same = sym (same ruling)
 
 -- the steps come to the verdicts of the packets
 abbrev ComeToOne : Layout → Timeouts → List Step → Type 0
 ComeToOne l times steps = (js : List Judged) (least : ℕ) (maps aged : Home → Pairs) (counts aged_counts : Home → ℕ)
     → readings_of (packets_in steps) ≡ readings_of js → IsThread l times maps counts js → IsAged l times aged aged_counts steps
     → NeverFall least (map moment_of steps) → All IsUnworn js → All IsUnworn (packets_in steps) → AreNear l times least maps aged
-    → verdicts_on times (packets_in steps) ≡ verdicts_on times js
+    → verdicts_on (packets_in steps) ≡ verdicts_on js
 
 more_removed : (l : Layout) (times : Timeouts) (r : Removal) (steps : List Step) → ComeToOne l times steps
     → ComeToOne l times (Removes r ∷ steps)
 more_removed l times r steps rest js least maps aged counts aged_counts same thread ages in_time unworn unworn' near =
     let of : IsOfExpired times r = All-head (IsRightStep times) (Removes r) steps ages.right in
     let b : Bounds = bounds_in l r.family in
-    let events : Home → List Event = λ home. steps_at l times home steps in
+    let events : Home → List Event = λ home. steps_at l home steps in
     let next = next_event l aged aged_counts (removed_from l r) r.event events (holds_key l r.family r.event.key) ages.runs in
     let near' = near_later l times least r.moment maps aged in_time.0 near in
     let counts_as = among_words (is_expired_at times r.moment) of.word of.short ∙ of.ended in
@@ -143,19 +144,19 @@ more_unasked : (l : Layout) (times : Timeouts) (j k : Judged) (js : List Judged)
     → k.reading ≡ j.reading → update_of times j.reading ≡ None → (least : ℕ) (maps aged : Home → Pairs) (counts aged_counts : Home → ℕ)
     → readings_of (packets_in steps) ≡ readings_of js → IsThread l times maps counts (j ∷ js) → IsAged l times aged aged_counts (Judges k ∷ steps)
     → NeverFall least (moment_of (Judges k) ∷ map moment_of steps) → All IsUnworn (j ∷ js) → All IsUnworn (k ∷ packets_in steps) → AreNear l times least maps aged
-    → (verdict_on times k ∷ verdicts_on times (packets_in steps)) ≡ (verdict_on times j ∷ verdicts_on times js)
+    → (verdict_on k ∷ verdicts_on (packets_in steps)) ≡ (verdict_on j ∷ verdicts_on js)
 more_unasked l times j k js steps rest one none least maps aged counts aged_counts same thread ages in_time unworn unworn' near =
     let none' : update_of times k.reading ≡ None = ap (update_of times) one ∙ none in
     let right : IsAsked times k × HasPages k = All-head (IsRightStep times) (Judges k) steps ages.right in
-    let at' : k.event ≡ None = subst (λ u. IsAskedBy u k.event) none' right.0 in
+    let at' = asks_nothing (update_of times k.reading) k.asked right.0 none' in
     let (at, behind) = first_unasked l times maps counts j js none thread in
     let (next, goes, later) = goes_on least (moment_of (Judges k)) (map moment_of steps) in_time in
-    ap₂ (λ v vs. v ∷ vs) ((λ i. verdict_with times (one i) ((at' ∙ sym at) i)))
+    ap₂ (λ v vs. v ∷ vs) (ap₂ verdict_with one (at' ∙ sym at))
     (rest js next maps aged counts aged_counts same behind
     (record {
       right = All-tail (IsRightStep times) (Judges k) steps ages.right;
-      runs = λ home is. subst (λ u. Runs (bounds_in l home.family) (aged home) (aged_counts home) (add_event l home u k.event (steps_at l times home steps)))
-          none' (ages.runs home is);
+      runs = λ home is. subst (λ a. Runs (bounds_in l home.family) (aged home) (aged_counts home) (add_event l home a (steps_at l home steps)))
+          at' (ages.runs home is);
     })
     later (All-tail IsUnworn j js unworn) (All-tail IsUnworn k (packets_in steps) unworn') (near_later l times least next maps aged goes near))
 
@@ -163,7 +164,7 @@ more_asked : (l : Layout) (times : Timeouts) (j k : Judged) (js : List Judged) (
     → k.reading ≡ j.reading → update_of times j.reading ≡ Some u → (least : ℕ) (maps aged : Home → Pairs) (counts aged_counts : Home → ℕ)
     → readings_of (packets_in steps) ≡ readings_of js → IsThread l times maps counts (j ∷ js) → IsAged l times aged aged_counts (Judges k ∷ steps)
     → NeverFall least (moment_of (Judges k) ∷ map moment_of steps) → All IsUnworn (j ∷ js) → All IsUnworn (k ∷ packets_in steps) → AreNear l times least maps aged
-    → (verdict_on times k ∷ verdicts_on times (packets_in steps)) ≡ (verdict_on times j ∷ verdicts_on times js)
+    → (verdict_on k ∷ verdicts_on (packets_in steps)) ≡ (verdict_on j ∷ verdicts_on js)
 more_asked l times j k js steps u rest one is least maps aged counts aged_counts same thread ages in_time unworn unworn' near =
     let is' : update_of times k.reading ≡ Some u = ap (update_of times) one ∙ is in
     let home : Home = home_of l u.key in
@@ -172,21 +173,21 @@ more_asked l times j k js steps u rest one is least maps aged counts aged_counts
     let first = first_asked l times maps counts u j js is thread in
     let e : Event = first.event in
     let right : IsAsked times k × HasPages k = All-head (IsRightStep times) (Judges k) steps ages.right in
-    let (f, at, of) : IsAskedBy (Some u) k.event = subst (λ u. IsAskedBy u k.event) is' right.0 in
-    let events : Home → List Event = λ h. steps_at l times h steps in
+    let (f, at, of) = asks_once (update_of times k.reading) k.asked right.0 u is' in
+    let events : Home → List Event = λ h. steps_at l h steps in
     let next = next_event l aged aged_counts home f events (is_home l u.key)
-    (λ h in_table. subst (λ (x : Option Event). Runs (bounds_in l h.family) (aged h) (aged_counts h) (add_event l h (Some u) x (events h))) at
-    (subst (λ v. Runs (bounds_in l h.family) (aged h) (aged_counts h) (add_event l h v k.event (events h))) is' (ages.runs h in_table))) in
+    (λ h in_table. subst (λ a. Runs (bounds_in l h.family) (aged h) (aged_counts h) (add_event l h a (events h))) at (ages.runs h in_table)) in
     let times_on : (least ≤ u.patch.moment) × NeverFall u.patch.moment (map moment_of steps)
     = subst (λ m. NeverFall least (m ∷ map moment_of steps)) patch.0 in_time in
     let near' = near_later l times least u.patch.moment maps aged times_on.0 near in
     let agrees : Agree (expired_for u.patch) (maps home) (aged home)
     = subst (λ (t : Timeouts). Agree (expired_words (is_expired_at t u.patch.moment)) (maps home) (aged home)) patch.1 (near'.agree home) in
     let alike = alike_after u b (maps home) first.left (aged home) next.left (counts home) (aged_counts home) e f first.of first.step of next.step agrees
-    (near.bounded home) (near.aged_bounded home) (All-head IsUnworn j js unworn e first.is) first.paged
-    (All-head IsUnworn k (packets_in steps) unworn' f at) (right.1 f at) in
+    (near.bounded home) (near.aged_bounded home) (of_asked (λ e. IsNotWorn e.reply) j.asked u e (All-head IsUnworn j js unworn) first.is) first.paged
+    (of_asked (λ e. IsNotWorn e.reply) k.asked u f (All-head IsUnworn k (packets_in steps) unworn') at)
+    (of_asked (λ e. IsNoRefusal e.reply) k.asked u f right.1 at) in
     ap₂ (λ v vs. v ∷ vs)
-    ((λ i. verdict_with times (one i) (at i)) ∙ one_verdict times j.reading u e f is alike.same ∙ ap (verdict_with times j.reading) (sym first.is))
+    (ap₂ verdict_with one at ∙ one_verdict j.reading u e f alike.same ∙ ap (verdict_with j.reading) (sym first.is))
     (rest js u.patch.moment (maps_after maps home first.left) (maps_after aged home next.left) (counts_after counts home e)
     (counts_after aged_counts home f) same first.behind
     (record { right = All-tail (IsRightStep times) (Judges k) steps ages.right; runs = next.behind })
@@ -203,7 +204,7 @@ more_by_update : (l : Layout) (times : Timeouts) (j k : Judged) (js : List Judge
     → k.reading ≡ j.reading → update_of times j.reading ≡ u → (least : ℕ) (maps aged : Home → Pairs) (counts aged_counts : Home → ℕ)
     → readings_of (packets_in steps) ≡ readings_of js → IsThread l times maps counts (j ∷ js) → IsAged l times aged aged_counts (Judges k ∷ steps)
     → NeverFall least (moment_of (Judges k) ∷ map moment_of steps) → All IsUnworn (j ∷ js) → All IsUnworn (k ∷ packets_in steps) → AreNear l times least maps aged
-    → (verdict_on times k ∷ verdicts_on times (packets_in steps)) ≡ (verdict_on times j ∷ verdicts_on times js)
+    → (verdict_on k ∷ verdicts_on (packets_in steps)) ≡ (verdict_on j ∷ verdicts_on js)
 more_by_update l times j k js steps None = more_unasked l times j k js steps
 more_by_update l times j k js steps (Some u) = more_asked l times j k js steps u
 
@@ -230,7 +231,7 @@ pub removals_change_no_verdict : (l : Layout) (times : Timeouts) (opening : Home
     → ((home : Home) → len (opening home) ≤ most_pairs (bounds_in l home.family))
     → IsOneThread l times opening js → IsAgedThread l times opening steps → readings_of (packets_in steps) ≡ readings_of js
     → All IsUnworn js → All IsUnworn (packets_in steps)
-    → verdicts_on times (packets_in steps) ≡ verdicts_on times js
+    → verdicts_on (packets_in steps) ≡ verdicts_on js
 removals_change_no_verdict l times opening js steps bounded thread aged same unworn unworn' =
     come_to_one l times steps js 0 opening opening (λ home. 0) (λ home. 0) same (of_one_thread l times opening js thread)
     (record { right = aged.right; runs = aged.runs }) aged.in_time unworn unworn' (record {
@@ -290,13 +291,13 @@ unworn_more : (l : Layout) (times : Timeouts) (j : Judged) (js : List Judged) (u
     → (maps : Home → Pairs) (counts : Home → ℕ) → IsThread l times maps counts (j ∷ js) → HaveWrites l counts (suc (length js)) → All IsUnworn (j ∷ js)
 unworn_more l times j js None none rest maps counts thread have =
     let (at, behind) = first_unasked l times maps counts j js none thread in
-    All-cons IsUnworn j js (λ e is. let clash : None ≡ Some e = sym at ∙ is in let f : ⊥ = cc in absurd f)
+    All-cons IsUnworn j js (subst (λ a. WhereAsked a (λ e. IsNotWorn e.reply)) (sym at) tt)
     (rest maps counts behind (λ home. let room = have home in omega arith))
 unworn_more l times j js (Some u) is rest maps counts thread have =
     let home : Home = home_of l u.key in
     let first = first_asked l times maps counts u j js is thread in
     let here = not_worn (bounds_in l home.family) (maps home) first.left (counts home) (length js) first.event first.step (have home) in
-    All-cons IsUnworn j js (λ e same. subst (λ (f : Event). IsNotWorn f.reply) (let one : Some first.event ≡ Some e = sym first.is ∙ same in let s : first.event ≡ e = cc in s) here)
+    All-cons IsUnworn j js (subst (λ a. WhereAsked a (λ e. IsNotWorn e.reply)) (sym first.is) here)
     (rest (maps_after maps home first.left) (counts_after counts home first.event) first.behind (writes_left l counts (length js) home first.event have))
 
 unworn_thread : (l : Layout) (times : Timeouts) (js : List Judged) (maps : Home → Pairs) (counts : Home → ℕ) → IsThread l times maps counts js
@@ -313,7 +314,7 @@ AreUnworn l times steps = (maps : Home → Pairs) (counts : Home → ℕ) → Is
 unworn_removed : (l : Layout) (times : Timeouts) (r : Removal) (steps : List Step) → AreUnworn l times steps → AreUnworn l times (Removes r ∷ steps)
 unworn_removed l times r steps rest maps counts ages have =
     let of : IsOfExpired times r = All-head (IsRightStep times) (Removes r) steps ages.right in
-    let next = next_event l maps counts (removed_from l r) r.event (λ home. steps_at l times home steps) (holds_key l r.family r.event.key) ages.runs in
+    let next = next_event l maps counts (removed_from l r) r.event (λ home. steps_at l home steps) (holds_key l r.family r.event.key) ages.runs in
     rest (maps_after maps (removed_from l r) next.left) (counts_after counts (removed_from l r) r.event)
     (record { right = All-tail (IsRightStep times) (Removes r) steps ages.right; runs = next.behind })
     (writes_left l counts (length steps) (removed_from l r) r.event have)
@@ -322,25 +323,24 @@ unworn_judged : (l : Layout) (times : Timeouts) (k : Judged) (steps : List Step)
     → AreUnworn l times steps → AreUnworn l times (Judges k ∷ steps)
 unworn_judged l times k steps None none rest maps counts ages have =
     let right : IsAsked times k × HasPages k = All-head (IsRightStep times) (Judges k) steps ages.right in
-    let at : k.event ≡ None = subst (λ u. IsAskedBy u k.event) none right.0 in
-    All-cons IsUnworn k (packets_in steps) (λ e is. let clash : None ≡ Some e = sym at ∙ is in let f : ⊥ = cc in absurd f)
+    let at = asks_nothing (update_of times k.reading) k.asked right.0 none in
+    All-cons IsUnworn k (packets_in steps) (subst (λ a. WhereAsked a (λ e. IsNotWorn e.reply)) (sym at) tt)
     (rest maps counts
     (record {
       right = All-tail (IsRightStep times) (Judges k) steps ages.right;
-      runs = λ home is. subst (λ u. Runs (bounds_in l home.family) (maps home) (counts home) (add_event l home u k.event (steps_at l times home steps)))
-          none (ages.runs home is);
+      runs = λ home is. subst (λ a. Runs (bounds_in l home.family) (maps home) (counts home) (add_event l home a (steps_at l home steps)))
+          at (ages.runs home is);
     })
     (λ home. let room = have home in omega arith))
 unworn_judged l times k steps (Some u) is rest maps counts ages have =
     let home : Home = home_of l u.key in
     let right : IsAsked times k × HasPages k = All-head (IsRightStep times) (Judges k) steps ages.right in
-    let (f, at, of) : IsAskedBy (Some u) k.event = subst (λ u. IsAskedBy u k.event) is right.0 in
-    let events : Home → List Event = λ h. steps_at l times h steps in
+    let (f, at, of) = asks_once (update_of times k.reading) k.asked right.0 u is in
+    let events : Home → List Event = λ h. steps_at l h steps in
     let next = next_event l maps counts home f events (is_home l u.key)
-    (λ h in_table. subst (λ (x : Option Event). Runs (bounds_in l h.family) (maps h) (counts h) (add_event l h (Some u) x (events h))) at
-    (subst (λ v. Runs (bounds_in l h.family) (maps h) (counts h) (add_event l h v k.event (events h))) is (ages.runs h in_table))) in
+    (λ h in_table. subst (λ a. Runs (bounds_in l h.family) (maps h) (counts h) (add_event l h a (events h))) at (ages.runs h in_table)) in
     let here = not_worn (bounds_in l home.family) (maps home) next.left (counts home) (length steps) f next.step (have home) in
-    All-cons IsUnworn k (packets_in steps) (λ e same. subst (λ (x : Event). IsNotWorn x.reply) (let one : Some f ≡ Some e = sym at ∙ same in let s : f ≡ e = cc in s) here)
+    All-cons IsUnworn k (packets_in steps) (subst (λ a. WhereAsked a (λ e. IsNotWorn e.reply)) (sym at) here)
     (rest (maps_after maps home next.left) (counts_after counts home f)
     (record { right = All-tail (IsRightStep times) (Judges k) steps ages.right; runs = next.behind })
     (writes_left l counts (length steps) home f have))
@@ -366,7 +366,7 @@ as_many (j ∷ js) (k ∷ ks) same = let rest : readings_of js ≡ readings_of k
 pub aged_verdicts : (l : Layout) (times : Timeouts) (policy : PolicyFacts) (packets : List PacketFacts) (verdicts : List Verdict)
     (steps : List Step) → AreVerdicts l times policy packets verdicts → IsAgedThread l times nothing steps
     → AreReadings policy packets (readings_of (packets_in steps)) → ((family : Family) → length steps ≤ (bounds_in l family).limit)
-    → verdicts_on times (packets_in steps) ≡ verdicts
+    → verdicts_on (packets_in steps) ≡ verdicts
 aged_verdicts l times policy packets verdicts steps all aged read few =
     let js = all.judged in
     let same : readings_of (packets_in steps) ≡ readings_of js

@@ -4,7 +4,8 @@ use Rattle.std.proofs.lemmas.List.Elements.{All-head, All-nil, All-tail}
 use Rattle.std.specs.FinMap.{len, len-empty}
 use Rattle.std.specs.Cmp.Lexicographic.{slice_cmp}
 use Rattle.std.specs.Ordering.{nat_cmp}
-use Rattle.std.specs.Prelude.{if◌then◌else◌, option_map}
+use Rattle.std.specs.Option.{ForSome}
+use Rattle.std.specs.Prelude.{◌≢◌, if◌then◌else◌}
 use Rattle.packet_view.specs.Captures.{PacketFacts}
 use Rattle.acl_policy.specs.Policies.{PolicyFacts}
 use Rattle.bihash_words.specs.Maps.{Bounds, Event, Pairs, expired_told, most_pairs}
@@ -15,11 +16,12 @@ use Rattle.bihash_words.specs.Refusals.{IsTaken}
 use Rattle.bihash_words.specs.Runs.{writes_of}
 use Rattle.session_state.specs.declared.timeouts.Timeouts.{Timeouts}
 use Rattle.session_state.specs.declared.verdict.Verdict.{Verdict}
-use Rattle.filter_laws.specs.Apart.{HasKeyNumber, TookNoPlaceOf, WasTaken, packets_of, those_of}
-use Rattle.flow_filter.specs.Judged.{IsAsked, Judged, expired_for, readings_of, verdict_by_event, verdict_on, verdict_with, verdicts_on}
+use Rattle.filter_laws.specs.Apart.{HasKeyNumber, TookNoPlaceOf, WasTaken, number_in, packets_of, those_of}
+use Rattle.flow_filter.specs.Judged.{Asked, Asks, IsAsked, Judged, Settled, expired_for, readings_of, verdict_on, verdict_with, verdicts_on}
 use Rattle.flow_filter.specs.OneThread.{AreVerdicts, HasPages, Home, Layout, bounds_in, home_of, nothing, same_home}
-use Rattle.flow_filter.specs.Readings.{AreReadings, Framed, IsReading, Reading, Ruled, Ruling}
+use Rattle.flow_filter.specs.Readings.{AreReadings, Framed, IsReading, Reading, Ruled}
 use Rattle.flow_filter.specs.Updates.{Update, update_of, words_of}
+use Rattle.flow_filter.proofs.AskedLemmas.{of_asked}
 use Rattle.flow_filter.proofs.HomeLemmas.{homes_are_one}
 use Rattle.filter_laws.proofs.NumberLemmas.{is_of, of_interface, unlike}
 use Rattle.flow_filter.proofs.OneThreadLemmas.{IsThread, counts_after, first_asked, first_unasked, maps_after, of_one_thread, one_verdicts, thread_asked, thread_unasked}
@@ -41,8 +43,16 @@ at_each P home at here other =
     ] refl
 
 -- the same call where no key has to go, and the packet with it
+abbrev single_asked : Asked Event → Asked Event
+single_asked Settled = Settled
+single_asked (Asks u e) = Asks u (bare e)
+
 abbrev single : Judged → Judged
-single j = record { reading = j.reading; event = option_map bare j.event }
+single j = record { reading = j.reading; asked = single_asked j.asked }
+
+-- what this event took the place of is not of this interface
+abbrev TookNone : ℕ → Event → Type 0
+TookNone interface e = ForSome e.recycling.removed (λ gone. number_in gone ≢ interface)
 
 -- the packets of the interface, judged alone
 abbrev singles_of : ℕ → List PacketFacts → List Judged → List Judged
@@ -73,7 +83,7 @@ more_unasked l times interface packet packets j js none apart maps own rest coun
     let others = apart maps own rest counts own_counts behind are in
     elim (packet.interface == interface) as (λ t. IsThread l times own own_counts
     (map single (if t then j ∷ those else those))) [
-      | true ↦ thread_unasked l times own own_counts (single j) (map single those) none (ap (option_map bare) at) others
+      | true ↦ thread_unasked l times own own_counts (single j) (map single those) none (ap single_asked at) others
       | false ↦ others
     ]
 
@@ -90,13 +100,14 @@ more_own l times interface packets j js u is of took taken apart maps own rest c
     let first = first_asked l times maps counts u j js is thread in
     let e : Event = first.event in
     let kind : List ℕ → Bool = is_of interface in
+    let held : IsTaken e.reply = of_asked (λ e. IsTaken e.reply) j.asked u e taken first.is in
     let (left, rest', step, parts) =
     own_step kind b (maps home) (own home) (rest home) first.left (counts home) (own_counts home) e
-    (ap kind first.of.key ∙ of) (taken e first.is) (unlike interface e (took e first.is)) (are.fewer home)
+    (ap kind first.of.key ∙ of) held (unlike interface e (of_asked (TookNone interface) j.asked u e took first.is)) (are.fewer home)
     (are.bounded home) (are.parts home) first.step in
-    let bears = asks_none e.reply (expired_for u.patch) (taken e first.is) in
+    let bears = asks_none e.reply (expired_for u.patch) held in
     thread_asked l times own own_counts (single j) (singles_of interface packets js) u (bare e) left is
-    (ap (option_map bare) first.is) (record { key = first.of.key; change = first.of.change; expiry = bears }) first.paged
+    (ap single_asked first.is) (record { key = first.of.key; change = first.of.change; expiry = bears }) first.paged
     step
     (apart (maps_after maps home first.left) (maps_after own home left) (maps_after rest home rest')
     (counts_after counts home e) (counts_after own_counts home e) first.behind (record {
@@ -124,7 +135,7 @@ more_other l times interface packets j js u is of took apart maps own rest count
     let kind : List ℕ → Bool = is_of interface in
     let (rest', parts) =
     rest_step kind b (maps home) (own home) (rest home) first.left (counts home) e (ap kind first.of.key ∙ of)
-    (unlike interface e (took e first.is)) (are.parts home) first.step in
+    (unlike interface e (of_asked (TookNone interface) j.asked u e took first.is)) (are.parts home) first.step in
     apart (maps_after maps home first.left) own (maps_after rest home rest') (counts_after counts home e) own_counts
     first.behind (record {
       parts = λ h. at_each (λ h t. AreParts kind (if t then first.left else maps h) (own h) (if t then rest' else rest h))
@@ -210,17 +221,17 @@ those_read policy interface (packet ∷ packets) (j ∷ js) read =
     ]
 
 -- and their verdicts
-those_said : (times : Timeouts) (interface : ℕ) (packets : List PacketFacts) (js : List Judged)
-    → those_of interface packets (verdicts_on times js) ≡ verdicts_on times (those_of interface packets js)
-those_said times interface [] js = refl
-those_said times interface (packet ∷ packets) [] = refl
-those_said times interface (packet ∷ packets) (j ∷ js) =
+those_said : (interface : ℕ) (packets : List PacketFacts) (js : List Judged)
+    → those_of interface packets (verdicts_on js) ≡ verdicts_on (those_of interface packets js)
+those_said interface [] js = refl
+those_said interface (packet ∷ packets) [] = refl
+those_said interface (packet ∷ packets) (j ∷ js) =
     let those = those_of interface packets js in
-    let said = those_of interface packets (verdicts_on times js) in
-    let behind = those_said times interface packets js in
-    elim (packet.interface == interface) as (λ t. (if t then verdict_on times j ∷ said else said)
-    ≡ verdicts_on times (if t then j ∷ those else those)) [
-      | true ↦ ap (λ vs. verdict_on times j ∷ vs) behind
+    let said = those_of interface packets (verdicts_on js) in
+    let behind = those_said interface packets js in
+    elim (packet.interface == interface) as (λ t. (if t then verdict_on j ∷ said else said)
+    ≡ verdicts_on (if t then j ∷ those else those)) [
+      | true ↦ ap (λ vs. verdict_on j ∷ vs) behind
       | false ↦ behind
     ]
 
@@ -229,21 +240,14 @@ singles_read : (js : List Judged) → readings_of (map single js) ≡ readings_o
 singles_read [] = refl
 singles_read (j ∷ js) = ap (λ rs. j.reading ∷ rs) (singles_read js)
 
-single_by_event : (ruling : Ruling) (u : Option Update) (event : Option Event)
-    → verdict_by_event ruling u (option_map bare event) ≡ verdict_by_event ruling u event
-single_by_event ruling None event = refl
-single_by_event ruling (Some u) None = refl
-single_by_event ruling (Some u) (Some e) = refl
+single_said : (reading : Reading) (asked : Asked Event) → verdict_with reading (single_asked asked) ≡ verdict_with reading asked
+single_said (Framed verdict) asked = refl
+single_said (Ruled moment tuple ruling) Settled = refl
+single_said (Ruled moment tuple ruling) (Asks u e) = refl
 
-single_said : (times : Timeouts) (reading : Reading) (event : Option Event)
-    → verdict_with times reading (option_map bare event) ≡ verdict_with times reading event
-single_said times (Framed verdict) event = refl
-single_said times (Ruled moment tuple ruling) event =
-    single_by_event ruling (update_of times (Ruled moment tuple ruling)) event
-
-singles_said : (times : Timeouts) (js : List Judged) → verdicts_on times (map single js) ≡ verdicts_on times js
-singles_said times [] = refl
-singles_said times (j ∷ js) = ap₂ (λ v vs. v ∷ vs) (single_said times j.reading j.event) (singles_said times js)
+singles_said : (js : List Judged) → verdicts_on (map single js) ≡ verdicts_on js
+singles_said [] = refl
+singles_said (j ∷ js) = ap₂ (λ v vs. v ∷ vs) (single_said j.reading j.asked) (singles_said js)
 
 -- nothing is parted into nothing
 at_first : (l : Layout) (kind : List ℕ → Bool) → ArePartings l kind nothing nothing nothing (λ home. 0) (λ home. 0)
@@ -276,6 +280,6 @@ apart_verdicts l times policy packets interface verdicts alone fit all taken too
       judged = map single those;
       read = subst (AreReadings policy (packets_of interface packets)) (sym (singles_read those)) read;
       one_thread = record { asked = thread.asked; runs = thread.runs; paged = thread.paged };
-      said = ap (those_of interface packets) all.said ∙ those_said times interface packets all.judged
-          ∙ sym (singles_said times those);
+      said = ap (those_of interface packets) all.said ∙ those_said interface packets all.judged
+          ∙ sym (singles_said those);
     })

@@ -16,7 +16,7 @@ use Rattle.session_state.specs.declared.timeouts.Timeouts.{Timeouts}
 use Rattle.session_state.specs.Decisions.{decision_of, is_live_for, started_session}
 use Rattle.session_state.specs.Sessions.{session_word}
 use Rattle.session_state.specs.declared.verdict.Verdict.TheVariants as verdict
-use Rattle.flow_filter.specs.Judged.{IsEventOf, expired_for, verdict_by_event, verdict_with}
+use Rattle.flow_filter.specs.Judged.{Asks, IsEventOf, expired_for, verdict_with}
 use Rattle.flow_filter.specs.Passing.{FindsNoRoom}
 use Rattle.flow_filter.specs.Readings.{Ruled, Ruling}
 use Rattle.flow_filter.specs.Updates.{Update, reflects, update_of, words_of}
@@ -147,9 +147,8 @@ module _ (u : Update) (ruling : Ruling) (b : Bounds) (m n : Pairs) (w : ℕ) (e 
 pub full_by_reading : (times : Timeouts) (moment : ℕ) (tuple : TupleFacts) (ruling : Ruling) (u : Update) (b : Bounds)
     (m n : Pairs) (w : ℕ) (e : Event) → update_of times (Ruled moment tuple ruling) ≡ Some u → IsEventOf u e
     → IsEvent b m w e n
-    → (verdict_with times (Ruled moment tuple ruling) (Some e) ≡ verdict.Full) ↔ FindsNoRoom u b m w
-full_by_reading times moment tuple ruling u b m n w e is of step =
-    subst (λ v. (verdict_by_event ruling v (Some e) ≡ verdict.Full) ↔ FindsNoRoom u b m w) (sym is) (
-      no_room u ruling b m n w e of step,
-      λ stuck. is_full u ruling b m n w e of step (reflects_by_rule times moment tuple ruling u is stuck.starts) stuck,
-    )
+    → (verdict_with (Ruled moment tuple ruling) (Asks u e) ≡ verdict.Full) ↔ FindsNoRoom u b m w
+full_by_reading times moment tuple ruling u b m n w e is of step = (
+  no_room u ruling b m n w e of step,
+  λ stuck. is_full u ruling b m n w e of step (reflects_by_rule times moment tuple ruling u is stuck.starts) stuck,
+)

@@ -1,5 +1,5 @@
 -- Each verdict is given exactly where its row of the table of verdicts holds.
-use Rattle.std.proofs.Common.{◌≡◌, ◌∙◌, ◌+◌, ◌++◌, ◌<◌, ◌≤◌, ◌^◌, ℕ, Bool, true, false, List, ◌∷◌, Option, Some, None, ap, ap₂, sym, refl, subst, inl, inr, arith}
+use Rattle.std.proofs.Common.{◌≡◌, ◌∙◌, ◌+◌, ◌++◌, ◌<◌, ◌≤◌, ◌^◌, ℕ, Bool, true, false, List, ◌∷◌, Option, Some, None, ap, ap₂, sym, refl, subst, subst₂, inl, inr, arith}
 use Rattle.std.specs.FinMap.{get, len}
 use Rattle.std.specs.Prelude.{◌↔◌, if◌then◌else◌, nat_lt}
 use Rattle.std.proofs.lemmas.Bool.{cases_Bool, ltb-true, ltb-false}
@@ -22,13 +22,13 @@ use Rattle.session_state.specs.declared.verdict.Verdict.TheVariants as verdict
 use Rattle.session_state.specs.Decisions.{IsLiveFor, is_live_for}
 use Rattle.session_state.specs.Sessions.{SessionFacts}
 use Rattle.session_state.proofs.LiveLemmas.{live_told}
-use Rattle.flow_filter.specs.Judged.{IsEventOf, Judged, verdict_by_event, verdict_on, verdict_with}
+use Rattle.flow_filter.specs.Judged.{Asked, Asks, IsAsked, IsEventOf, Judged, Settled, verdict_by_event, verdict_on, verdict_with}
 use Rattle.flow_filter.specs.OneThread.{Home, IsOneThread, Layout, bounds_in, home_of}
-use Rattle.flow_filter.specs.Passing.{HoldsLive, HoldsStarted}
+use Rattle.flow_filter.specs.Passing.{FindsNoRoom, HoldsLive, HoldsStarted, Leave}
 use Rattle.flow_filter.specs.Readings.{Framed, IsReading, IsReadingOf, IsSeen, Reading, Ruled, Ruling}
 use Rattle.flow_filter.specs.Updates.{Update, reflects, update_of, words_of}
 use Rattle.flow_filter.specs.Verdicts.{verdict_entered, verdict_of, verdict_of_rules, verdict_reflected}
-use Rattle.flow_filter.proofs.PassingLemmas.{reflects_by_rule, taken_starts}
+use Rattle.flow_filter.proofs.PassingLemmas.{reflects_by_rule, said_by_rules, taken_starts}
 use Rattle.flow_filter.proofs.ReadingLemmas.{one_reading}
 use Rattle.filter_laws.specs.VerdictTable.{FindsWorn, IsFlowRow, IsMet, IsMetAt, IsRuleRow, Meeting}
 use Rattle.filter_laws.proofs.FullLemmas.{is_full, no_room, refused_full}
@@ -220,10 +220,9 @@ module _ (u : Update) (at : Meeting) (of : IsEventOf u at.event)
 
 pub row_by_reading : (times : Timeouts) (moment : ℕ) (tuple : TupleFacts) (ruling : Ruling) (u : Update) (at : Meeting)
     (v : Verdict) → update_of times (Ruled moment tuple ruling) ≡ Some u → IsMet u at
-    → (verdict_with times (Ruled moment tuple ruling) (Some at.event) ≡ v) ↔ IsFlowRow u ruling at v
+    → (verdict_with (Ruled moment tuple ruling) (Asks u at.event) ≡ v) ↔ IsFlowRow u ruling at v
 row_by_reading times moment tuple ruling u at v is met =
-    subst (λ found. (verdict_by_event ruling found (Some at.event) ≡ v) ↔ IsFlowRow u ruling at v) (sym is)
-    (flow_row u at met.of met.step ruling (reflects_by_rule times moment tuple ruling u is) v)
+    flow_row u at met.of met.step ruling (reflects_by_rule times moment tuple ruling u is) v
 
 -- the rules alone
 rules_said : (ruling : Ruling) → IsRuleRow ruling (verdict_of_rules ruling)
@@ -246,11 +245,11 @@ rules_in ruling verdict.NotIp row = absurd row
 rules_in ruling verdict.Malformed row = absurd row
 rules_in ruling verdict.Short row = absurd row
 
-pub row_by_rules : (times : Timeouts) (moment : ℕ) (tuple : TupleFacts) (ruling : Ruling) (event : Option Event) (v : Verdict)
-    → update_of times (Ruled moment tuple ruling) ≡ None
-    → (verdict_with times (Ruled moment tuple ruling) event ≡ v) ↔ IsRuleRow ruling v
-row_by_rules times moment tuple ruling event v none =
-    subst (λ found. (verdict_by_event ruling found event ≡ v) ↔ IsRuleRow ruling v) (sym none)
+pub row_by_rules : (times : Timeouts) (moment : ℕ) (tuple : TupleFacts) (ruling : Ruling) (j : Judged) (v : Verdict)
+    → IsAsked times j → j.reading ≡ Ruled moment tuple ruling → update_of times j.reading ≡ None
+    → (verdict_on j ≡ v) ↔ IsRuleRow ruling v
+row_by_rules times moment tuple ruling j v asked reads none =
+    subst (λ said. (said ≡ v) ↔ IsRuleRow ruling v) (sym (said_by_rules times moment tuple ruling j asked reads none))
     (λ is. subst (IsRuleRow ruling) is (rules_said ruling), rules_in ruling v)
 
 -- whether a verdict is one that a frame alone gives
@@ -286,59 +285,58 @@ said_unframed false true None r = refl
 said_unframed false true (Some decided) r = entered_unframed (decided.0 + 1) r
 said_unframed false false ruling r = rules_unframed ruling
 
-event_unframed : (ruling : Ruling) (u : Option Update) (event : Option Event) → is_framed (verdict_by_event ruling u event) ≡ false
-event_unframed ruling None event = rules_unframed ruling
-event_unframed ruling (Some u) None = rules_unframed ruling
-event_unframed ruling (Some u) (Some e) = said_unframed (is_live_for u.patch e.found) u.patch.reflects ruling e.reply
+event_unframed : (ruling : Ruling) (asked : Asked Event) → is_framed (verdict_by_event ruling asked) ≡ false
+event_unframed ruling Settled = rules_unframed ruling
+event_unframed ruling (Asks u e) = said_unframed (is_live_for u.patch e.found) u.patch.reflects ruling e.reply
 
-module _ (times : Timeouts) (policy : PolicyFacts) (packet : PacketFacts) (reading : Reading) (event : Option Event)
+module _ (policy : PolicyFacts) (packet : PacketFacts) (reading : Reading) (asked : Asked Event)
     (read : IsReading policy packet reading) where
-  given : (v : Verdict) → reading ≡ Framed v → verdict_with times reading event ≡ v
-  given v same = ap (λ (r : Reading). verdict_with times r event) same
+  given : (v : Verdict) → reading ≡ Framed v → verdict_with reading asked ≡ v
+  given v same = ap (λ (r : Reading). verdict_with r asked) same
 
   no_rule : (tuple : TupleFacts) (ruling : Ruling) → reading ≡ Ruled packet.moment tuple ruling → (v : Verdict) → is_framed v ≡ true
-      → verdict_with times reading event ≡ v → ⊥
+      → verdict_with reading asked ≡ v → ⊥
   no_rule tuple ruling same v framed is =
       let clash : false ≡ true =
-      sym (event_unframed ruling (update_of times (Ruled packet.moment tuple ruling)) event)
-      ∙ ap (λ (r : Reading). is_framed (verdict_with times r event)) (sym same) ∙ ap is_framed is ∙ framed in
+      sym (event_unframed ruling asked)
+      ∙ ap (λ (r : Reading). is_framed (verdict_with r asked)) (sym same) ∙ ap is_framed is ∙ framed in
       let f : ⊥ = cc in f
 
   -- the view by which the packet was read
   abbrev Views : FrameFacts → Type 0
   Views view = IsSeen policy packet view × IsReadingOf (section_of packet.interface policy) packet.moment view reading
 
-  seen_not_ip : (view : FrameFacts) → Views view → verdict_with times reading event ≡ verdict.NotIp → IsSeen policy packet frames.NotIp
+  seen_not_ip : (view : FrameFacts) → Views view → verdict_with reading asked ≡ verdict.NotIp → IsSeen policy packet frames.NotIp
   seen_not_ip frames.NotIp (seen, of) is = seen
   seen_not_ip frames.Malformed (seen, of) is = let other = given verdict.Malformed of in absurd (cc)
   seen_not_ip frames.Short (seen, of) is = let other = given verdict.Short of in absurd (cc)
   seen_not_ip (frames.Ip direction tuple) (seen, (ruling, decides, same)) is = absurd (no_rule tuple ruling same verdict.NotIp refl is)
 
-  seen_malformed : (view : FrameFacts) → Views view → verdict_with times reading event ≡ verdict.Malformed → IsSeen policy packet frames.Malformed
+  seen_malformed : (view : FrameFacts) → Views view → verdict_with reading asked ≡ verdict.Malformed → IsSeen policy packet frames.Malformed
   seen_malformed frames.NotIp (seen, of) is = let other = given verdict.NotIp of in absurd (cc)
   seen_malformed frames.Malformed (seen, of) is = seen
   seen_malformed frames.Short (seen, of) is = let other = given verdict.Short of in absurd (cc)
   seen_malformed (frames.Ip direction tuple) (seen, (ruling, decides, same)) is = absurd (no_rule tuple ruling same verdict.Malformed refl is)
 
-  seen_short : (view : FrameFacts) → Views view → verdict_with times reading event ≡ verdict.Short → IsSeen policy packet frames.Short
+  seen_short : (view : FrameFacts) → Views view → verdict_with reading asked ≡ verdict.Short → IsSeen policy packet frames.Short
   seen_short frames.NotIp (seen, of) is = let other = given verdict.NotIp of in absurd (cc)
   seen_short frames.Malformed (seen, of) is = let other = given verdict.Malformed of in absurd (cc)
   seen_short frames.Short (seen, of) is = seen
   seen_short (frames.Ip direction tuple) (seen, (ruling, decides, same)) is = absurd (no_rule tuple ruling same verdict.Short refl is)
 
-  pub not_ip_row : (verdict_with times reading event ≡ verdict.NotIp) ↔ IsSeen policy packet frames.NotIp
+  pub not_ip_row : (verdict_with reading asked ≡ verdict.NotIp) ↔ IsSeen policy packet frames.NotIp
   not_ip_row = (
     seen_not_ip read.0 (read.1, read.2),
     λ seen. given verdict.NotIp (one_reading policy packet reading (Framed verdict.NotIp) read (frames.NotIp, seen, refl)),
   )
 
-  pub malformed_row : (verdict_with times reading event ≡ verdict.Malformed) ↔ IsSeen policy packet frames.Malformed
+  pub malformed_row : (verdict_with reading asked ≡ verdict.Malformed) ↔ IsSeen policy packet frames.Malformed
   malformed_row = (
     seen_malformed read.0 (read.1, read.2),
     λ seen. given verdict.Malformed (one_reading policy packet reading (Framed verdict.Malformed) read (frames.Malformed, seen, refl)),
   )
 
-  pub short_row : (verdict_with times reading event ≡ verdict.Short) ↔ IsSeen policy packet frames.Short
+  pub short_row : (verdict_with reading asked ≡ verdict.Short) ↔ IsSeen policy packet frames.Short
   short_row = (
     seen_short read.0 (read.1, read.2),
     λ seen. given verdict.Short (one_reading policy packet reading (Framed verdict.Short) read (frames.Short, seen, refl)),
@@ -348,7 +346,7 @@ module _ (times : Timeouts) (policy : PolicyFacts) (packet : PacketFacts) (readi
 pub row_in_order : (l : Layout) (times : Timeouts) (opening : Home → Pairs) (before after : List Judged) (j : Judged)
     (moment : ℕ) (tuple : TupleFacts) (ruling : Ruling) (u : Update) → IsOneThread l times opening (before ++ j ∷ after)
     → j.reading ≡ Ruled moment tuple ruling → update_of times j.reading ≡ Some u
-    → (at : Meeting) × IsMetAt l times opening before j u at × ((v : Verdict) → (verdict_on times j ≡ v) ↔ IsFlowRow u ruling at v)
+    → (at : Meeting) × IsMetAt l opening before j u at × ((v : Verdict) → (verdict_on j ≡ v) ↔ IsFlowRow u ruling at v)
 row_in_order l times opening before after j moment tuple ruling u thread reads is =
     let p = placed l times opening before after j u thread is in
     let at : Meeting = record {
@@ -358,16 +356,28 @@ row_in_order l times opening before after j moment tuple ruling u thread reads i
       event = p.event;
       after = p.leaves;
     } in
-    let same : verdict_on times j ≡ verdict_with times (Ruled moment tuple ruling) (Some p.event) =
-    ap₂ (λ r e. verdict_with times r e) reads p.is in (
+    let same : verdict_on j ≡ verdict_with (Ruled moment tuple ruling) (Asks u p.event) = ap₂ verdict_with reads p.is in (
       at,
       record {
         event = p.is;
         bounds = refl;
         left = (p.count, p.before_it);
         counted = refl;
-        leaves = leaves_behind l times opening before j u is p;
+        leaves = leaves_behind l opening before j u p;
       },
       λ v. subst (λ found. (found ≡ v) ↔ IsFlowRow u ruling at v) (sym same)
           (row_by_reading times moment tuple ruling u at v (ap (update_of times) (sym reads) ∙ is) (record { of = p.of; step = p.step })),
+    )
+
+-- the row of a full bucket
+pub full_in_order : (l : Layout) (times : Timeouts) (opening : Home → Pairs) (before after : List Judged) (j : Judged)
+    (moment : ℕ) (tuple : TupleFacts) (ruling : Ruling) (u : Update) → IsOneThread l times opening (before ++ j ∷ after)
+    → j.reading ≡ Ruled moment tuple ruling → update_of times j.reading ≡ Some u
+    → (m : Pairs) × (left : Leave l opening before (home_of l u.key) m)
+    × ((verdict_on j ≡ verdict.Full) ↔ FindsNoRoom u (bounds_in l (home_of l u.key).family) m left.0)
+full_in_order l times opening before after j moment tuple ruling u thread reads is =
+    let (at, met, rows) = row_in_order l times opening before after j moment tuple ruling u thread reads is in (
+      at.before,
+      met.left,
+      subst₂ (λ b w. (verdict_on j ≡ verdict.Full) ↔ FindsNoRoom u b at.before w) met.bounds met.counted (rows verdict.Full),
     )

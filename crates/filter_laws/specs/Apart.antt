@@ -3,7 +3,7 @@ use Rattle.std.specs.Prelude.{◌≢◌, ◌<◌, ℕ, ◌%◌, ◌^◌, ◌==�
 use Rattle.std.specs.Option.{ForSome}
 use Rattle.packet_view.specs.Captures.{PacketFacts}
 use Rattle.bihash_words.specs.Refusals.{IsTaken}
-use Rattle.flow_filter.specs.Judged.{Judged}
+use Rattle.flow_filter.specs.Judged.{Judged, WhereAsked}
 
 -- the number of the packet's interface fits below the protocol in a key, as each one does that is at most 255
 abbrev pub HasKeyNumber : PacketFacts → Type 0
@@ -29,8 +29,8 @@ number_in (word ∷ next ∷ words) = number_in (next ∷ words)
 
 -- the packet was not refused: its bucket was neither full nor worn, and had pages
 abbrev pub WasTaken : Judged → Type 0
-WasTaken j = ForSome j.event (λ e. IsTaken e.reply)
+WasTaken j = WhereAsked j.asked (λ e. IsTaken e.reply)
 
 -- where the packet's new session took the place of another, that one is not of this interface
 abbrev pub TookNoPlaceOf : ℕ → Judged → Type 0
-TookNoPlaceOf interface j = ForSome j.event (λ e. ForSome e.recycling.removed (λ gone. number_in gone ≢ interface))
+TookNoPlaceOf interface j = WhereAsked j.asked (λ e. ForSome e.recycling.removed (λ gone. number_in gone ≢ interface))

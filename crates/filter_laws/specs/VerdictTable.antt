@@ -1,5 +1,5 @@
 -- The table of verdicts: for each verdict, where a packet gets it (this project's profile).
-use Rattle.std.specs.Prelude.{◌≡◌, ◌≤◌, ◌<◌, ◌⊎◌, ◌↔◌, ℕ, ◌+◌, ◌^◌, true, false, Option, List, [], ◌∷◌, ◌++◌, Some, None}
+use Rattle.std.specs.Prelude.{◌≡◌, ◌≤◌, ◌<◌, ◌⊎◌, ◌↔◌, ℕ, ◌+◌, ◌^◌, true, false, List, [], ◌∷◌, ◌++◌, Some, None}
 use Rattle.std.specs.FinMap.{get, len}
 use Rattle.packet_view.specs.Captures.{PacketFacts}
 use Rattle.packet_view.specs.Frames.{FrameFacts}
@@ -8,10 +8,9 @@ use Rattle.acl_policy.specs.declared.rule.Action.{Action}
 use Rattle.acl_policy.specs.declared.rule.Action.TheVariants as action
 use Rattle.bihash_words.specs.Maps.{Bounds, Event, Pairs, IsEvent, most_pairs}
 use Rattle.bihash_words.specs.declared.patch.Reply.TheVariants as reply
-use Rattle.session_state.specs.declared.timeouts.Timeouts.{Timeouts}
 use Rattle.session_state.specs.declared.verdict.Verdict.{Verdict}
 use Rattle.session_state.specs.declared.verdict.Verdict.TheVariants as verdict
-use Rattle.flow_filter.specs.Judged.{IsEventOf, Judged, verdict_with}
+use Rattle.flow_filter.specs.Judged.{Asked, Asks, IsEventOf, Judged, verdict_with}
 use Rattle.flow_filter.specs.OneThread.{Home, Layout, bounds_in, home_of}
 use Rattle.flow_filter.specs.Passing.{FindsNoRoom, HoldsLive, HoldsStarted, Leave}
 use Rattle.flow_filter.specs.Readings.{IsReading, IsSeen, Reading, Ruling}
@@ -31,13 +30,13 @@ pub record IsMet (u : Update) (at : Meeting) : Type 0 where
   pub step : IsEvent at.bounds at.before at.writes at.event at.after
 
 -- A packet that is judged after others meets what these left in its flow's bucket.
-pub record IsMetAt (l : Layout) (times : Timeouts) (opening : Home → Pairs) (before : List Judged) (j : Judged) (u : Update)
+pub record IsMetAt (l : Layout) (opening : Home → Pairs) (before : List Judged) (j : Judged) (u : Update)
     (at : Meeting) : Type 0 where
-  pub event : j.event ≡ Some at.event
+  pub event : j.asked ≡ Asks u at.event
   pub bounds : at.bounds ≡ bounds_in l (home_of l u.key).family
-  pub left : Leave l times opening before (home_of l u.key) at.before
+  pub left : Leave l opening before (home_of l u.key) at.before
   pub counted : at.writes ≡ left.0
-  pub leaves : Leave l times opening (before ++ j ∷ []) (home_of l u.key) at.after
+  pub leaves : Leave l opening (before ++ j ∷ []) (home_of l u.key) at.after
 
 -- the rule with this number, counted from 1, decides, and does this
 abbrev pub Decided : Ruling → ℕ → Action → Type 0
@@ -85,8 +84,8 @@ IsFlowRow u ruling at verdict.Short = ⊥
 -- A verdict that a frame alone gives is given exactly where a packet's frame is seen as this.
 abbrev pub IsFrameRow : FrameFacts → Verdict → Type 0
 IsFrameRow view v =
-    (times : Timeouts) (policy : PolicyFacts) (packet : PacketFacts) (reading : Reading) (event : Option Event)
-    → IsReading policy packet reading → (verdict_with times reading event ≡ v) ↔ IsSeen policy packet view
+    (policy : PolicyFacts) (packet : PacketFacts) (reading : Reading) (asked : Asked Event)
+    → IsReading policy packet reading → (verdict_with reading asked ≡ v) ↔ IsSeen policy packet view
 
 -- The rows of a packet that is IP and has no flow: the rules alone say them, and one that reflects permits.
 abbrev pub IsRuleRow : Ruling → Verdict → Type 0

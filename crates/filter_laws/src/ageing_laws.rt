@@ -23,7 +23,7 @@ pub fn removing_ended_sessions_changes_no_verdict()
         → ((home : Home) → len (opening home) ≤ most_pairs (bounds_in l home.family))
         → IsOneThread l times opening js → IsAgedThread l times opening steps
         → readings_of (packets_in steps) ≡ readings_of js → All IsUnworn js → All IsUnworn (packets_in steps)
-        → verdicts_on times (packets_in steps) ≡ verdicts_on times js }
+        → verdicts_on (packets_in steps) ≡ verdicts_on js }
 {}
 
 /// The verdicts of the one-thread filter are those of a filter that ages, where moments never fall, pages never run out,
@@ -33,7 +33,7 @@ pub fn ageing_filter_says_the_same()
         (steps : List Step) → AreVerdicts l times policy packets verdicts → IsAgedThread l times nothing steps
         → AreReadings policy packets (readings_of (packets_in steps))
         → ((family : Family) → length steps ≤ (bounds_in l family).limit)
-        → verdicts_on times (packets_in steps) ≡ verdicts }
+        → verdicts_on (packets_in steps) ≡ verdicts }
 {}
 
 /// A session that was removed as one that has ended lets no packet through whose moment isn't before that: so, whoever

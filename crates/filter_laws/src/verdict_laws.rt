@@ -1,7 +1,7 @@
 //! What follows of the definitions, for all packets at once.
 //!
 //! The functions do nothing: their contracts are the laws.
-ghost use Rattle.std.specs.Prelude.{◌≡◌, ◌⊎◌, ◌↔◌, ◌++◌, ℕ, true, List, [], ◌∷◌, Option, Some, None, All};
+ghost use Rattle.std.specs.Prelude.{◌≡◌, ◌⊎◌, ◌↔◌, ◌++◌, ℕ, true, List, [], ◌∷◌, Some, None, All};
 ghost use Rattle.packet_view.specs.Captures.{PacketFacts};
 ghost use Rattle.packet_view.specs.Tuples.{TupleFacts};
 ghost use Rattle.acl_policy.specs.Policies.{PolicyFacts};
@@ -10,7 +10,7 @@ ghost use Rattle.session_state.specs.declared.timeouts.Timeouts.{Timeouts};
 ghost use Rattle.session_state.specs.declared.verdict.Verdict.{Verdict};
 ghost use Rattle.session_state.specs.declared.verdict.Verdict.TheVariants.{Full};
 ghost use Rattle.filter_laws.specs.Apart.{HasKeyNumber, TookNoPlaceOf, WasTaken, packets_of, those_of};
-ghost use Rattle.flow_filter.specs.Judged.{IsEventOf, Judged, readings_of, verdict_on, verdict_with};
+ghost use Rattle.flow_filter.specs.Judged.{Asks, IsAsked, IsEventOf, Judged, readings_of, verdict_on, verdict_with};
 ghost use Rattle.flow_filter.specs.OneThread.{AreVerdicts, Home, IsOneThread, Layout, bounds_in, home_of};
 ghost use Rattle.flow_filter.specs.Passing.{FindsNoRoom, HoldsLive, IsPermitting, Leave, LetsThrough, MakesRoom};
 ghost use Rattle.flow_filter.specs.Readings.{AreReadings, IsReading, Reading, Ruled, Ruling};
@@ -51,18 +51,18 @@ pub fn each_capture_has_one_list_of_verdicts()
 pub fn packets_pass_by_rule_or_session()
     ensures flow { (times : Timeouts) (moment : ℕ) (tuple : TupleFacts) (ruling : Ruling) (u : Update) (b : Bounds) (m n : Pairs)
         (w : ℕ) (e : Event) → update_of times (Ruled moment tuple ruling) ≡ Some u → IsEventOf u e → IsEvent b m w e n
-        → (passes (verdict_with times (Ruled moment tuple ruling) (Some e)) ≡ true) ↔ (HoldsLive u m ⊎ LetsThrough u n ruling) }
-    ensures no_flow { (times : Timeouts) (moment : ℕ) (tuple : TupleFacts) (ruling : Ruling) (event : Option Event)
-        → update_of times (Ruled moment tuple ruling) ≡ None
-        → (passes (verdict_with times (Ruled moment tuple ruling) event) ≡ true) ↔ IsPermitting ruling }
+        → (passes (verdict_with (Ruled moment tuple ruling) (Asks u e)) ≡ true) ↔ (HoldsLive u m ⊎ LetsThrough u n ruling) }
+    ensures no_flow { (times : Timeouts) (moment : ℕ) (tuple : TupleFacts) (ruling : Ruling) (j : Judged) → IsAsked times j
+        → j.reading ≡ Ruled moment tuple ruling → update_of times j.reading ≡ None
+        → (passes (verdict_on j) ≡ true) ↔ IsPermitting ruling }
 
     // What the bucket holds is what the packets before it left there.
     ensures in_order { (l : Layout) (times : Timeouts) (opening : Home → Pairs) (before after : List Judged)
         (j : Judged) (moment : ℕ) (tuple : TupleFacts) (ruling : Ruling) (u : Update)
         → IsOneThread l times opening (before ++ j ∷ after) → j.reading ≡ Ruled moment tuple ruling
         → update_of times j.reading ≡ Some u → (m n : Pairs)
-        × Leave l times opening before (home_of l u.key) m × Leave l times opening (before ++ j ∷ []) (home_of l u.key) n
-        × ((passes (verdict_on times j) ≡ true) ↔ (HoldsLive u m ⊎ LetsThrough u n ruling)) }
+        × Leave l opening before (home_of l u.key) m × Leave l opening (before ++ j ∷ []) (home_of l u.key) n
+        × ((passes (verdict_on j) ≡ true) ↔ (HoldsLive u m ⊎ LetsThrough u n ruling)) }
 {}
 
 /// A packet gets the verdict `full` exactly where it would start a session and its bucket, which may still change, has
@@ -70,12 +70,12 @@ pub fn packets_pass_by_rule_or_session()
 pub fn full_buckets_hold_live_sessions()
     ensures flow { (times : Timeouts) (moment : ℕ) (tuple : TupleFacts) (ruling : Ruling) (u : Update) (b : Bounds) (m n : Pairs)
         (w : ℕ) (e : Event) → update_of times (Ruled moment tuple ruling) ≡ Some u → IsEventOf u e → IsEvent b m w e n
-        → (verdict_with times (Ruled moment tuple ruling) (Some e) ≡ Full) ↔ FindsNoRoom u b m w }
+        → (verdict_with (Ruled moment tuple ruling) (Asks u e) ≡ Full) ↔ FindsNoRoom u b m w }
     ensures in_order { (l : Layout) (times : Timeouts) (opening : Home → Pairs) (before after : List Judged)
         (j : Judged) (moment : ℕ) (tuple : TupleFacts) (ruling : Ruling) (u : Update)
         → IsOneThread l times opening (before ++ j ∷ after) → j.reading ≡ Ruled moment tuple ruling
-        → update_of times j.reading ≡ Some u → (m : Pairs) × (left : Leave l times opening before (home_of l u.key) m)
-        × ((verdict_on times j ≡ Full) ↔ FindsNoRoom u (bounds_in l (home_of l u.key).family) m left.0) }
+        → update_of times j.reading ≡ Some u → (m : Pairs) × (left : Leave l opening before (home_of l u.key) m)
+        × ((verdict_on j ≡ Full) ↔ FindsNoRoom u (bounds_in l (home_of l u.key).family) m left.0) }
 {}
 
 /// Where the filter starts a packet's session in a full bucket, this takes the place of one that isn't live at the

@@ -1,6 +1,6 @@
 -- What all workers did, in one order of steps.
 use Rattle.std.proofs.Common.{◌≡◌, ◌≢◌, ◌∙◌, ◌+◌, ◌<◌, ◌≤◌, ℕ, zero, suc, Bool, true, false, cond, List, [], ◌∷◌, length, map, Option, Some, None, ap, refl, sym, subst, arith, inl, inr}
-use Rattle.std.specs.Prelude.{if◌then◌else◌, ◌==◌, ◌&&◌, option_map, slice_get}
+use Rattle.std.specs.Prelude.{if◌then◌else◌, ◌==◌, ◌&&◌, slice_get}
 use Rattle.std.specs.List.{All}
 use Rattle.std.proofs.lemmas.Bool.{cases_lt, eq-eqb}
 use Rattle.std.proofs.lemmas.Bool.Decides.{eqb_tells}
@@ -18,11 +18,10 @@ use Rattle.session_state.specs.declared.verdict.Verdict.{Verdict}
 use Rattle.flow_filter.specs.Ageing.{Judges, NeverFall, Removal, Removes, Step, moment_of, moment_of_reading, packets_in, removals_in}
 use Rattle.flow_filter.specs.Readings.{AreReadings, Framed, IsReading, IsReadingOf, Reading}
 use Rattle.session_state.specs.declared.verdict.Verdict.TheVariants as verdict
-use Rattle.flow_filter.specs.Updates.{update_of}
 use Rattle.flow_filter.specs.Judged.{readings_of}
 use Rattle.flow_filter.specs.OneThread.{same_family}
 use Rattle.packet_dealing.specs.Dealings.{Deal, flow_of_reading, flow_of_frame, worker_of}
-use Rattle.flow_dealing.specs.Traces.{AreFrames, Item, judged_of, numbers_from}
+use Rattle.flow_dealing.specs.Traces.{AreFrames, Item, events_of, judged_of, numbers_from}
 use Rattle.flow_dealing.specs.AgeingTraces.{Aged, Ages, AreInOrder, Deed, Takes, aged_in, calls_by, items_in, removal_by}
 use Rattle.flow_dealing.specs.WorkerRecords.{add_in, events_by}
 use Rattle.flow_dealing.proofs.DealtEvents.{IsOwn, IsSaid, events_by-judges, events_by-nil, events_by-removes, events_of_call, next_placed, numbers-cons, numbers-nil, numbers_of, worker_few}
@@ -70,14 +69,14 @@ unchosen : (s t : Bool) (x y : List Event) → t ≡ false → cond (s && t) x y
 unchosen true t x y is = ap (λ b. cond b x y) is
 unchosen false t x y is = refl
 
-events_of_aged : (times : Timeouts) (family : Family) (a : Aged) (deeds : List Deed)
-    → map event_of (calls_by times family (Ages a ∷ deeds))
-    ≡ cond (same_family family a.family) (event_of a.call ∷ map event_of (calls_by times family deeds))
-    (map event_of (calls_by times family deeds))
-events_of_aged times family a deeds = go (same_family family a.family)
+events_of_aged : (family : Family) (a : Aged) (deeds : List Deed)
+    → map event_of (calls_by family (Ages a ∷ deeds))
+    ≡ cond (same_family family a.family) (event_of a.call ∷ map event_of (calls_by family deeds))
+    (map event_of (calls_by family deeds))
+events_of_aged family a deeds = go (same_family family a.family)
   where
-    go : (s : Bool) → map event_of (if s then a.call ∷ calls_by times family deeds else calls_by times family deeds)
-        ≡ cond s (event_of a.call ∷ map event_of (calls_by times family deeds)) (map event_of (calls_by times family deeds))
+    go : (s : Bool) → map event_of (if s then a.call ∷ calls_by family deeds else calls_by family deeds)
+        ≡ cond s (event_of a.call ∷ map event_of (calls_by family deeds)) (map event_of (calls_by family deeds))
     go true = refl
     go false = refl
 
@@ -113,7 +112,7 @@ module _ (d : Deal) (times : Timeouts) (policy : PolicyFacts) (packets : List Pa
   -- the events of each worker's deeds are its own of the steps
   abbrev AreDealtIn : (ℕ → List Deed) → ℕ → List Step → Type 0
   AreDealtIn trace at steps = (family : Family) (w : ℕ) → w < d.workers
-      → map event_of (calls_by times family (trace w)) ≡ events_by d times family w at steps
+      → map event_of (calls_by family (trace w)) ≡ events_by d family w at steps
 
   -- the deeds of all workers but the first of one's
   abbrev but_first : (ℕ → List Deed) → ℕ → List Deed → ℕ → List Deed
@@ -126,22 +125,22 @@ module _ (d : Deal) (times : Timeouts) (policy : PolicyFacts) (packets : List Pa
       → AreDealtIn trace at (Removes (removal_by worker a) ∷ steps)
   popped at worker a rest trace steps split more family w few = elim (eqb_tells worker w) [
     | inl (test, mine) ↦
-        let after : map event_of (calls_by times family rest) ≡ E =
-        sym (ap (λ b. map event_of (calls_by times family (cond b rest (trace w)))) test) ∙ more family w few in
-        ap (λ k. map event_of (calls_by times family (trace k))) (sym mine)
-        ∙ (ap (λ x. map event_of (calls_by times family x)) split
-        ∙ (events_of_aged times family a rest
+        let after : map event_of (calls_by family rest) ≡ E =
+        sym (ap (λ b. map event_of (calls_by family (cond b rest (trace w)))) test) ∙ more family w few in
+        ap (λ k. map event_of (calls_by family (trace k))) (sym mine)
+        ∙ (ap (λ x. map event_of (calls_by family x)) split
+        ∙ (events_of_aged family a rest
         ∙ (ap (λ es. cond (same_family family a.family) (event_of a.call ∷ es) es) after
         ∙ (sym (chosen (same_family family a.family) (worker == w) (event_of a.call ∷ E) E test)
-        ∙ sym (events_by-removes d times family w at (removal_by worker a) steps)))))
+        ∙ sym (events_by-removes d family w at (removal_by worker a) steps)))))
     | inr (test, other) ↦
-        sym (ap (λ b. map event_of (calls_by times family (cond b rest (trace w)))) test) ∙ (more family w few
+        sym (ap (λ b. map event_of (calls_by family (cond b rest (trace w)))) test) ∙ (more family w few
         ∙ (sym (unchosen (same_family family a.family) (worker == w) (event_of a.call ∷ E) E test)
-        ∙ sym (events_by-removes d times family w at (removal_by worker a) steps)))
+        ∙ sym (events_by-removes d family w at (removal_by worker a) steps)))
   ]
     where
       E : List Event
-      E = events_by d times family w at steps
+      E = events_by d family w at steps
 
   -- the steps that come first, and what is left behind them, where these workers have no removal of this place left
   record Flushed (at : ℕ) (views : List frames.FrameFacts) (trace : ℕ → List Deed) (upto : ℕ) : Type 0 where
@@ -342,26 +341,26 @@ module _ (d : Deal) (times : Timeouts) (policy : PolicyFacts) (packets : List Pa
   dealt_before at worker item rest steps trace split is more family w few = elim (eqb_tells worker w) [
     | inl (test, mine) ↦
         let has : (worker_of d at (flow_of_reading item.reading) == w) ≡ true = ap (λ k. k == w) is ∙ test in
-        let after : map event_of (calls_by times family rest) ≡ E =
-        sym (ap (λ b. map event_of (calls_by times family (cond b rest (trace w)))) test) ∙ more family w few in
-        ap (λ k. map event_of (calls_by times family (trace k))) (sym mine)
-        ∙ (ap (λ x. map event_of (calls_by times family x)) split
-        ∙ (events_of_call family (update_of times item.reading) item.call (calls_by times family rest)
-        ∙ (ap (add_in family (update_of times item.reading) (option_map event_of item.call)) after
+        let after : map event_of (calls_by family rest) ≡ E =
+        sym (ap (λ b. map event_of (calls_by family (cond b rest (trace w)))) test) ∙ more family w few in
+        ap (λ k. map event_of (calls_by family (trace k))) (sym mine)
+        ∙ (ap (λ x. map event_of (calls_by family x)) split
+        ∙ (events_of_call family item.asked (calls_by family rest)
+        ∙ (ap (add_in family (events_of item.asked)) after
         ∙ sym (ap (λ b. cond b A E) has))))
-        ∙ sym (events_by-judges d times family w at (judged_of item) steps)
+        ∙ sym (events_by-judges d family w at (judged_of item) steps)
     | inr (test, other) ↦
         let hasnt : (worker_of d at (flow_of_reading item.reading) == w) ≡ false = ap (λ k. k == w) is ∙ test in
-        sym (ap (λ b. map event_of (calls_by times family (cond b rest (trace w)))) test) ∙ (more family w few
+        sym (ap (λ b. map event_of (calls_by family (cond b rest (trace w)))) test) ∙ (more family w few
         ∙ sym (ap (λ b. cond b A E) hasnt))
-        ∙ sym (events_by-judges d times family w at (judged_of item) steps)
+        ∙ sym (events_by-judges d family w at (judged_of item) steps)
   ]
     where
       E : List Event
-      E = events_by d times family w (at + 1) steps
+      E = events_by d family w (at + 1) steps
 
       A : List Event
-      A = add_in family (update_of times item.reading) (option_map event_of item.call) E
+      A = add_in family (events_of item.asked) E
 
   -- a packet between two moments of the clock
   keeps_on : (kt : K) (at : ℕ) (p : PacketFacts) (reading : Reading) (moments : List (Option ℕ)) → slice_get packets at ≡ Some p
@@ -413,8 +412,8 @@ module _ (d : Deal) (times : Timeouts) (policy : PolicyFacts) (packets : List Pa
         steps = f.ahead [];
         packets_are = f.same [];
         removed = f.given [] (All-nil P);
-        dealt = f.back [] (λ family w few. ap (λ x. map event_of (calls_by times family x))
-            (nothing_left (f.left w) w (f.each w few) (f.clear w few)) ∙ sym (events_by-nil d times family w at));
+        dealt = f.back [] (λ family w few. ap (λ x. map event_of (calls_by family x))
+            (nothing_left (f.left w) w (f.each w few) (f.clear w few)) ∙ sym (events_by-nil d family w at));
         in_time = λ kt. f.timed kt [] tt;
       }
     where

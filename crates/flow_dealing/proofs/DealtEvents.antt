@@ -1,6 +1,6 @@
 -- What is dealt to each worker: its packets, and the events of its steps.
-use Rattle.std.proofs.Common.{◌≡◌, ◌∙◌, ◌+◌, ◌<◌, ℕ, zero, suc, Bool, true, false, cond, List, [], ◌∷◌, length, map, Option, Some, None, ap, refl, sym, arith}
-use Rattle.std.specs.Prelude.{if◌then◌else◌, ◌==◌, ◌&&◌, option_map}
+use Rattle.std.proofs.Common.{◌≡◌, ◌∙◌, ◌+◌, ◌<◌, ℕ, zero, suc, Bool, true, false, cond, List, [], ◌∷◌, ◌++◌, length, map, Option, Some, None, ap, refl, sym, arith}
+use Rattle.std.specs.Prelude.{if◌then◌else◌, ◌==◌, ◌&&◌}
 use Rattle.std.specs.List.{All}
 use Rattle.std.proofs.Math.Nat.{mod-lt}
 use lib.ListN.{get_elem?}
@@ -18,13 +18,12 @@ use Rattle.session_state.specs.declared.flow.Flow.{Flow}
 use Rattle.session_state.specs.declared.timeouts.Timeouts.{Timeouts}
 use Rattle.session_state.specs.declared.verdict.Verdict.{Verdict}
 use Rattle.flow_filter.specs.Ageing.{Judges, Removal, Removes, Step}
-use Rattle.flow_filter.specs.Updates.{Update, update_of}
-use Rattle.flow_filter.specs.Judged.{Judged, verdict_on, verdicts_on}
+use Rattle.flow_filter.specs.Judged.{Asked, Asks, Judged, Settled, verdict_on, verdicts_on}
 use Rattle.flow_filter.specs.OneThread.{family_of, home_of, same_family}
 use Rattle.packet_dealing.specs.declared.dealing.Dealing.{Dealing}
 use Rattle.packet_dealing.specs.declared.dealing.Dealing.TheVariants.{Round, Bucket}
 use Rattle.packet_dealing.specs.Dealings.{Deal, flow_of_reading, flow_of_frame, worker_by_dealing, worker_of}
-use Rattle.flow_dealing.specs.Traces.{ArePlaced, AreFrames, IsItem, IsItemOf, IsTrace, Item, judged_of, numbers_from}
+use Rattle.flow_dealing.specs.Traces.{ArePlaced, AreFrames, IsItem, IsItemOf, IsTrace, Item, events_of, judged_of, numbers_from}
 use Rattle.flow_dealing.specs.WorkerRecords.{add_in, events_by}
 use Rattle.flow_dealing.proofs.Places.{all_at, all_from}
 
@@ -55,34 +54,43 @@ unfolding numbers_from
 numbers-nil d w at = refl
 
 -- the events of a worker, whether the packet that comes first is its own
-pub events_by-judges : (d : Deal) (times : Timeouts) (family : Family) (w n : ℕ) (j : Judged) (steps : List Step)
-    → events_by d times family w n (Judges j ∷ steps) ≡ cond (worker_of d n (flow_of_reading j.reading) == w)
-    (add_in family (update_of times j.reading) j.event (events_by d times family w (n + 1) steps))
-    (events_by d times family w (n + 1) steps)
+pub events_by-judges : (d : Deal) (family : Family) (w n : ℕ) (j : Judged) (steps : List Step)
+    → events_by d family w n (Judges j ∷ steps) ≡ cond (worker_of d n (flow_of_reading j.reading) == w)
+    (add_in family j.asked (events_by d family w (n + 1) steps))
+    (events_by d family w (n + 1) steps)
 unfolding events_by
-events_by-judges d times family w n j steps = refl
+events_by-judges d family w n j steps = refl
 
 -- whether the removal that comes first is its own
-pub events_by-removes : (d : Deal) (times : Timeouts) (family : Family) (w n : ℕ) (r : Removal) (steps : List Step)
-    → events_by d times family w n (Removes r ∷ steps) ≡ cond (same_family family r.family && (r.worker == w))
-    (r.event ∷ events_by d times family w n steps) (events_by d times family w n steps)
+pub events_by-removes : (d : Deal) (family : Family) (w n : ℕ) (r : Removal) (steps : List Step)
+    → events_by d family w n (Removes r ∷ steps) ≡ cond (same_family family r.family && (r.worker == w))
+    (r.event ∷ events_by d family w n steps) (events_by d family w n steps)
 unfolding events_by
-events_by-removes d times family w n r steps = refl
+events_by-removes d family w n r steps = refl
 
-pub events_by-nil : (d : Deal) (times : Timeouts) (family : Family) (w n : ℕ) → events_by d times family w n [] ≡ []
+pub events_by-nil : (d : Deal) (family : Family) (w n : ℕ) → events_by d family w n [] ≡ []
 unfolding events_by
-events_by-nil d times family w n = refl
+events_by-nil d family w n = refl
 
 -- the events of calls, with one more call
-pub events_of_call : (family : Family) (u : Option Update) (call : Option Call) (calls : List Call)
-    → map event_of (add_in family u call calls) ≡ add_in family u (option_map event_of call) (map event_of calls)
-events_of_call family None call calls = refl
-events_of_call family (Some u) None calls = refl
-events_of_call family (Some u) (Some c) calls = go (same_family family (family_of u.key))
+pub events_of_call : (family : Family) (asked : Asked Call) (calls : List Call)
+    → map event_of (add_in family asked calls) ≡ add_in family (events_of asked) (map event_of calls)
+events_of_call family Settled calls = refl
+events_of_call family (Asks u c) calls = go (same_family family (family_of u.key))
   where
     go : (same : Bool)
         → map event_of (if same then c ∷ calls else calls)
         ≡ (if same then event_of c ∷ map event_of calls else map event_of calls)
+    go true = refl
+    go false = refl
+
+-- others that follow those behind it
+pub add_in-append : {A : Type 0} (family : Family) (asked : Asked A) (xs ys : List A)
+    → add_in family asked (xs ++ ys) ≡ add_in family asked xs ++ ys
+add_in-append family Settled xs ys = refl
+add_in-append family (Asks u this) xs ys = go (same_family family (family_of u.key))
+  where
+    go : (t : Bool) → (if t then this ∷ (xs ++ ys) else (xs ++ ys)) ≡ (if t then this ∷ xs else xs) ++ ys
     go true = refl
     go false = refl
 
@@ -96,14 +104,14 @@ all_views policy (p ∷ ps) =
     let vs = all_views policy ps in (view_of p.frame at ∷ vs.0, (view_shown p.frame at, vs.1))
 
 -- a list whose elements are at their places
-pub same_list : (times : Timeouts) (is : List Item) (verdicts : List Verdict) → length verdicts ≡ length is
-    → ((k : ℕ) (i : Item) → get_elem? is k ≡ some i → get_elem? verdicts k ≡ some (verdict_on times (judged_of i)))
-    → verdicts ≡ verdicts_on times (map judged_of is)
-same_list times [] [] count each = refl
-same_list times [] (v ∷ vs) count each = absurd (omega arith)
-same_list times (i ∷ is) [] count each = absurd (omega arith)
-same_list times (i ∷ is) (v ∷ vs) count each =
-    (λ k. some-injective v (verdict_on times (judged_of i)) (each 0 i refl) k ∷ same_list times is vs (omega arith)
+pub same_list : (is : List Item) (verdicts : List Verdict) → length verdicts ≡ length is
+    → ((k : ℕ) (i : Item) → get_elem? is k ≡ some i → get_elem? verdicts k ≡ some (verdict_on (judged_of i)))
+    → verdicts ≡ verdicts_on (map judged_of is)
+same_list [] [] count each = refl
+same_list [] (v ∷ vs) count each = absurd (omega arith)
+same_list (i ∷ is) [] count each = absurd (omega arith)
+same_list (i ∷ is) (v ∷ vs) count each =
+    (λ k. some-injective v (verdict_on (judged_of i)) (each 0 i refl) k ∷ same_list is vs (omega arith)
     (λ k j at. each (suc k) j at) k)
 
 module _ (d : Deal) (times : Timeouts) (policy : PolicyFacts) (packets : List PacketFacts)
@@ -111,7 +119,7 @@ module _ (d : Deal) (times : Timeouts) (policy : PolicyFacts) (packets : List Pa
   -- what is known of an item, whichever worker's it is
   pub record IsSaid (i : Item) : Type 0 where
     pub item : IsItem d.layout times i
-    pub said : get_elem? verdicts i.packet ≡ some (verdict_on times (judged_of i))
+    pub said : get_elem? verdicts i.packet ≡ some (verdict_on (judged_of i))
 
   -- what is known of an item of this worker
   pub record IsOwn (w : ℕ) (i : Item) : Type 0 where
@@ -128,7 +136,7 @@ module _ (d : Deal) (times : Timeouts) (policy : PolicyFacts) (packets : List Pa
 -- what is known of the items of one worker's trace
 pub own_items : (d : Deal) (times : Timeouts) (policy : PolicyFacts) (packets : List PacketFacts)
     (traces : List (List Item)) (verdicts : List Verdict)
-    → ArePlaced times packets traces verdicts → (w : ℕ) (t : List Item) → get_elem? traces w ≡ some t
+    → ArePlaced packets traces verdicts → (w : ℕ) (t : List Item) → get_elem? traces w ≡ some t
     → IsTrace d times w policy packets t → All (IsOwn d times policy packets verdicts w) t
 own_items d times policy packets traces verdicts placed w t at is =
     all_from (IsOwn d times policy packets verdicts w) t (λ k i stands. record {

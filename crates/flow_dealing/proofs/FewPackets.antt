@@ -1,6 +1,6 @@
 -- So few packets of a family's flows that its pages can't run out.
-use Rattle.std.proofs.Common.{◌≡◌, ◌≢◌, ◌∙◌, ◌+◌, ◌-◌, ◌*◌, ◌^◌, ◌<◌, ◌≤◌, ℕ, zero, suc, Bool, true, false, cond, List, [], ◌∷◌, ◌++◌, length, Option, Some, None, ap, ap₂, refl, sym, subst, arith, inl, inr, length-append}
-use Rattle.std.specs.Prelude.{if◌then◌else◌, ◌==◌, ◌&&◌, option_map}
+use Rattle.std.proofs.Common.{◌≡◌, ◌≢◌, ◌∙◌, ◌+◌, ◌-◌, ◌*◌, ◌^◌, ◌<◌, ◌≤◌, ℕ, zero, suc, Bool, true, false, cond, List, [], ◌∷◌, ◌++◌, length, ap, ap₂, refl, sym, subst, arith, inl, inr, length-append}
+use Rattle.std.specs.Prelude.{if◌then◌else◌, ◌==◌, ◌&&◌}
 use Rattle.std.specs.List.{All}
 use Rattle.std.proofs.Math.Nat.{mul-le-mul_right, pow-le-pow_right}
 use Rattle.std.proofs.lemmas.Bool.{cases_lt}
@@ -25,24 +25,22 @@ use Rattle.bihash_rule.specs.declared.view.Known.{Known}
 use Rattle.bihash_rule.specs.declared.view.Record.{Record}
 use Rattle.bihash_rule.specs.declared.view.View.{View}
 use Rattle.bihash_steps.proofs.Lists.{at_after, there}
-use Rattle.session_state.specs.declared.flow.Flow.{Flow}
 use Rattle.session_state.specs.declared.timeouts.Timeouts.{Timeouts}
-use Rattle.session_state.specs.Flows.{flow_of}
 use Rattle.session_state.specs.declared.verdict.Verdict.{Verdict}
 use Rattle.session_state.specs.declared.verdict.Verdict.TheVariants.{NoPages}
 use Rattle.flow_filter.specs.Ageing.{Judges, Removal, Removes, Step, packets_in, removals_in}
-use Rattle.flow_filter.specs.Readings.{AreReadings, Framed, IsReading, Reading, Ruled}
-use Rattle.flow_filter.specs.Updates.{Update, update_in, update_of}
-use Rattle.flow_filter.specs.Judged.{IsAsked, Judged, readings_of, verdict_on}
+use Rattle.flow_filter.specs.Readings.{AreReadings, IsReading, Reading}
+use Rattle.flow_filter.specs.Updates.{Update}
+use Rattle.flow_filter.specs.Judged.{Asked, Asks, Judged, Settled, WhereAsked, readings_of, verdict_on}
 use Rattle.flow_filter.specs.OneThread.{HasPages, Layout, family_of, same_family, sizes_in}
-use Rattle.flow_filter.proofs.HomeLemmas.{family_as_itself, families_are_one}
+use Rattle.flow_filter.proofs.HomeLemmas.{families_are_one}
 use Rattle.flow_dealing.specs.Views.{view_in}
 use Rattle.packet_dealing.specs.Dealings.{Deal, flow_of_reading, worker_of}
 use Rattle.flow_dealing.specs.WorkerRecords.{AreFew, AreFewBetween, AreJudged, AreJudgedBetween, AreRecorded, HasPagesIn, HavePages, add_in, events_by, is_in, keyed, removed_of}
 use Rattle.flow_dealing.proofs.ListCounts.{IsLabelled, at_least, sum_at, sum_one, sum_zero}
 use Rattle.flow_dealing.proofs.DealtEvents.{events_by-judges, events_by-nil, events_by-removes}
-use Rattle.flow_dealing.proofs.PacketCalls.{IsFlowEvent, asked_flow, call_of_packet}
-use Rattle.flow_dealing.proofs.Places.{after_map, all_at, all_from, at_front}
+use Rattle.flow_dealing.proofs.PacketCalls.{call_of_packet}
+use Rattle.flow_dealing.proofs.Places.{after_map, all_from, at_front}
 use Rattle.flow_dealing.proofs.Refusals.{paged_is_told, wants}
 
 -- ---- All calls of a caller
@@ -114,51 +112,46 @@ more_calls z v i k r c caller made at_i at_k kept =
 
 -- ---- The calls of all workers are no more than the packets with a flow of the family
 
-module _ (d : Deal) (times : Timeouts) (family : Family) where
-  one_event : (u : Option Update) (event : Option Event) (events : List Event)
-      → length (add_in family u event events) ≤ length events + cond (is_in family u) 1 0
-  one_event None event events = omega arith
-  one_event (Some u) None events = go (same_family family (family_of u.key))
-    where
-      go : (t : Bool) → length events ≤ length events + cond t 1 0
-      go true = omega arith
-      go false = omega arith
-  one_event (Some u) (Some e) events = go (same_family family (family_of u.key))
+module _ (d : Deal) (family : Family) where
+  one_event : (asked : Asked Event) (events : List Event)
+      → length (add_in family asked events) ≤ length events + cond (is_in family asked) 1 0
+  one_event Settled events = omega arith
+  one_event (Asks u e) events = go (same_family family (family_of u.key))
     where
       go : (t : Bool) → length (if t then e ∷ events else events) ≤ length events + cond t 1 0
       go true = omega arith
       go false = omega arith
 
   abbrev its_count : ℕ → List Step → ℕ → ℕ
-  its_count n steps w = length (events_by d times family w n steps)
+  its_count n steps w = length (events_by d family w n steps)
 
   one_packet : (n : ℕ) (j : Judged) (steps : List Step) (w : ℕ) → its_count n (Judges j ∷ steps) w
       ≤ cond (worker_of d n (flow_of_reading j.reading) == w)
-      (its_count (n + 1) steps w + cond (is_in family (update_of times j.reading)) 1 0) (its_count (n + 1) steps w)
+      (its_count (n + 1) steps w + cond (is_in family j.asked) 1 0) (its_count (n + 1) steps w)
   one_packet n j steps w =
-      subst (λ es. length es ≤ cond test (its_count (n + 1) steps w + cond (is_in family (update_of times j.reading)) 1 0)
+      subst (λ es. length es ≤ cond test (its_count (n + 1) steps w + cond (is_in family j.asked) 1 0)
       (its_count (n + 1) steps w))
-      (sym (events_by-judges d times family w n j steps)) (go test)
+      (sym (events_by-judges d family w n j steps)) (go test)
     where
       test : Bool
       test = worker_of d n (flow_of_reading j.reading) == w
 
       E : List Event
-      E = events_by d times family w (n + 1) steps
+      E = events_by d family w (n + 1) steps
 
-      go : (t : Bool) → length (cond t (add_in family (update_of times j.reading) j.event E) E)
-          ≤ cond t (length E + cond (is_in family (update_of times j.reading)) 1 0) (length E)
-      go true = one_event (update_of times j.reading) j.event E
+      go : (t : Bool) → length (cond t (add_in family j.asked E) E)
+          ≤ cond t (length E + cond (is_in family j.asked) 1 0) (length E)
+      go true = one_event j.asked E
       go false = omega arith
 
   one_removal : (n : ℕ) (r : Removal) (steps : List Step) (w : ℕ) → its_count n (Removes r ∷ steps) w
       ≤ cond (r.worker == w) (its_count n steps w + cond (same_family family r.family) 1 0) (its_count n steps w)
   one_removal n r steps w =
       subst (λ es. length es ≤ cond (r.worker == w) (its_count n steps w + cond (same_family family r.family) 1 0) (its_count n steps w))
-      (sym (events_by-removes d times family w n r steps)) (go (same_family family r.family) (r.worker == w))
+      (sym (events_by-removes d family w n r steps)) (go (same_family family r.family) (r.worker == w))
     where
       E : List Event
-      E = events_by d times family w n steps
+      E = events_by d family w n steps
 
       go : (s t : Bool) → length (cond (s && t) (r.event ∷ E) E) ≤ cond t (length E + cond s 1 0) (length E)
       go true true = omega arith
@@ -167,18 +160,18 @@ module _ (d : Deal) (times : Timeouts) (family : Family) where
       go false false = omega arith
 
   no_more_events : (w workers n : ℕ) (steps : List Step)
-      → sum_at w workers (its_count n steps) ≤ keyed times family (packets_in steps) + removed_of family (removals_in steps)
+      → sum_at w workers (its_count n steps) ≤ keyed family (packets_in steps) + removed_of family (removals_in steps)
   no_more_events w workers n [] =
-      let none = sum_zero w workers (its_count n []) (λ k. ap length (events_by-nil d times family k n)) in omega arith
+      let none = sum_zero w workers (its_count n []) (λ k. ap length (events_by-nil d family k n)) in omega arith
   no_more_events w workers n (Judges j ∷ steps) =
-      let x : ℕ = cond (is_in family (update_of times j.reading)) 1 0 in
+      let x : ℕ = cond (is_in family j.asked) 1 0 in
       let one =
       sum_one (worker_of d n (flow_of_reading j.reading)) x (its_count (n + 1) steps) (its_count n (Judges j ∷ steps))
       (one_packet n j steps) w workers in
       let more = no_more_events w workers (n + 1) steps in
       let js : List Judged = packets_in steps in
-      let all : keyed times family (j ∷ js) ≡ x + keyed times family js =
-      sum_by-cons (λ (i : Judged). cond (is_in family (update_of times i.reading)) 1 0) j js in
+      let all : keyed family (j ∷ js) ≡ x + keyed family js =
+      sum_by-cons (λ (i : Judged). cond (is_in family i.asked) 1 0) j js in
       omega arith
   no_more_events w workers n (Removes r ∷ steps) =
       let x : ℕ = cond (same_family family r.family) 1 0 in
@@ -189,8 +182,8 @@ module _ (d : Deal) (times : Timeouts) (family : Family) where
       sum_by-cons (λ (i : Removal). cond (same_family family i.family) 1 0) r rs in
       omega arith
 
-  no_more_calls : (steps : List Step) (v : View) → AreRecorded d times family steps v
-      → length (all_calls v.records) ≤ keyed times family (packets_in steps) + removed_of family (removals_in steps)
+  no_more_calls : (steps : List Step) (v : View) → AreRecorded d family steps v
+      → length (all_calls v.records) ≤ keyed family (packets_in steps) + removed_of family (removals_in steps)
   no_more_calls steps v recorded =
       let all = how_many v.records 0 (its_count 0 steps) (λ i r at.
       let e : 0 + i ≡ i = omega arith in
@@ -198,68 +191,55 @@ module _ (d : Deal) (times : Timeouts) (family : Family) where
       let few = no_more_events 0 (length v.records) 0 steps in
       omega arith
 
-  -- the flow of a packet of the family
-  pub flow_inside : (reading : Reading) → is_in family (update_of times reading) ≡ true
-      → (flow : Flow) × (flow_of_reading reading ≡ Some flow) × (family_of flow.key ≡ family)
-  flow_inside (Framed said) is = let f : ⊥ = cc in absurd f
-  flow_inside (Ruled moment tuple ruling) is = go (flow_of tuple) is
-    where
-      go : (f : Option Flow) → is_in family (option_map (update_in times moment tuple ruling) f) ≡ true
-          → (flow : Flow) × (f ≡ Some flow) × (family_of flow.key ≡ family)
-      go None clash = let f : ⊥ = cc in absurd f
-      go (Some flow) same = (flow, refl, sym (families_are_one family (family_of flow.key) same))
-
-inside_flow : (times : Timeouts) (reading : Reading) (flow : Flow) → flow_of_reading reading ≡ Some flow
-    → is_in (family_of flow.key) (update_of times reading) ≡ true
-inside_flow times (Framed said) flow has = let f : ⊥ = cc in absurd f
-inside_flow times (Ruled moment tuple ruling) flow has =
-    ap (λ f. is_in (family_of flow.key) (option_map (update_in times moment tuple ruling) f)) has
-    ∙ family_as_itself (family_of flow.key)
-
 -- with so few packets of a family none of them is refused for want of pages
-abbrev IsPagedIn : Timeouts → Family → Judged → Type 0
-IsPagedIn times family j = is_in family (update_of times j.reading) ≡ true → HasPages j
+abbrev IsPagedIn : Family → Judged → Type 0
+IsPagedIn family j = is_in family j.asked ≡ true → HasPages j
 
-events_for_few : (d : Deal) (times : Timeouts) (policy : PolicyFacts) (packets : List PacketFacts)
-    (verdicts : List Verdict)
+module _ (d : Deal) (times : Timeouts) (policy : PolicyFacts) (packets : List PacketFacts) (verdicts : List Verdict)
     (removals : List Removal) (are : AreJudgedBetween d times policy packets removals verdicts) (family : Family)
-    → AreFewBetween d.layout times family removals are.judged → All (IsPagedIn times family) are.judged
-events_for_few d times policy packets verdicts removals are family few =
-    all_from (IsPagedIn times family) are.judged (λ k j at is e its log2 left short.
-    let recorded = are.recorded family in
-    let v : View = view_in are.views family in
-    let (flow, has, inside) = flow_inside d times family j.reading is in
-    let c = call_of_packet d times family are.steps v recorded k j flow e (ap (λ js. get_elem? js k) are.packets_are ∙ at) has inside its in
-    let refused : c.call.reply ≡ reply.NoPages log2 left = ap (λ (x : Event). x.reply) c.event ∙ short in
-    let want =
-    wants (sizes_in d.layout family) v (worker_of d k (Some flow)) c.place c.record_at c.call log2 left recorded.lawful c.stands c.called
-    refused in
-    let taken = (recorded.told.short c.call (worker_of d k (Some flow), c.place, c.record_at, c.stands, c.called) log2 left refused).taken in
-    let calls =
-    more_calls (sizes_in d.layout family) v (worker_of d k (Some flow)) c.place c.record_at c.call recorded.lawful recorded.told.made
-    c.stands c.called (ap is_changed refused) in
-    let steps_few = no_more_calls d times family are.steps v recorded in
-    let all : ℕ = keyed times family are.judged + removed_of family removals in
-    let counted : keyed times family (packets_in are.steps) + removed_of family (removals_in are.steps) ≡ all =
-    ap₂ (λ js rs. keyed times family js + removed_of family rs) are.packets_are are.removals_are in
-    let M : ℕ = (sizes_in d.layout family).max_log2 in
-    let writes : ℕ = known_writes v.known (buckets (sizes_in d.layout family)) in
-    let block : 2 ^ log2 ≤ 2 ^ M = pow-le-pow_right (omega arith) want.small in
-    let left_few : left < 2 ^ log2 = want.few in
-    let enough : (writes + 1) * 2 ^ M ≤ all * 2 ^ M =
-    mul-le-mul_right (2 ^ M) (omega arith) in
-    let none = ap (λ (o : Openings). o.used) recorded.openings in
-    omega (arith, few, taken, none))
+    (few : AreFewBetween d.layout family removals are.judged) where
+  event_for_few : (k : ℕ) (j : Judged) (u : Update) (e : Event) → get_elem? are.judged k ≡ some j → j.asked ≡ Asks u e
+      → family_of u.key ≡ family → IsNoRefusal e.reply
+  event_for_few k j u e at its inside log2 left short =
+      let recorded = are.recorded family in
+      let v : View = view_in are.views family in
+      let by : ℕ = worker_of d k (flow_of_reading j.reading) in
+      let c = call_of_packet d family are.steps v recorded k j u e (ap (λ js. get_elem? js k) are.packets_are ∙ at) its inside in
+      let refused : c.call.reply ≡ reply.NoPages log2 left = ap (λ (x : Event). x.reply) c.event ∙ short in
+      let want = wants (sizes_in d.layout family) v by c.place c.record_at c.call log2 left recorded.lawful c.stands c.called refused in
+      let taken = (recorded.told.short c.call (by, c.place, c.record_at, c.stands, c.called) log2 left refused).taken in
+      let calls =
+      more_calls (sizes_in d.layout family) v by c.place c.record_at c.call recorded.lawful recorded.told.made
+      c.stands c.called (ap is_changed refused) in
+      let steps_few = no_more_calls d family are.steps v recorded in
+      let all : ℕ = keyed family are.judged + removed_of family removals in
+      let counted : keyed family (packets_in are.steps) + removed_of family (removals_in are.steps) ≡ all =
+      ap₂ (λ js rs. keyed family js + removed_of family rs) are.packets_are are.removals_are in
+      let M : ℕ = (sizes_in d.layout family).max_log2 in
+      let writes : ℕ = known_writes v.known (buckets (sizes_in d.layout family)) in
+      let block : 2 ^ log2 ≤ 2 ^ M = pow-le-pow_right (omega arith) want.small in
+      let left_few : left < 2 ^ log2 = want.few in
+      let enough : (writes + 1) * 2 ^ M ≤ all * 2 ^ M =
+      mul-le-mul_right (2 ^ M) (omega arith) in
+      let none = ap (λ (o : Openings). o.used) recorded.openings in
+      omega (arith, few, taken, none)
+
+  events_for_few : (k : ℕ) (j : Judged) → get_elem? are.judged k ≡ some j → IsPagedIn family j
+  events_for_few k j at = go j.asked refl
+    where
+      go : (asked : Asked Event) → j.asked ≡ asked → is_in family asked ≡ true → WhereAsked asked (λ e. IsNoRefusal e.reply)
+      go Settled its is = tt
+      go (Asks u e) its is = event_for_few k j u e at its (sym (families_are_one family (family_of u.key) is))
 
 -- a packet that was judged has another verdict where it wasn't refused for want of pages
 told_else : (d : Deal) (times : Timeouts) (policy : PolicyFacts) (packets : List PacketFacts) (verdicts : List Verdict)
     (removals : List Removal) (are : AreJudgedBetween d times policy packets removals verdicts) (k : ℕ) (j : Judged)
-    → get_elem? are.judged k ≡ some j → HasPages j → verdict_on times j ≢ NoPages
+    → get_elem? are.judged k ≡ some j → HasPages j → verdict_on j ≢ NoPages
 told_else d times policy packets verdicts removals are k j at paged =
     let p =
     packet_of (readings_of are.judged) packets k j.reading are.read
     (after_map (λ (i : Judged). i.reading) are.judged k j at) in
-    paged_is_told times policy p.0 j p.1 paged
+    paged_is_told policy p.0 j p.1 paged
   where
     packet_of : (readings : List Reading) (ps : List PacketFacts) (k : ℕ) (reading : Reading)
         → AreReadings policy ps readings
@@ -275,49 +255,41 @@ told_else d times policy packets verdicts removals are k j at paged =
 pub pages_for_few_between : (d : Deal) (times : Timeouts) (policy : PolicyFacts) (packets : List PacketFacts)
     (removals : List Removal) (verdicts : List Verdict)
     (are : AreJudgedBetween d times policy packets removals verdicts) (family : Family)
-    → AreFewBetween d.layout times family removals are.judged → All (HasPagesIn times family) are.judged
+    → AreFewBetween d.layout family removals are.judged → All (HasPagesIn family) are.judged
 pages_for_few_between d times policy packets removals verdicts are family few =
-    all_from (HasPagesIn times family) are.judged (λ k j at is.
-    let paged =
-    all_at (IsPagedIn times family) are.judged k j
-    (events_for_few d times policy packets verdicts removals are family few) at is in
+    all_from (HasPagesIn family) are.judged (λ k j at is.
+    let paged = events_for_few d times policy packets verdicts removals are family few k j at is in
     (paged, told_else d times policy packets verdicts removals are k j at paged))
 
 -- so few packets, and no removal
-few_alone : (l : Layout) (times : Timeouts) (family : Family) (js : List Judged) → AreFew l times family js
-    → AreFewBetween l times family [] js
-few_alone l times family js few =
-    let none : keyed times family js ≡ keyed times family js + removed_of family [] = omega arith in
+few_alone : (l : Layout) (family : Family) (js : List Judged) → AreFew l family js
+    → AreFewBetween l family [] js
+few_alone l family js few =
+    let none : keyed family js ≡ keyed family js + removed_of family [] = omega arith in
     subst (λ n. n * 2 ^ (sizes_in l family).max_log2 ≤ (sizes_in l family).pages) none few
 
 pub pages_for_few : (d : Deal) (times : Timeouts) (policy : PolicyFacts) (packets : List PacketFacts)
     (verdicts : List Verdict)
-    (are : AreJudged d times policy packets verdicts) (family : Family) → AreFew d.layout times family are.judged
-    → All (HasPagesIn times family) are.judged
+    (are : AreJudged d times policy packets verdicts) (family : Family) → AreFew d.layout family are.judged
+    → All (HasPagesIn family) are.judged
 pages_for_few d times policy packets verdicts are family few =
-    pages_for_few_between d times policy packets [] verdicts are family (few_alone d.layout times family are.judged few)
+    pages_for_few_between d times policy packets [] verdicts are family (few_alone d.layout family are.judged few)
 
 -- with so few packets of both families no verdict says that pages were wanting
 pub verdicts_for_few : (d : Deal) (times : Timeouts) (policy : PolicyFacts) (packets : List PacketFacts)
     (verdicts : List Verdict)
-    (are : AreJudged d times policy packets verdicts) → ((family : Family) → AreFew d.layout times family are.judged)
+    (are : AreJudged d times policy packets verdicts) → ((family : Family) → AreFew d.layout family are.judged)
     → HavePages verdicts
 verdicts_for_few d times policy packets verdicts are few =
-    subst HavePages (sym are.said) (All-map (λ v. v ≢ NoPages) (verdict_on times) are.judged
-    (all_from (λ j. verdict_on times j ≢ NoPages) are.judged (λ k j at.
-    told_else d times policy packets verdicts [] are k j at (λ e its. has_pages k j at e its))))
+    subst HavePages (sym are.said) (All-map (λ v. v ≢ NoPages) verdict_on are.judged
+    (all_from (λ j. verdict_on j ≢ NoPages) are.judged (λ k j at.
+    told_else d times policy packets verdicts [] are k j at (has_pages k j at))))
   where
     has_pages : (k : ℕ) (j : Judged) → get_elem? are.judged k ≡ some j → HasPages j
-    has_pages k j at e its = go (flow_of_reading j.reading) refl
+    has_pages k j at = go j.asked refl
       where
-        go : (f : Option Flow) → flow_of_reading j.reading ≡ f → IsNoRefusal e.reply
-        go None is =
-            let none : j.event ≡ None =
-            subst (λ f. IsFlowEvent f j.event) is
-            (asked_flow times j (all_at (IsAsked times) are.judged k j are.asked at)) in
-            let clash = sym none ∙ its in let f : ⊥ = cc in absurd f
-        go (Some flow) is =
-            all_at (IsPagedIn times (family_of flow.key)) are.judged k j
-            (events_for_few d times policy packets verdicts [] are (family_of flow.key)
-            (few_alone d.layout times (family_of flow.key) are.judged (few (family_of flow.key)))) at
-            (inside_flow times j.reading flow is) e its
+        go : (asked : Asked Event) → j.asked ≡ asked → WhereAsked asked (λ e. IsNoRefusal e.reply)
+        go Settled its = tt
+        go (Asks u e) its =
+            event_for_few d times policy packets verdicts [] are (family_of u.key)
+            (few_alone d.layout (family_of u.key) are.judged (few (family_of u.key))) k j u e at its refl

@@ -1,5 +1,5 @@
 -- Where each bucket has one worker, the events on a bucket are a run of its map, in the order of the steps.
-use Rattle.std.proofs.Common.{◌≡◌, ◌≢◌, ◌⊎◌, ◌∙◌, ◌+◌, ◌<◌, ◌%◌, ℕ, suc, Bool, true, false, cond, List, [], ◌∷◌, length, map, Option, Some, None, All, ap, ap₂, refl, sym, subst, arith, inl, inr}
+use Rattle.std.proofs.Common.{◌≡◌, ◌≢◌, ◌⊎◌, ◌∙◌, ◌+◌, ◌<◌, ◌%◌, ℕ, suc, Bool, true, false, cond, List, [], ◌∷◌, length, map, Some, All, ap, ap₂, refl, sym, subst, arith, inl, inr}
 use Rattle.std.specs.Prelude.{if◌then◌else◌, ◌==◌, ◌&&◌}
 use Rattle.std.specs.FinMap.{empty}
 use Rattle.std.specs.List.{filter}
@@ -24,19 +24,21 @@ use Rattle.bihash_steps.proofs.Lists.{there}
 use Rattle.bihash_laws.specs.CallRuns.{IsOneWriter, calls_on}
 use Rattle.bihash_laws.proofs.OneWriter.{one_map}
 use Rattle.session_state.specs.declared.flow.Flow.{Flow}
+use Rattle.session_state.specs.declared.flow.FlowKey.{FlowKey}
 use Rattle.session_state.specs.declared.timeouts.Timeouts.{Timeouts}
 use Rattle.flow_filter.specs.Ageing.{Judges, Removal, Removes, Step, packets_in, removals_in, removed_from, steps_at}
-use Rattle.flow_filter.specs.Updates.{words_of}
-use Rattle.flow_filter.specs.Judged.{AreAsked, IsAsked}
-use Rattle.flow_filter.specs.OneThread.{Home, bounds_in, family_of, home_of, same_family, same_home, sizes_in}
+use Rattle.flow_filter.specs.Readings.{Reading}
+use Rattle.flow_filter.specs.Updates.{update_of, words_of}
+use Rattle.flow_filter.specs.Judged.{AreAsked, Asked, Asks, IsAsked, IsAskedBy, Settled}
+use Rattle.flow_filter.specs.OneThread.{Home, add_event, bounds_in, family_of, home_of, same_family, same_home, sizes_in}
 use Rattle.flow_filter.proofs.HomeLemmas.{families_are_one}
 use Rattle.packet_dealing.specs.declared.dealing.Dealing.{Dealing}
 use Rattle.packet_dealing.specs.declared.dealing.Dealing.TheVariants.{Bucket}
 use Rattle.packet_dealing.specs.Dealings.{Deal, flow_of_reading, worker_of}
-use Rattle.flow_dealing.specs.WorkerRecords.{AreRecorded, IsByOwner, events_by}
-use Rattle.flow_dealing.proofs.DealtEvents.{events_by-nil, events_by-removes, worker_few}
+use Rattle.flow_dealing.specs.WorkerRecords.{AreRecorded, IsByOwner, add_in, events_by}
+use Rattle.flow_dealing.proofs.DealtEvents.{events_by-judges, events_by-nil, events_by-removes, worker_few}
 use Rattle.flow_dealing.proofs.Places.{after_map}
-use Rattle.flow_dealing.proofs.PacketCalls.{IsFlowEvent, add_event-flow, add_flow, add_flow_at, asked_flow, events_by-flow, some_worker, step_of_event}
+use Rattle.flow_dealing.proofs.PacketCalls.{flow_of_update, some_worker, step_of_event}
 use Rattle.flow_dealing.proofs.Refusals.{legal_call}
 
 -- ---- The worker of a bucket
@@ -97,28 +99,25 @@ module _ (d : Deal) (times : Timeouts) (family : Family) (b w : ℕ)
 
   -- ---- The owner's events on the bucket are the packets'
 
-  -- the key of a flow of the family is of that bucket
-  key_home : (flow : Flow) → family_of flow.key ≡ family → bucket_of z (words_of flow.key) ≡ b
-      → home_of d.layout flow.key ≡ home
-  key_home flow inside is =
-      (λ i. record { family = inside i; bucket = bucket_of (sizes_in d.layout (inside i)) (words_of flow.key) })
+  -- a key of the family is of that bucket
+  key_home : (key : FlowKey) → family_of key ≡ family → bucket_of z (words_of key) ≡ b → home_of d.layout key ≡ home
+  key_home key inside is =
+      (λ i. record { family = inside i; bucket = bucket_of (sizes_in d.layout (inside i)) (words_of key) })
       ∙ ap (λ (k : ℕ). record { family = family; bucket = k }) is
 
-  one_more : (n : ℕ) (f : Option Flow) (event : Option Event) (E R : List Event) → IsFlowEvent f event
+  one_more : (n : ℕ) (reading : Reading) (asked : Asked Event) (E R : List Event) → IsAskedBy (update_of times reading) asked
       → events_on z b E ≡ R
-      → events_on z b (cond (worker_of d n f == w) (add_flow family f event E) E) ≡ add_flow_at d.layout home f event R
-  one_more n None event E R its same = go (worker_of d n None == w)
+      → events_on z b (cond (worker_of d n (flow_of_reading reading) == w) (add_in family asked E) E) ≡ add_event d.layout home asked R
+  one_more n reading Settled E R its same = go (worker_of d n (flow_of_reading reading) == w)
     where
       go : (t : Bool) → events_on z b (cond t E E) ≡ R
       go true = same
       go false = same
-  one_more n (Some flow) event E R its same =
-      subst (λ ev. events_on z b (cond (worker_of d n (Some flow) == w) (add_flow family (Some flow) ev E) E)
-      ≡ add_flow_at d.layout home (Some flow) ev R)
-      (sym its.1) (go (same_family family (family_of flow.key)) refl (eqb_tells b (home_of d.layout flow.key).bucket))
+  one_more n reading (Asks u e) E R its same =
+      go (same_family family (family_of u.key)) refl (eqb_tells b (home_of d.layout u.key).bucket)
     where
-      e : Event
-      e = its.0
+      f : (flow : Flow) × (flow_of_reading reading ≡ Some flow) × (flow.key ≡ u.key)
+      f = flow_of_update times reading u its.0
 
       stays : (t : Bool) → events_on z b (cond t E E) ≡ R
       stays true = same
@@ -128,38 +127,34 @@ module _ (d : Deal) (times : Timeouts) (family : Family) (b w : ℕ)
       skips test true = ap (λ s. cond s (e ∷ events_on z b E) (events_on z b E)) test ∙ same
       skips test false = same
 
-      of_key : family_of flow.key ≡ family → bucket_of z e.key ≡ (home_of d.layout flow.key).bucket
+      of_key : family_of u.key ≡ family → bucket_of z e.key ≡ (home_of d.layout u.key).bucket
       of_key inside =
-          ap (bucket_of z) its.2 ∙ ap (λ g. bucket_of (sizes_in d.layout g) (words_of flow.key)) (sym inside)
+          ap (bucket_of z) its.1.key ∙ ap (λ g. bucket_of (sizes_in d.layout g) (words_of u.key)) (sym inside)
 
-      go : (s : Bool) → same_family family (family_of flow.key) ≡ s
-          → (((b == (home_of d.layout flow.key).bucket) ≡ true) × (b ≡ (home_of d.layout flow.key).bucket))
-          ⊎ (((b == (home_of d.layout flow.key).bucket) ≡ false) × (b ≢ (home_of d.layout flow.key).bucket))
-          → events_on z b (cond (worker_of d n (Some flow) == w) (if s then e ∷ E else E) E)
-          ≡ (if s && (b == (home_of d.layout flow.key).bucket) then e ∷ R else R)
-      go false is at = stays (worker_of d n (Some flow) == w)
+      go : (s : Bool) → same_family family (family_of u.key) ≡ s
+          → (((b == (home_of d.layout u.key).bucket) ≡ true) × (b ≡ (home_of d.layout u.key).bucket))
+          ⊎ (((b == (home_of d.layout u.key).bucket) ≡ false) × (b ≢ (home_of d.layout u.key).bucket))
+          → events_on z b (cond (worker_of d n (flow_of_reading reading) == w) (if s then e ∷ E else E) E)
+          ≡ (if s && (b == (home_of d.layout u.key).bucket) then e ∷ R else R)
+      go false is at = stays (worker_of d n (flow_of_reading reading) == w)
       go true is (inl (test, here)) =
-          let inside : family_of flow.key ≡ family = sym (families_are_one family (family_of flow.key) is) in
+          let inside : family_of u.key ≡ family = sym (families_are_one family (family_of u.key) is) in
           let its_bucket : bucket_of z e.key ≡ b = of_key inside ∙ sym here in
-          let mine : (worker_of d n (Some flow) == w) ≡ true = elim (eqb_tells (worker_of d n (Some flow)) w) [
-            | inl (hit, _) ↦ hit
-            | inr (miss, other) ↦
-                absurd (other (own.each n flow (key_home flow inside (ap (bucket_of z) (sym its.2) ∙ its_bucket))))
-          ] in
-          let hit : (bucket_of z e.key == b) ≡ true = elim (eqb_tells (bucket_of z e.key) b) [
-            | inl (hit, _) ↦ hit
-            | inr (miss, other) ↦ absurd (other its_bucket)
-          ] in
+          let its_home : home_of d.layout f.0.key ≡ home =
+          ap (home_of d.layout) f.2 ∙ key_home u.key inside (ap (bucket_of z) (sym its.1.key) ∙ its_bucket) in
+          let mine : (worker_of d n (flow_of_reading reading) == w) ≡ true =
+          eq-eqb (worker_of d n (flow_of_reading reading)) w (ap (worker_of d n) f.1 ∙ own.each n f.0 its_home) in
+          let hit : (bucket_of z e.key == b) ≡ true = eq-eqb (bucket_of z e.key) b its_bucket in
           ap (λ t. events_on z b (cond t (e ∷ E) E)) mine
           ∙ (ap (λ t. cond t (e ∷ events_on z b E) (events_on z b E)) hit
           ∙ (ap (λ es. e ∷ es) same ∙ ap (λ t. if t then e ∷ R else R) (sym test)))
       go true is (inr (test, apart)) =
-          let inside : family_of flow.key ≡ family = sym (families_are_one family (family_of flow.key) is) in
+          let inside : family_of u.key ≡ family = sym (families_are_one family (family_of u.key) is) in
           let miss : (bucket_of z e.key == b) ≡ false = elim (eqb_tells (bucket_of z e.key) b) [
             | inl (hit, here) ↦ absurd (apart (sym here ∙ of_key inside))
             | inr (miss, _) ↦ miss
           ] in
-          skips miss (worker_of d n (Some flow) == w) ∙ ap (λ t. if t then e ∷ R else R) (sym test)
+          skips miss (worker_of d n (flow_of_reading reading) == w) ∙ ap (λ t. if t then e ∷ R else R) (sym test)
 
   -- a removal by the bucket's worker
   one_removed : (r : Removal) (E R : List Event) → IsByOwner d r → events_on z b E ≡ R
@@ -197,31 +192,29 @@ module _ (d : Deal) (times : Timeouts) (family : Family) (b w : ℕ)
           in_bucket (r.worker == w) miss ∙ ap (λ t. if t then r.event ∷ R else R) (sym test)
 
   its_events : (n : ℕ) (steps : List Step) → AreAsked times (packets_in steps) → All (IsByOwner d) (removals_in steps)
-      → events_on z b (events_by d times family w n steps) ≡ steps_at d.layout times home steps
-  its_events n [] asked by = ap (events_on z b) (events_by-nil d times family w n)
+      → events_on z b (events_by d family w n steps) ≡ steps_at d.layout home steps
+  its_events n [] asked by = ap (events_on z b) (events_by-nil d family w n)
   its_events n (Removes r ∷ steps) asked by =
-      ap (events_on z b) (events_by-removes d times family w n r steps)
-      ∙ one_removed r (events_by d times family w n steps) (steps_at d.layout times home steps)
+      ap (events_on z b) (events_by-removes d family w n r steps)
+      ∙ one_removed r (events_by d family w n steps) (steps_at d.layout home steps)
       (All-head (IsByOwner d) r (removals_in steps) by)
       (its_events n steps asked (All-tail (IsByOwner d) r (removals_in steps) by))
   its_events n (Judges j ∷ steps) asked by =
-      ap (events_on z b) (events_by-flow d times family w n j steps)
-      ∙ (one_more n (flow_of_reading j.reading) j.event (events_by d times family w (n + 1) steps)
-      (steps_at d.layout times home steps)
-      (asked_flow times j (All-head (IsAsked times) j (packets_in steps) asked))
+      ap (events_on z b) (events_by-judges d family w n j steps)
+      ∙ one_more n j.reading j.asked (events_by d family w (n + 1) steps) (steps_at d.layout home steps)
+      (All-head (IsAsked times) j (packets_in steps) asked)
       (its_events (n + 1) steps (All-tail (IsAsked times) j (packets_in steps) asked) by)
-      ∙ sym (add_event-flow d.layout home times j.reading j.event (steps_at d.layout times home steps)))
 
-  module _ (steps : List Step) (v : View) (recorded : AreRecorded d times family steps v)
+  module _ (steps : List Step) (v : View) (recorded : AreRecorded d family steps v)
       (asked : AreAsked times (packets_in steps)) (by : All (IsByOwner d) (removals_in steps)) (inside : b < buckets z) where
     -- a call on the bucket is in the owner's record
     owner_of_call : (i k : ℕ) (r : Record) (c : Call) → get_elem? v.records i ≡ some r → get_elem? r.calls k ≡ some c
         → c.bucket ≡ b → i ≡ w
     owner_of_call i k r c at_i at_k is =
         let at_bucket : bucket_of z c.key ≡ b = (legal_call z v i k r c recorded.lawful at_i at_k).key.home ∙ is in
-        elim (step_of_event d times family i 0 steps asked by k (event_of c)
+        elim (step_of_event d family times i 0 steps asked by k (event_of c)
         (ap (λ es. get_elem? es k) (sym (recorded.each i r at_i)) ∙ after_map event_of r.calls k c at_k)) [
-          | inl f ↦ sym f.dealt ∙ own.each f.number f.flow (key_home f.flow f.inside (ap (bucket_of z) (sym f.key) ∙ at_bucket))
+          | inl f ↦ sym f.dealt ∙ own.each f.number f.flow (key_home f.flow.key f.inside (ap (bucket_of z) (sym f.key) ∙ at_bucket))
           | inr f ↦ sym f.by ∙ (f.own ∙ (ap (λ n. n % d.workers) (ap (λ g. bucket_of (sizes_in d.layout g) f.removal.event.key) f.inside
               ∙ (ap (λ (x : Event). bucket_of z x.key) f.event ∙ at_bucket)) ∙ own.number))
         ]
@@ -235,11 +228,11 @@ module _ (d : Deal) (times : Timeouts) (family : Family) (b w : ℕ)
         sym m.3 ∙ ap (λ (y : Record). y.number) same
 
     -- the events lead to the map that is known
-    pub runs_at : (writes : ℕ) × IsRun (bounds_in d.layout family) empty 0 (steps_at d.layout times home steps) (map_now v b) writes
+    pub runs_at : (writes : ℕ) × IsRun (bounds_in d.layout family) empty 0 (steps_at d.layout home steps) (map_now v b) writes
     runs_at =
         let r = there v.records w (let few = own.few in let count = recorded.count in omega arith) in
         let run = one_map z v w b r.0 recorded.lawful r.1 inside (one_writer r.0 r.1) in
-        let its : map event_of (calls_on b r.0.calls) ≡ steps_at d.layout times home steps
+        let its : map event_of (calls_on b r.0.calls) ≡ steps_at d.layout home steps
         = on_bucket z b r.0.calls (λ k c at. (legal_call z v w k r.0 c recorded.lawful r.1 at).key.home)
         ∙ (ap (events_on z b) (recorded.each w r.0 r.1) ∙ its_events 0 steps asked by) in
         let start : opening_at v.known b ≡ empty = ap (λ openings. opening_in openings b) recorded.openings in (

@@ -1,5 +1,5 @@
 -- The report of all workers is that of one thread.
-use Rattle.std.proofs.Common.{◌≡◌, ◌≢◌, ◌⊎◌, ◌∙◌, ◌+◌, ◌≤◌, ℕ, suc, Bool, List, [], ◌∷◌, length, Option, Some, None, All, ap, arith, refl, sym, subst}
+use Rattle.std.proofs.Common.{◌≡◌, ◌≢◌, ◌⊎◌, ◌∙◌, ◌+◌, ◌≤◌, ℕ, suc, Bool, List, [], ◌∷◌, length, All, ap, arith, refl, sym, subst}
 use Rattle.std.proofs.lemmas.List.Elements.{All-cons, All-head, All-nil, All-tail}
 use Rattle.std.specs.FinMap.{empty}
 use lib.ListN.{get_elem?}
@@ -8,19 +8,19 @@ use Rattle.packet_view.specs.Captures.{PacketFacts}
 use Rattle.packet_view.specs.declared.tuple.Family.{Family}
 use Rattle.acl_policy.specs.Policies.{PolicyFacts}
 use Rattle.bihash_words.specs.Maps.{Event}
+use Rattle.bihash_words.specs.Refusals.{IsNoRefusal}
 use Rattle.bihash_words.specs.declared.patch.Reply.TheVariants as reply
 use Rattle.bihash_words.specs.Runs.{IsRun}
 use Rattle.bihash_steps.specs.BucketSteps.{map_now}
 use Rattle.bihash_rule.specs.Histories.{bounds_of}
-use Rattle.session_state.specs.declared.flow.Flow.{Flow}
 use Rattle.session_state.specs.declared.timeouts.Timeouts.{Timeouts}
 use Rattle.session_state.specs.declared.verdict.Verdict.{Verdict}
 use Rattle.session_state.specs.declared.verdict.Verdict.TheVariants as verdict
 use Rattle.flow_filter.specs.Ageing.{IsAgedThread, IsOfExpired, IsRightStep, Judges, Removal, Removes, Step, packets_in, removals_in, steps_at}
-use Rattle.flow_filter.specs.Judged.{IsAsked, Judged, readings_of, verdict_on, verdicts_on}
+use Rattle.flow_filter.specs.Judged.{Asked, Asks, IsAsked, IsAskedBy, Judged, Settled, WhereAsked, readings_of, verdict_on, verdict_with, verdicts_on}
 use Rattle.flow_filter.specs.OneThread.{AreVerdicts, HasPages, Home, IsHome, IsOneThread, Layout, add_event, bounds_in, events_at, family_of, nothing, sizes_in}
 use Rattle.flow_filter.specs.Readings.{AreReadings, IsReading}
-use Rattle.flow_filter.specs.Updates.{update_of}
+use Rattle.flow_filter.specs.Updates.{Update, update_of}
 use Rattle.flow_filter.proofs.OneThreadLemmas.{some_verdicts}
 use Rattle.filter_laws.proofs.AgeingLemmas.{aged_verdicts}
 use Rattle.packet_dealing.specs.declared.dealing.Dealing.TheVariants.{Bucket}
@@ -28,7 +28,7 @@ use Rattle.flow_dealing.specs.Views.{Views, view_in}
 use Rattle.packet_dealing.specs.Dealings.{Deal, flow_of_reading, worker_of}
 use Rattle.flow_dealing.specs.WorkerRecords.{AreInTimeOrder, AreJudged, AreJudgedAgeing, AreJudgedBetween, AreWithinLimit, HavePages, IsByOwner, RemoveInTime}
 use Rattle.flow_dealing.proofs.OneOwner.{owner, runs_at}
-use Rattle.flow_dealing.proofs.PacketCalls.{IsFlowEvent, asked_flow, call_of_packet, some_worker}
+use Rattle.flow_dealing.proofs.PacketCalls.{call_of_packet, some_worker}
 use Rattle.flow_dealing.proofs.Places.{after_map, all_at, all_from, zip_count}
 use Rattle.flow_dealing.proofs.Refusals.{IsWant, refusal_is_verdict, wants}
 
@@ -47,59 +47,58 @@ right_steps times (Removes r ∷ steps) asked paged ended =
     (right_steps times steps asked paged (All-tail (IsOfExpired times) r (removals_in steps) ended))
 
 -- with no removals the events on a bucket are those of the packets
-packets_alone : (l : Layout) (times : Timeouts) (home : Home) (steps : List Step) → removals_in steps ≡ []
-    → steps_at l times home steps ≡ events_at l times home (packets_in steps)
-packets_alone l times home [] none = refl
-packets_alone l times home (Judges j ∷ steps) none =
-    ap (add_event l home (update_of times j.reading) j.event) (packets_alone l times home steps none)
-packets_alone l times home (Removes r ∷ steps) none = let f : ⊥ = cc in absurd f
+packets_alone : (l : Layout) (home : Home) (steps : List Step) → removals_in steps ≡ []
+    → steps_at l home steps ≡ events_at l home (packets_in steps)
+packets_alone l home [] none = refl
+packets_alone l home (Judges j ∷ steps) none = ap (add_event l home j.asked) (packets_alone l home steps none)
+packets_alone l home (Removes r ∷ steps) none = let f : ⊥ = cc in absurd f
 
 -- ---- All workers
 
 module _ (d : Deal) (times : Timeouts) (policy : PolicyFacts) (packets : List PacketFacts) (verdicts : List Verdict)
     (removals : List Removal) (are : AreJudgedBetween d times policy packets removals verdicts) where
   -- a packet whose event was refused for want of pages is told so
-  refused : (k : ℕ) (j : Judged) (e : Event) (log2 left : ℕ) → get_elem? are.judged k ≡ some j → j.event ≡ Some e
-      → e.reply ≡ reply.NoPages log2 left → verdict_on times j ≡ verdict.NoPages
-  refused k j e log2 left at its short = go (flow_of_reading j.reading) refl
-    where
-      asked : IsAsked times j
-      asked = all_at (IsAsked times) are.judged k j are.asked at
+  refused : (k : ℕ) (j : Judged) (u : Update) (e : Event) (log2 left : ℕ) → get_elem? are.judged k ≡ some j → j.asked ≡ Asks u e
+      → e.reply ≡ reply.NoPages log2 left → verdict_on j ≡ verdict.NoPages
+  refused k j u e log2 left at its short =
+      let family : Family = family_of u.key in
+      let recorded = are.recorded family in
+      let c =
+      call_of_packet d family are.steps (view_in are.views family) recorded k j u e
+      (ap (λ js. get_elem? js k) are.packets_are ∙ at) its refl in
+      let want =
+      wants (sizes_in d.layout family)
+      (view_in are.views family) (worker_of d k (flow_of_reading j.reading)) c.place c.record_at c.call log2 left recorded.lawful
+      c.stands c.called (ap (λ (x : Event). x.reply) c.event ∙ short) in
+      let (is, of) : IsAskedBy (update_of times j.reading) (Asks u e) =
+      subst (IsAskedBy (update_of times j.reading)) its (all_at (IsAsked times) are.judged k j are.asked at) in
+      ap (verdict_with j.reading) its
+      ∙ refusal_is_verdict times j.reading u e (bounds_of (sizes_in d.layout family)) log2 left is of
+      (subst (λ (x : Event). IsWant (bounds_of (sizes_in d.layout family)) x.found x.change log2 left) c.event want)
+      short
 
-      go : (f : Option Flow) → flow_of_reading j.reading ≡ f → verdict_on times j ≡ verdict.NoPages
-      go None is =
-          let none : j.event ≡ None = subst (λ f. IsFlowEvent f j.event) is (asked_flow times j asked) in
-          let clash = sym none ∙ its in let f : ⊥ = cc in absurd f
-      go (Some flow) is =
-          let family : Family = family_of flow.key in
-          let recorded = are.recorded family in
-          let c =
-          call_of_packet d times family are.steps (view_in are.views family) recorded k j flow e
-          (ap (λ js. get_elem? js k) are.packets_are ∙ at) is refl its in
-          let want =
-          wants (sizes_in d.layout family)
-          (view_in are.views family) (worker_of d k (Some flow)) c.place c.record_at c.call log2 left recorded.lawful
-          c.stands c.called (ap (λ (x : Event). x.reply) c.event ∙ short) in
-          refusal_is_verdict times j.reading j.event flow e
-          (bounds_of (sizes_in d.layout family)) log2 left is asked its
-          (subst (λ (x : Event). IsWant (bounds_of (sizes_in d.layout family)) x.found x.change log2 left) c.event want)
-          short
+  -- so one that is told something else had pages
+  paged : (k : ℕ) (j : Judged) → get_elem? are.judged k ≡ some j → verdict_on j ≢ verdict.NoPages → HasPages j
+  paged k j at other = go j.asked refl
+    where
+      go : (asked : Asked Event) → j.asked ≡ asked → WhereAsked asked (λ e. IsNoRefusal e.reply)
+      go Settled its = tt
+      go (Asks u e) its = λ log2 left short. other (refused k j u e log2 left at its short)
 
   paged_all : HavePages verdicts → All HasPages are.judged
-  paged_all paged = all_from HasPages are.judged (λ k j at e its log2 left short.
-      all_at (λ v. v ≢ verdict.NoPages) verdicts k (verdict_on times j) paged
-      (ap (λ vs. get_elem? vs k) are.said ∙ after_map (verdict_on times) are.judged k j at)
-      (refused k j e log2 left at its short))
+  paged_all have = all_from HasPages are.judged (λ k j at. paged k j at
+      (all_at (λ v. v ≢ verdict.NoPages) verdicts k (verdict_on j) have
+      (ap (λ vs. get_elem? vs k) are.said ∙ after_map verdict_on are.judged k j at)))
 
   -- the events on a bucket lead to the map that all workers know of it
   run_of_steps : (d.dealing ≡ Bucket) ⊎ (d.workers ≡ 1) → All (IsByOwner d) (removals_in are.steps) → (home : Home)
       → IsHome d.layout home → (writes : ℕ)
-      × IsRun (bounds_in d.layout home.family) empty 0 (steps_at d.layout times home are.steps)
+      × IsRun (bounds_in d.layout home.family) empty 0 (steps_at d.layout home are.steps)
       (map_now (view_in are.views home.family) home.bucket) writes
   run_of_steps one by home inside =
       let recorded = are.recorded home.family in
       let o =
-      owner d home (some_worker d times home.family are.steps (view_in are.views home.family) recorded) one in
+      owner d home (some_worker d home.family are.steps (view_in are.views home.family) recorded) one in
       runs_at d times home.family home.bucket o.0 o.1 are.steps
       (view_in are.views home.family) recorded (subst (All (IsAsked times)) (sym are.packets_are) are.asked) by inside
 
@@ -122,21 +121,21 @@ module _ (d : Deal) (times : Timeouts) (policy : PolicyFacts) (packets : List Pa
       subst (AreVerdicts d.layout times policy packets)
       (sym (aged_verdicts d.layout times policy packets said are.steps all (aged_by_one one paged in_time)
       (subst (λ js. AreReadings policy packets (readings_of js)) (sym are.packets_are) are.read) in_time.few)
-      ∙ (ap (verdicts_on times) are.packets_are ∙ sym are.said)) all
+      ∙ (ap verdicts_on are.packets_are ∙ sym are.said)) all
 
 module _ (d : Deal) (times : Timeouts) (policy : PolicyFacts) (packets : List PacketFacts) (verdicts : List Verdict)
     (are : AreJudged d times policy packets verdicts) where
   -- the events on a bucket lead to the map that all workers know of it
   pub run_at : (d.dealing ≡ Bucket) ⊎ (d.workers ≡ 1) → (home : Home) → IsHome d.layout home → (writes : ℕ)
-      × IsRun (bounds_in d.layout home.family) empty 0 (events_at d.layout times home are.judged)
+      × IsRun (bounds_in d.layout home.family) empty 0 (events_at d.layout home are.judged)
       (map_now (view_in are.views home.family) home.bucket) writes
   run_at one home inside =
       let (writes, run) = run_of_steps d times policy packets verdicts [] are one
       (subst (All (IsByOwner d)) (sym are.removals_are) (All-nil (IsByOwner d))) home inside in (
         writes,
         subst (λ es. IsRun (bounds_in d.layout home.family) empty 0 es (map_now (view_in are.views home.family) home.bucket) writes)
-            (packets_alone d.layout times home are.steps are.removals_are
-            ∙ ap (events_at d.layout times home) are.packets_are) run,
+            (packets_alone d.layout home are.steps are.removals_are
+            ∙ ap (events_at d.layout home) are.packets_are) run,
       )
 
   pub judged_by_one : (d.dealing ≡ Bucket) ⊎ (d.workers ≡ 1) → HavePages verdicts

@@ -18,77 +18,28 @@ use Rattle.session_state.specs.declared.timeouts.Timeouts.{Timeouts}
 use Rattle.session_state.specs.Flows.{flow_of}
 use Rattle.flow_filter.specs.Ageing.{Judges, Removal, Removes, Step, packets_in, removals_in}
 use Rattle.flow_filter.specs.Readings.{Framed, Reading, Ruled}
-use Rattle.flow_filter.specs.Updates.{update_in, update_of, words_of}
-use Rattle.flow_filter.specs.Judged.{AreAsked, IsAsked, IsAskedBy, Judged}
-use Rattle.flow_filter.specs.OneThread.{Home, Layout, add_event, family_of, home_of, same_family, same_home}
+use Rattle.flow_filter.specs.Updates.{Update, update_in, update_of, words_of}
+use Rattle.flow_filter.specs.Judged.{AreAsked, Asked, Asks, IsAsked, IsAskedBy, Judged, Settled}
+use Rattle.flow_filter.specs.OneThread.{family_of, same_family}
 use Rattle.flow_filter.proofs.HomeLemmas.{families_are_one, family_as_itself}
 use Rattle.packet_dealing.specs.Dealings.{Deal, flow_of_reading, worker_of}
 use Rattle.flow_dealing.specs.Places.{AreStepsBefore}
 use Rattle.flow_dealing.specs.WorkerRecords.{AreRecorded, IsByOwner, add_in, events_by}
-use Rattle.flow_dealing.proofs.DealtEvents.{events_by-judges, events_by-nil, events_by-removes, worker_few}
+use Rattle.flow_dealing.proofs.DealtEvents.{add_in-append, events_by-judges, events_by-nil, events_by-removes, worker_few}
 use Rattle.flow_dealing.proofs.Places.{before_map}
 
--- ---- A packet's event, by its flow
-
-abbrev pub add_flow : Family → Option Flow → Option Event → List Event → List Event
-add_flow family None event events = events
-add_flow family (Some flow) None events = events
-add_flow family (Some flow) (Some e) events = if same_family family (family_of flow.key) then e ∷ events else events
-
-abbrev pub add_flow_at : Layout → Home → Option Flow → Option Event → List Event → List Event
-add_flow_at l home None event events = events
-add_flow_at l home (Some flow) None events = events
-add_flow_at l home (Some flow) (Some e) events = if same_home home (home_of l flow.key) then e ∷ events else events
-
--- a packet has an event where it has a flow, with the flow's key
-abbrev pub IsFlowEvent : Option Flow → Option Event → Type 0
-IsFlowEvent None event = event ≡ None
-IsFlowEvent (Some flow) event = (e : Event) × (event ≡ Some e) × (e.key ≡ words_of flow.key)
-
-add_in-flow : (family : Family) (times : Timeouts) (reading : Reading) (event : Option Event) (events : List Event)
-    → add_in family (update_of times reading) event events ≡ add_flow family (flow_of_reading reading) event events
-add_in-flow family times (Framed verdict) event events = refl
-add_in-flow family times (Ruled moment tuple ruling) event events = go (flow_of tuple) event
+-- an update has the key of the packet's flow
+pub flow_of_update : (times : Timeouts) (reading : Reading) (u : Update) → update_of times reading ≡ Some u
+    → (flow : Flow) × (flow_of_reading reading ≡ Some flow) × (flow.key ≡ u.key)
+flow_of_update times (Framed verdict) u is = let f : ⊥ = cc in absurd f
+flow_of_update times (Ruled moment tuple ruling) u is = go (flow_of tuple) is
   where
-    go : (f : Option Flow) (ev : Option Event)
-        → add_in family (option_map (update_in times moment tuple ruling) f) ev events ≡ add_flow family f ev events
-    go None ev = refl
-    go (Some flow) None = refl
-    go (Some flow) (Some e) = refl
-
-pub add_event-flow : (l : Layout) (home : Home) (times : Timeouts) (reading : Reading) (event : Option Event)
-    (events : List Event)
-    → add_event l home (update_of times reading) event events ≡ add_flow_at l home (flow_of_reading reading) event events
-add_event-flow l home times (Framed verdict) event events = refl
-add_event-flow l home times (Ruled moment tuple ruling) event events = go (flow_of tuple) event
-  where
-    go : (f : Option Flow) (ev : Option Event)
-        → add_event l home (option_map (update_in times moment tuple ruling) f) ev events
-        ≡ add_flow_at l home f ev events
-    go None ev = refl
-    go (Some flow) None = refl
-    go (Some flow) (Some e) = refl
-
-asked_in : (times : Timeouts) (reading : Reading) (event : Option Event) → IsAskedBy (update_of times reading) event
-    → IsFlowEvent (flow_of_reading reading) event
-asked_in times (Framed verdict) event asked = asked
-asked_in times (Ruled moment tuple ruling) event asked = go (flow_of tuple) asked
-  where
-    go : (f : Option Flow) → IsAskedBy (option_map (update_in times moment tuple ruling) f) event → IsFlowEvent f event
-    go None a = a
-    go (Some flow) a = (a.0, a.1, a.2.key)
-
-pub asked_flow : (times : Timeouts) (j : Judged) → IsAsked times j → IsFlowEvent (flow_of_reading j.reading) j.event
-asked_flow times j asked = asked_in times j.reading j.event asked
-
--- a worker's events, whether the packet that comes first is its own, by the packet's flow
-pub events_by-flow : (d : Deal) (times : Timeouts) (family : Family) (w n : ℕ) (j : Judged) (steps : List Step)
-    → events_by d times family w n (Judges j ∷ steps) ≡ cond (worker_of d n (flow_of_reading j.reading) == w)
-    (add_flow family (flow_of_reading j.reading) j.event (events_by d times family w (n + 1) steps))
-    (events_by d times family w (n + 1) steps)
-events_by-flow d times family w n j steps = events_by-judges d times family w n j steps
-    ∙ ap (λ es. cond (worker_of d n (flow_of_reading j.reading) == w) es (events_by d times family w (n + 1) steps))
-    (add_in-flow family times j.reading j.event (events_by d times family w (n + 1) steps))
+    go : (found : Option Flow) → option_map (update_in times moment tuple ruling) found ≡ Some u
+        → (flow : Flow) × (found ≡ Some flow) × (flow.key ≡ u.key)
+    go None e = let f : ⊥ = cc in absurd f
+    go (Some flow) e =
+        let same : update_in times moment tuple ruling flow ≡ u = cc in
+        (flow, refl, ap (λ (x : Update). x.key) same)
 
 -- ---- The steps before a packet
 
@@ -128,7 +79,7 @@ steps_between (r ∷ earlier) (s ∷ next) j i later last same fewer =
     fewer_left (Judges y) less = omega arith
     fewer_left (Removes y) less = less
 
-module _ (d : Deal) (times : Timeouts) (family : Family) where
+module _ (d : Deal) (family : Family) where
   -- ---- The step of an event
 
   -- a packet of this worker that has a flow of the family with the event's key
@@ -151,22 +102,23 @@ module _ (d : Deal) (times : Timeouts) (family : Family) where
   abbrev pub IsStep : ℕ → Event → Type 0
   IsStep w e = IsFrom w e ⊎ IsRemovedBy w e
 
-  from_first : (w n k : ℕ) (f : Option Flow) (event : Option Event) (E : List Event) (e : Event) → IsFlowEvent f event
-      → worker_of d n f ≡ w
-      → get_elem? (add_flow family f event E) k ≡ some e → ((m : ℕ) → get_elem? E m ≡ some e → IsStep w e) → IsStep w e
-  from_first w n k None event E e its mine at more = more k at
-  from_first w n k (Some flow) event E e its mine at more =
-      go (same_family family (family_of flow.key)) refl k
-      (ap (λ ev. get_elem? (add_flow family (Some flow) ev E) k) (sym its.1) ∙ at)
+  from_first : (times : Timeouts) (w n k : ℕ) (reading : Reading) (asked : Asked Event) (E : List Event) (e : Event)
+      → IsAskedBy (update_of times reading) asked → worker_of d n (flow_of_reading reading) ≡ w
+      → get_elem? (add_in family asked E) k ≡ some e → ((m : ℕ) → get_elem? E m ≡ some e → IsStep w e) → IsStep w e
+  from_first times w n k reading Settled E e its mine at more = more k at
+  from_first times w n k reading (Asks u x) E e its mine at more = go (same_family family (family_of u.key)) refl k at
     where
-      go : (t : Bool) → same_family family (family_of flow.key) ≡ t → (m : ℕ)
-          → get_elem? (if t then its.0 ∷ E else E) m ≡ some e → IsStep w e
+      f : (flow : Flow) × (flow_of_reading reading ≡ Some flow) × (flow.key ≡ u.key)
+      f = flow_of_update times reading u its.0
+
+      go : (t : Bool) → same_family family (family_of u.key) ≡ t → (m : ℕ)
+          → get_elem? (if t then x ∷ E else E) m ≡ some e → IsStep w e
       go true is zero there = inl (record {
         number = n;
-        flow = flow;
-        inside = sym (families_are_one family (family_of flow.key) is);
-        key = ap (λ (x : Event). x.key) (sym (some-injective its.0 e there)) ∙ its.2;
-        dealt = mine;
+        flow = f.0;
+        inside = ap family_of f.2 ∙ sym (families_are_one family (family_of u.key) is);
+        key = ap (λ (y : Event). y.key) (sym (some-injective x e there)) ∙ (its.1.key ∙ ap words_of (sym f.2));
+        dealt = ap (worker_of d n) (sym f.1) ∙ mine;
       })
       go true is (suc m) there = more m there
       go false is m there = more m there
@@ -190,116 +142,103 @@ module _ (d : Deal) (times : Timeouts) (family : Family) where
       go true is (suc m) there = more m there
       go false is m there = more m there
 
-  pub step_of_event : (w n : ℕ) (steps : List Step) → AreAsked times (packets_in steps) → All (IsByOwner d) (removals_in steps)
-      → (k : ℕ) (e : Event) → get_elem? (events_by d times family w n steps) k ≡ some e → IsStep w e
-  step_of_event w n [] asked own k e at =
-      absurd (some-ne-none e (sym (ap (λ es. get_elem? es k) (sym (events_by-nil d times family w n)) ∙ at)))
-  step_of_event w n (Removes r ∷ steps) asked own k e at =
-      removed_first w k r (events_by d times family w n steps) e (All-head (IsByOwner d) r (removals_in steps) own)
-      (ap (λ es. get_elem? es k) (sym (events_by-removes d times family w n r steps)) ∙ at)
-      (λ m there. step_of_event w n steps asked (All-tail (IsByOwner d) r (removals_in steps) own) m e there)
-  step_of_event w n (Judges j ∷ steps) asked own k e at = elim (eqb_tells (worker_of d n (flow_of_reading j.reading)) w) [
-    | inl (test, mine) ↦ from_first w n k (flow_of_reading j.reading) j.event E e
-        (asked_flow times j (All-head (IsAsked times) j (packets_in steps) asked)) mine
-        (ap (λ b. get_elem? (cond b (add_flow family (flow_of_reading j.reading) j.event E) E) k) (sym test) ∙ here)
-        (λ m there. step_of_event w (n + 1) steps (All-tail (IsAsked times) j (packets_in steps) asked) own m e there)
-    | inr (test, other) ↦ step_of_event w (n + 1) steps (All-tail (IsAsked times) j (packets_in steps) asked) own k e
-        (ap (λ b. get_elem? (cond b (add_flow family (flow_of_reading j.reading) j.event E) E) k) (sym test) ∙ here)
+  pub step_of_event : (times : Timeouts) (w n : ℕ) (steps : List Step) → AreAsked times (packets_in steps)
+      → All (IsByOwner d) (removals_in steps)
+      → (k : ℕ) (e : Event) → get_elem? (events_by d family w n steps) k ≡ some e → IsStep w e
+  step_of_event times w n [] asked own k e at =
+      absurd (some-ne-none e (sym (ap (λ es. get_elem? es k) (sym (events_by-nil d family w n)) ∙ at)))
+  step_of_event times w n (Removes r ∷ steps) asked own k e at =
+      removed_first w k r (events_by d family w n steps) e (All-head (IsByOwner d) r (removals_in steps) own)
+      (ap (λ es. get_elem? es k) (sym (events_by-removes d family w n r steps)) ∙ at)
+      (λ m there. step_of_event times w n steps asked (All-tail (IsByOwner d) r (removals_in steps) own) m e there)
+  step_of_event times w n (Judges j ∷ steps) asked own k e at = elim (eqb_tells (worker_of d n (flow_of_reading j.reading)) w) [
+    | inl (test, mine) ↦ from_first times w n k j.reading j.asked E e (All-head (IsAsked times) j (packets_in steps) asked) mine
+        (ap (λ b. get_elem? (cond b (add_in family j.asked E) E) k) (sym test) ∙ here)
+        (λ m there. step_of_event times w (n + 1) steps (All-tail (IsAsked times) j (packets_in steps) asked) own m e there)
+    | inr (test, other) ↦ step_of_event times w (n + 1) steps (All-tail (IsAsked times) j (packets_in steps) asked) own k e
+        (ap (λ b. get_elem? (cond b (add_in family j.asked E) E) k) (sym test) ∙ here)
   ]
     where
       E : List Event
-      E = events_by d times family w (n + 1) steps
+      E = events_by d family w (n + 1) steps
 
-      here : get_elem? (cond (worker_of d n (flow_of_reading j.reading) == w) (add_flow family (flow_of_reading j.reading) j.event E) E)
-          k ≡ some e
-      here = ap (λ es. get_elem? es k) (sym (events_by-flow d times family w n j steps)) ∙ at
+      here : get_elem? (cond (worker_of d n (flow_of_reading j.reading) == w) (add_in family j.asked E) E) k ≡ some e
+      here = ap (λ es. get_elem? es k) (sym (events_by-judges d family w n j steps)) ∙ at
 
   -- ---- The event of a packet
 
   -- a worker's events of steps that follow others
-  add_flow-append : (f : Option Flow) (event : Option Event) (E F : List Event)
-      → add_flow family f event (E ++ F) ≡ add_flow family f event E ++ F
-  add_flow-append None event E F = refl
-  add_flow-append (Some flow) None E F = refl
-  add_flow-append (Some flow) (Some x) E F = go (same_family family (family_of flow.key))
-    where
-      go : (t : Bool) → (if t then x ∷ (E ++ F) else (E ++ F)) ≡ (if t then x ∷ E else E) ++ F
-      go true = refl
-      go false = refl
-
-  events_by-append : (w n : ℕ) (steps more : List Step) → events_by d times family w n (steps ++ more)
-      ≡ events_by d times family w n steps ++ events_by d times family w (n + length (packets_in steps)) more
+  events_by-append : (w n : ℕ) (steps more : List Step) → events_by d family w n (steps ++ more)
+      ≡ events_by d family w n steps ++ events_by d family w (n + length (packets_in steps)) more
   events_by-append w n [] more =
       let none : n ≡ n + 0 = omega arith in
-      ap (λ m. events_by d times family w m more) none
-      ∙ ap (λ es. es ++ events_by d times family w (n + 0) more) (sym (events_by-nil d times family w n))
+      ap (λ m. events_by d family w m more) none
+      ∙ ap (λ es. es ++ events_by d family w (n + 0) more) (sym (events_by-nil d family w n))
   events_by-append w n (Removes r ∷ steps) more =
-      events_by-removes d times family w n r (steps ++ more)
+      events_by-removes d family w n r (steps ++ more)
       ∙ (go (same_family family r.family && (r.worker == w)) (events_by-append w n steps more)
-      ∙ ap (λ es. es ++ F) (sym (events_by-removes d times family w n r steps)))
+      ∙ ap (λ es. es ++ F) (sym (events_by-removes d family w n r steps)))
     where
       E : List Event
-      E = events_by d times family w n steps
+      E = events_by d family w n steps
 
       F : List Event
-      F = events_by d times family w (n + length (packets_in steps)) more
+      F = events_by d family w (n + length (packets_in steps)) more
 
       all : List Event
-      all = events_by d times family w n (steps ++ more)
+      all = events_by d family w n (steps ++ more)
 
       go : (t : Bool) → all ≡ E ++ F → cond t (r.event ∷ all) all ≡ cond t (r.event ∷ E) E ++ F
       go true both = ap (λ es. r.event ∷ es) both
       go false both = both
   events_by-append w n (Judges x ∷ steps) more =
-      events_by-flow d times family w n x (steps ++ more)
+      events_by-judges d family w n x (steps ++ more)
       ∙ (go (worker_of d n (flow_of_reading x.reading) == w) (events_by-append w (n + 1) steps more)
-      ∙ ap₂ (λ es fs. es ++ fs) (sym (events_by-flow d times family w n x steps))
+      ∙ ap₂ (λ es fs. es ++ fs) (sym (events_by-judges d family w n x steps))
       (let number : n + 1 + length (packets_in steps) ≡ n + suc (length (packets_in steps)) = omega arith in
-      ap (λ m. events_by d times family w m more) number))
+      ap (λ m. events_by d family w m more) number))
     where
       E : List Event
-      E = events_by d times family w (n + 1) steps
+      E = events_by d family w (n + 1) steps
 
       F : List Event
-      F = events_by d times family w (n + 1 + length (packets_in steps)) more
+      F = events_by d family w (n + 1 + length (packets_in steps)) more
 
       all : List Event
-      all = events_by d times family w (n + 1) (steps ++ more)
+      all = events_by d family w (n + 1) (steps ++ more)
 
       add : List Event → List Event
-      add es = add_flow family (flow_of_reading x.reading) x.event es
+      add es = add_in family x.asked es
 
       go : (t : Bool) → all ≡ E ++ F → cond t (add all) all ≡ cond t (add E) E ++ F
-      go true both = ap add both ∙ add_flow-append (flow_of_reading x.reading) x.event E F
+      go true both = ap add both ∙ add_in-append family x.asked E F
       go false both = both
 
   -- a packet of this worker has its event before those of the steps that follow
-  event_first : (w n : ℕ) (j : Judged) (flow : Flow) (e : Event) (later : List Step)
-      → flow_of_reading j.reading ≡ Some flow → family_of flow.key ≡ family → j.event ≡ Some e
-      → worker_of d n (Some flow) ≡ w → events_by d times family w n (Judges j ∷ later) ≡ e ∷ events_by d times family w (n + 1) later
-  event_first w n j flow e later has inside its mine =
-      events_by-flow d times family w n j later
-      ∙ (ap (λ (b : Bool). cond b (add_flow family (flow_of_reading j.reading) j.event E) E)
-      (eq-eqb (worker_of d n (flow_of_reading j.reading)) w (ap (worker_of d n) has ∙ mine))
-      ∙ (ap₂ (λ f ev. add_flow family f ev E) has its
+  event_first : (w n : ℕ) (j : Judged) (u : Update) (e : Event) (later : List Step)
+      → j.asked ≡ Asks u e → family_of u.key ≡ family → worker_of d n (flow_of_reading j.reading) ≡ w
+      → events_by d family w n (Judges j ∷ later) ≡ e ∷ events_by d family w (n + 1) later
+  event_first w n j u e later its inside mine =
+      events_by-judges d family w n j later
+      ∙ (ap (λ (b : Bool). cond b (add_in family j.asked E) E) (eq-eqb (worker_of d n (flow_of_reading j.reading)) w mine)
+      ∙ (ap (λ asked. add_in family asked E) its
       ∙ ap (λ (b : Bool). if b then e ∷ E else E) (ap (same_family family) inside ∙ family_as_itself family)))
     where
       E : List Event
-      E = events_by d times family w (n + 1) later
+      E = events_by d family w (n + 1) later
 
   -- the packet's event stands behind those of the steps before it
-  pub event_of_packet : (w : ℕ) (steps earlier : List Step) (k : ℕ) (j : Judged) (flow : Flow) (e : Event)
+  pub event_of_packet : (w : ℕ) (steps earlier : List Step) (k : ℕ) (j : Judged) (u : Update) (e : Event)
       → (before : AreStepsBefore steps k j earlier)
-      → flow_of_reading j.reading ≡ Some flow → family_of flow.key ≡ family → j.event ≡ Some e → worker_of d k (Some flow) ≡ w
-      → events_by d times family w 0 steps
-      ≡ events_by d times family w 0 earlier ++ (e ∷ events_by d times family w (k + 1) before.later)
-  event_of_packet w steps earlier k j flow e before has inside its mine =
+      → j.asked ≡ Asks u e → family_of u.key ≡ family → worker_of d k (flow_of_reading j.reading) ≡ w
+      → events_by d family w 0 steps ≡ events_by d family w 0 earlier ++ (e ∷ events_by d family w (k + 1) before.later)
+  event_of_packet w steps earlier k j u e before its inside mine =
       let number : 0 + length (packets_in earlier) ≡ k = let c = before.count in omega arith in
-      ap (events_by d times family w 0) before.whole
+      ap (events_by d family w 0) before.whole
       ∙ (events_by-append w 0 earlier (Judges j ∷ before.later)
-      ∙ ap (λ es. events_by d times family w 0 earlier ++ es)
-      (ap (λ m. events_by d times family w m (Judges j ∷ before.later)) number
-      ∙ event_first w k j flow e before.later has inside its mine))
+      ∙ ap (λ es. events_by d family w 0 earlier ++ es)
+      (ap (λ m. events_by d family w m (Judges j ∷ before.later)) number
+      ∙ event_first w k j u e before.later its inside mine))
 
   -- ---- The call of a packet
 
@@ -312,26 +251,26 @@ module _ (d : Deal) (times : Timeouts) (family : Family) where
     pub call : Call
     pub called : get_elem? record_at.calls place ≡ some call
     pub event : event_of call ≡ e
-    pub behind : place ≡ length (events_by d times family worker 0 earlier)
+    pub behind : place ≡ length (events_by d family worker 0 earlier)
 
-  module _ (steps : List Step) (v : View) (recorded : AreRecorded d times family steps v) where
+  module _ (steps : List Step) (v : View) (recorded : AreRecorded d family steps v) where
     pub some_worker : 0 < d.workers
     some_worker = let acts = recorded.lawful.acts in let count = recorded.count in omega arith
 
-    pub call_of_packet : (k : ℕ) (j : Judged) (flow : Flow) (e : Event)
-        → get_elem? (packets_in steps) k ≡ some j → flow_of_reading j.reading ≡ Some flow → family_of flow.key ≡ family → j.event ≡ Some e
-        → IsCallFor steps v k j (worker_of d k (Some flow)) e
-    call_of_packet k j flow e at has inside its =
-        let w : ℕ = worker_of d k (Some flow) in
+    pub call_of_packet : (k : ℕ) (j : Judged) (u : Update) (e : Event)
+        → get_elem? (packets_in steps) k ≡ some j → j.asked ≡ Asks u e → family_of u.key ≡ family
+        → IsCallFor steps v k j (worker_of d k (flow_of_reading j.reading)) e
+    call_of_packet k j u e at its inside =
+        let w : ℕ = worker_of d k (flow_of_reading j.reading) in
         let r =
-        there v.records w (let few = worker_few d k (Some flow) some_worker in let count = recorded.count in
+        there v.records w (let few = worker_few d k (flow_of_reading j.reading) some_worker in let count = recorded.count in
         omega arith) in
         let (earlier, before) = steps_before steps k j at in
-        let E : List Event = events_by d times family w 0 earlier in
-        let F : List Event = e ∷ events_by d times family w (k + 1) before.later in
+        let E : List Event = events_by d family w 0 earlier in
+        let F : List Event = e ∷ events_by d family w (k + 1) before.later in
         let last : length E + 0 ≡ length E = omega arith in
         let c = before_map event_of r.0.calls (length E) e (ap (λ es. get_elem? es (length E))
-        (recorded.each w r.0 r.1 ∙ event_of_packet w steps earlier k j flow e before has inside its refl)
+        (recorded.each w r.0 r.1 ∙ event_of_packet w steps earlier k j u e before its inside refl)
         ∙ (ap (get_elem? (E ++ F)) (sym last) ∙ at_after E F 0 e refl)) in
         record {
           record_at = r.0;

@@ -19,17 +19,16 @@ use Rattle.session_state.specs.declared.verdict.Verdict.{Verdict}
 use Rattle.flow_filter.specs.Ageing.{Removal, Step}
 use Rattle.flow_filter.specs.Readings.{Ruled, Ruling}
 use Rattle.flow_filter.specs.Updates.{Update, update_of}
-use Rattle.flow_filter.specs.Judged.{IsAsked, IsAskedBy, IsEventOf, Judged, verdict_with}
+use Rattle.flow_filter.specs.Judged.{Asks, IsAsked, IsEventOf, Judged, verdict_on, verdict_with}
 use Rattle.flow_filter.specs.OneThread.{family_of, home_of, sizes_in}
 use Rattle.flow_filter.specs.Passing.{HoldsLive, LetsThrough}
 use Rattle.session_state.specs.Passes.{passes}
-use Rattle.flow_filter.proofs.HomeLemmas.{family_as_itself}
+use Rattle.flow_filter.proofs.AskedLemmas.{asks_once}
 use Rattle.flow_filter.proofs.PassingLemmas.{pass_by_reading}
 use Rattle.flow_dealing.specs.Views.{Views, view_in}
 use Rattle.packet_dealing.specs.Dealings.{Deal, flow_of_reading, worker_of}
 use Rattle.flow_dealing.specs.Places.{HasPlace, HaveOwnCalls, PassesAtPlace}
-use Rattle.flow_dealing.specs.WorkerRecords.{AreJudgedBetween, events_by, is_in}
-use Rattle.flow_dealing.proofs.FewPackets.{flow_inside}
+use Rattle.flow_dealing.specs.WorkerRecords.{AreJudgedBetween, events_by}
 use Rattle.flow_dealing.proofs.PacketCalls.{IsCallFor, call_of_packet, event_of_packet, steps_between}
 use Rattle.flow_dealing.proofs.Places.{all_at}
 use Rattle.flow_dealing.proofs.Refusals.{legal_call}
@@ -93,9 +92,9 @@ place_of z v e at place r c lawful stands called is = go (is_changed c.reply) re
 -- a packet passes by what stands where its call does
 pass_by_call : (d : Deal) (times : Timeouts) (steps : List Step) (views : Views) (k : ℕ) (j : Judged) (moment : ℕ) (tuple : TupleFacts)
     (ruling : Ruling) (u : Update) (e : Event) → j.reading ≡ Ruled moment tuple ruling → update_of times j.reading ≡ Some u
-    → j.event ≡ Some e → IsEventOf u e → IsLawfulCaller (sizes_in d.layout (family_of u.key)) (view_in views (family_of u.key))
-    → IsCallFor d times (family_of u.key) steps (view_in views (family_of u.key)) k j (worker_of d k (flow_of_reading j.reading)) e
-    → PassesAtPlace d times steps views k j u ruling
+    → j.asked ≡ Asks u e → IsEventOf u e → IsLawfulCaller (sizes_in d.layout (family_of u.key)) (view_in views (family_of u.key))
+    → IsCallFor d (family_of u.key) steps (view_in views (family_of u.key)) k j (worker_of d k (flow_of_reading j.reading)) e
+    → PassesAtPlace d steps views k j u ruling
 pass_by_call d times steps views k j moment tuple ruling u e reads updates its of lawful c =
     pass_there (place_of z v e by c.place c.record_at c.call lawful c.stands c.called c.event)
   where
@@ -113,12 +112,12 @@ pass_by_call d times steps views k j moment tuple ruling u e reads updates its o
         ∙ ap (bucket_of z) (ap (λ (x : Event). x.key) c.event ∙ of.key)
 
     passing : (p : HasPlace z v by e) (m : Pairs) → IsEvent (bounds_of z) m p.before e p.left
-        → (passes (verdict_with times j.reading j.event) ≡ true) ↔ (HoldsLive u m ⊎ LetsThrough u p.left ruling)
-    passing p m step = subst₂ (λ r x. (passes (verdict_with times r x) ≡ true) ↔ (HoldsLive u m ⊎ LetsThrough u p.left ruling))
+        → (passes (verdict_on j) ≡ true) ↔ (HoldsLive u m ⊎ LetsThrough u p.left ruling)
+    passing p m step = subst₂ (λ r x. (passes (verdict_with r x) ≡ true) ↔ (HoldsLive u m ⊎ LetsThrough u p.left ruling))
         (sym reads) (sym its)
         (pass_by_reading times moment tuple ruling u (bounds_of z) m p.left p.before e (ap (update_of times) (sym reads) ∙ updates) of step)
 
-    pass_there : IsPlaceOf z v by e c.place c.call → PassesAtPlace d times steps views k j u ruling
+    pass_there : IsPlaceOf z v by e c.place c.call → PassesAtPlace d steps views k j u ruling
     pass_there at = record {
       e = e;
       its = its;
@@ -133,36 +132,31 @@ pass_by_call d times steps views k j moment tuple ruling u e reads updates its o
 pub pass_at_place : (d : Deal) (times : Timeouts) (policy : PolicyFacts) (packets : List PacketFacts) (verdicts : List Verdict)
     (removals : List Removal) (are : AreJudgedBetween d times policy packets removals verdicts) (k : ℕ) (j : Judged) (moment : ℕ) (tuple : TupleFacts)
     (ruling : Ruling) (u : Update) → get_elem? are.judged k ≡ some j → j.reading ≡ Ruled moment tuple ruling
-    → update_of times j.reading ≡ Some u → PassesAtPlace d times are.steps are.views k j u ruling
+    → update_of times j.reading ≡ Some u → PassesAtPlace d are.steps are.views k j u ruling
 pass_at_place d times policy packets verdicts removals are k j moment tuple ruling u at reads updates =
     let family : Family = family_of u.key in
     let recorded = are.recorded family in
     let v : View = view_in are.views family in
-    let (e, its, of) : IsAskedBy (Some u) j.event = subst (λ x. IsAskedBy x j.event) updates (all_at (IsAsked times) are.judged k j are.asked at) in
-    let inside : is_in family (update_of times j.reading) ≡ true = ap (is_in family) updates ∙ family_as_itself family in
-    let (flow, has, home) = flow_inside d times family j.reading inside in
+    let (e, its, of) = asks_once (update_of times j.reading) j.asked (all_at (IsAsked times) are.judged k j are.asked at) u updates in
     pass_by_call d times are.steps are.views k j moment tuple ruling u e reads updates its of recorded.lawful
-    (subst (λ w. IsCallFor d times family are.steps v k j w e) (ap (worker_of d k) (sym has))
-    (call_of_packet d times family are.steps v recorded k j flow e (ap (λ js. get_elem? js k) are.packets_are ∙ at) has home its))
+    (call_of_packet d family are.steps v recorded k j u e (ap (λ js. get_elem? js k) are.packets_are ∙ at) its refl)
 
 -- the call of a packet stands before that of a later one
-pub calls_in_turn : (d : Deal) (times : Timeouts) (steps : List Step) (views : Views) → HaveOwnCalls d times steps views
-calls_in_turn d times steps views k m j i u w one other updates p q family_same worker_same less =
+pub calls_in_turn : (d : Deal) (steps : List Step) (views : Views) → HaveOwnCalls d steps views
+calls_in_turn d steps views k m j i u w one other p q family_same worker_same less =
     let family : Family = family_of u.key in
     let by : ℕ = worker_of d k (flow_of_reading j.reading) in
-    let inside : is_in family (update_of times j.reading) ≡ true = ap (is_in family) updates ∙ family_as_itself family in
-    let (flow, has, home) = flow_inside d times family j.reading inside in
     let first = p.are_earlier.count in
     let second = q.are_earlier.count in
     let (between, whole) =
     steps_between p.earlier q.earlier j i p.are_earlier.later q.are_earlier.later (sym p.are_earlier.whole ∙ q.are_earlier.whole) (omega arith) in
-    let E : List Event = events_by d times family by 0 p.earlier in
-    let F : List Event = events_by d times family by (k + 1) between in
+    let E : List Event = events_by d family by 0 p.earlier in
+    let F : List Event = events_by d family by (k + 1) between in
     let all =
-    event_of_packet d times family by q.earlier p.earlier k j flow p.e (record { later = between; whole = whole; count = first }) has home p.its
-    (ap (worker_of d k) (sym has)) in
-    let count : length (events_by d times family by 0 q.earlier) ≡ length E + suc (length F) = ap length all ∙ length-append E (p.e ∷ F) in
-    let own : q.stands.place ≡ length (events_by d times family by 0 q.earlier) =
-    q.place ∙ ap₂ (λ f x. length (events_by d times f x 0 q.earlier)) (sym family_same) (sym worker_same) in
+    event_of_packet d family by q.earlier p.earlier k j u p.e (record { later = between; whole = whole; count = first }) p.its refl
+    refl in
+    let count : length (events_by d family by 0 q.earlier) ≡ length E + suc (length F) = ap length all ∙ length-append E (p.e ∷ F) in
+    let own : q.stands.place ≡ length (events_by d family by 0 q.earlier) =
+    q.place ∙ ap₂ (λ f x. length (events_by d f x 0 q.earlier)) (sym family_same) (sym worker_same) in
     let at = p.place in
     omega arith

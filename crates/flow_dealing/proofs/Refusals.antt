@@ -1,8 +1,7 @@
 -- What a refusal for want of pages tells of a packet.
 use Rattle.std.proofs.Common.{◌≡◌, ◌≢◌, ◌∙◌, ◌+◌, ◌^◌, ◌<◌, ◌≤◌, ℕ, Bool, true, false, Option, Some, None, ap, refl, sym, subst, inl, inr}
-use Rattle.std.specs.Prelude.{nat_lt, if◌then◌else◌, ◌==◌, ◌&&◌, option_map}
+use Rattle.std.specs.Prelude.{nat_lt, if◌then◌else◌, ◌==◌}
 use Rattle.std.specs.FinMap.{len}
-use Rattle.std.specs.Option.{ForSome}
 use lib.ListN.{get_elem?}
 use mathlib.Core.Option.{some}
 use Rattle.packet_view.specs.Captures.{PacketFacts}
@@ -24,16 +23,14 @@ use Rattle.bihash_rule.specs.declared.view.Call.{Call}
 use Rattle.bihash_rule.specs.declared.view.Record.{Record}
 use Rattle.bihash_rule.specs.declared.view.View.{View}
 use Rattle.session_state.specs.Decisions.{PatchFacts, decision_of, is_live_for}
-use Rattle.session_state.specs.declared.flow.Flow.{Flow}
 use Rattle.session_state.specs.declared.timeouts.Timeouts.{Timeouts}
-use Rattle.session_state.specs.Flows.{flow_of}
 use Rattle.session_state.specs.declared.verdict.Verdict.TheVariants as verdict
 use Rattle.flow_filter.specs.Readings.{Framed, IsReading, IsReadingOf, Reading, Ruled, Ruling}
-use Rattle.flow_filter.specs.Updates.{Update, reflects, update_in, update_of}
-use Rattle.flow_filter.specs.Judged.{IsAskedBy, Judged, verdict_by_event, verdict_on, verdict_with}
+use Rattle.flow_filter.specs.Updates.{Update, reflects, update_of}
+use Rattle.flow_filter.specs.Judged.{Asked, Asks, IsEventOf, Judged, Settled, WhereAsked, verdict_by_event, verdict_on, verdict_with}
 use Rattle.flow_filter.specs.Verdicts.{verdict_by, verdict_entered, verdict_of, verdict_of_rules, verdict_reflected}
 use Rattle.flow_filter.specs.OneThread.{HasPages}
-use Rattle.packet_dealing.specs.Dealings.{flow_of_reading}
+use Rattle.flow_filter.proofs.PassingLemmas.{reflects_by_rule}
 
 -- ---- On the map
 
@@ -138,38 +135,26 @@ sets_reflects patch value sets = go patch.reflects refl
         let f : ⊥ = cc in absurd f
 
 -- a reflecting packet that is refused for want of pages is told so
-refused_is_told : (patch : PatchFacts) (ruling : Ruling) (starts : Bool) (found : Option ℕ) (r : Reply) (log2 left : ℕ)
-    → patch.reflects ≡ (reflects ruling && starts) → found ≡ None → patch.reflects ≡ true → r ≡ reply.NoPages log2 left
+refused_is_told : (patch : PatchFacts) (ruling : Ruling) (found : Option ℕ) (r : Reply) (log2 left : ℕ)
+    → found ≡ None → patch.reflects ≡ true → reflects ruling ≡ true → r ≡ reply.NoPages log2 left
     → verdict_of patch ruling found r ≡ verdict.NoPages
-refused_is_told patch ruling starts found r log2 left is absent sure short =
-    rw absent (rw short (rw sure (go ruling (sym is ∙ sure))))
+refused_is_told patch ruling found r log2 left absent sure rules short =
+    rw absent (rw short (rw sure (go ruling rules)))
   where
-    go : (d : Ruling) → (reflects d && starts) ≡ true → verdict_reflected d (reply.NoPages log2 left) ≡ verdict.NoPages
+    go : (d : Ruling) → reflects d ≡ true → verdict_reflected d (reply.NoPages log2 left) ≡ verdict.NoPages
     go None clash = let f : ⊥ = cc in absurd f
     go (Some decided) ok = refl
 
 -- a packet whose event was refused for want of pages has that verdict
-pub refusal_is_verdict : (times : Timeouts) (reading : Reading) (event : Option Event) (flow : Flow) (e : Event)
-    (b : Bounds) (log2 left : ℕ)
-    → flow_of_reading reading ≡ Some flow → IsAskedBy (update_of times reading) event → event ≡ Some e
-    → IsWant b e.found e.change log2 left
-    → e.reply ≡ reply.NoPages log2 left → verdict_with times reading event ≡ verdict.NoPages
-refusal_is_verdict times (Framed said) event flow e b log2 left has asked its want short = let f : ⊥ = cc in absurd f
-refusal_is_verdict times (Ruled moment tuple ruling) event flow e b log2 left has asked its want short =
-    go (flow_of tuple) has asked
-  where
-    go : (f : Option Flow) → f ≡ Some flow → IsAskedBy (option_map (update_in times moment tuple ruling) f) event
-        → verdict_by_event ruling (option_map (update_in times moment tuple ruling) f) event ≡ verdict.NoPages
-    go None clash a = let f : ⊥ = cc in absurd f
-    go (Some other) is a =
-        let patch : PatchFacts = (update_in times moment tuple ruling other).patch in
-        let same : a.0 ≡ e = let both : Some a.0 ≡ Some e = sym a.1 ∙ its in cc in
-        let decided : e.change ≡ decision_of patch e.found =
-        subst (λ (x : Event). x.change ≡ decision_of patch x.found) same a.2.change in
-        let sure =
-        sets_reflects patch want.value (ap (decision_of patch) (sym want.absent) ∙ (sym decided ∙ want.sets)) in
-        ap (verdict_by_event ruling (Some (update_in times moment tuple ruling other))) its
-        ∙ refused_is_told patch ruling other.starts e.found e.reply log2 left refl want.absent sure short
+pub refusal_is_verdict : (times : Timeouts) (reading : Reading) (u : Update) (e : Event) (b : Bounds) (log2 left : ℕ)
+    → update_of times reading ≡ Some u → IsEventOf u e → IsWant b e.found e.change log2 left
+    → e.reply ≡ reply.NoPages log2 left → verdict_with reading (Asks u e) ≡ verdict.NoPages
+refusal_is_verdict times (Framed said) u e b log2 left is of want short = let f : ⊥ = cc in absurd f
+refusal_is_verdict times (Ruled moment tuple ruling) u e b log2 left is of want short =
+    let sure =
+    sets_reflects u.patch want.value (ap (decision_of u.patch) (sym want.absent) ∙ (sym of.change ∙ want.sets)) in
+    refused_is_told u.patch ruling e.found e.reply log2 left want.absent sure
+    (reflects_by_rule times moment tuple ruling u is sure) short
 
 rules_say_other : (ruling : Ruling) → verdict_of_rules ruling ≢ verdict.NoPages
 rules_say_other None e = let f : ⊥ = cc in f
@@ -203,24 +188,19 @@ verdict_says_other patch ruling found r paged = go (is_live_for patch found) pat
     go false false e = rules_say_other ruling e
 
 -- a packet whose event wasn't refused for want of pages has another verdict
-pub paged_is_told : (times : Timeouts) (policy : PolicyFacts) (packet : PacketFacts) (j : Judged)
-    → IsReading policy packet j.reading → HasPages j → verdict_on times j ≢ verdict.NoPages
-paged_is_told times policy packet j read paged = go read.0 read.2
+pub paged_is_told : (policy : PolicyFacts) (packet : PacketFacts) (j : Judged)
+    → IsReading policy packet j.reading → HasPages j → verdict_on j ≢ verdict.NoPages
+paged_is_told policy packet j read paged = go read.0 read.2
   where
-    ruled : (u : Option Update) (ruling : Ruling) (event : Option Event) → ForSome event (λ e. IsNoRefusal e.reply)
-        → verdict_by_event ruling u event ≢ verdict.NoPages
-    ruled None ruling event has e = rules_say_other ruling e
-    ruled (Some u) ruling None has e = rules_say_other ruling e
-    ruled (Some u) ruling (Some x) has e = verdict_says_other u.patch ruling x.found x.reply (has x refl) e
+    ruled : (ruling : Ruling) (asked : Asked Event) → WhereAsked asked (λ e. IsNoRefusal e.reply)
+        → verdict_by_event ruling asked ≢ verdict.NoPages
+    ruled ruling Settled has e = rules_say_other ruling e
+    ruled ruling (Asks u x) has e = verdict_says_other u.patch ruling x.found x.reply has e
 
     go : (view : frames.FrameFacts) → IsReadingOf (section_of packet.interface policy) packet.moment view j.reading
-        → verdict_on times j ≢ verdict.NoPages
-    go frames.NotIp is =
-        subst (λ (r : Reading). verdict_with times r j.event ≢ verdict.NoPages) (sym is) (λ e. let f : ⊥ = cc in f)
-    go frames.Malformed is =
-        subst (λ (r : Reading). verdict_with times r j.event ≢ verdict.NoPages) (sym is) (λ e. let f : ⊥ = cc in f)
-    go frames.Short is =
-        subst (λ (r : Reading). verdict_with times r j.event ≢ verdict.NoPages) (sym is) (λ e. let f : ⊥ = cc in f)
+        → verdict_on j ≢ verdict.NoPages
+    go frames.NotIp is = subst (λ (r : Reading). verdict_with r j.asked ≢ verdict.NoPages) (sym is) (λ e. let f : ⊥ = cc in f)
+    go frames.Malformed is = subst (λ (r : Reading). verdict_with r j.asked ≢ verdict.NoPages) (sym is) (λ e. let f : ⊥ = cc in f)
+    go frames.Short is = subst (λ (r : Reading). verdict_with r j.asked ≢ verdict.NoPages) (sym is) (λ e. let f : ⊥ = cc in f)
     go (frames.Ip direction tuple) is =
-        subst (λ (r : Reading). verdict_with times r j.event ≢ verdict.NoPages) (sym is.2)
-        (ruled (update_of times (Ruled packet.moment tuple is.0)) is.0 j.event paged)
+        subst (λ (r : Reading). verdict_with r j.asked ≢ verdict.NoPages) (sym is.2) (ruled is.0 j.asked paged)

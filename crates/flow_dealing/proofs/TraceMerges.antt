@@ -51,8 +51,8 @@ module _ {X : Type 0} where
   beside R (x ∷ xs) (z ∷ zs) (suc w) y all at = beside R xs zs w y all.1 at
 
 -- the record has the calls of these deeds
-abbrev pub HasCalls : Timeouts → Family → List Deed → Record → Type 0
-HasCalls times family deeds r = r.calls ≡ calls_by times family deeds
+abbrev pub HasCalls : Family → List Deed → Record → Type 0
+HasCalls family deeds r = r.calls ≡ calls_by family deeds
 
 readings_count : (is : List Item) → length (readings_of (map judged_of is)) ≡ length is
 readings_count [] = refl
@@ -66,8 +66,8 @@ module _ (d : Deal) (times : Timeouts) (policy : PolicyFacts) (packets : List Pa
       (All-weaker (IsSaid d times policy packets verdicts) (λ i. IsAsked times (judged_of i)) (λ i said. said.item.asked) is each)
 
   all_said : AreReadings policy packets (readings_of (map judged_of is)) → length verdicts ≡ length packets
-      → ((k : ℕ) (i : Item) → get_elem? is k ≡ some i → i.packet ≡ 0 + k) → verdicts ≡ verdicts_on times (map judged_of is)
-  all_said read count placed = same_list times is verdicts
+      → ((k : ℕ) (i : Item) → get_elem? is k ≡ some i → i.packet ≡ 0 + k) → verdicts ≡ verdicts_on (map judged_of is)
+  all_said read count placed = same_list is verdicts
       (count ∙ zip_count (IsReading policy) packets (readings_of (map judged_of is)) read ∙ readings_count is)
       (λ k i at. let e : 0 + k ≡ k = omega arith in ap (get_elem? verdicts) (sym (placed k i at ∙ e))
       ∙ (all_at (IsSaid d times policy packets verdicts) is k i each at).said)
@@ -144,8 +144,8 @@ module _ (d : Deal) (times : Timeouts) (ages : Bool) (policy : PolicyFacts) (pac
 
   module _ (v : Views) (verdicts : List Verdict) (some_worker : 0 < d.workers)
       (are : AreAllDeeds d times ages policy packets all)
-      (done : (family : Family) → HaveDone d times family all (view_in v family))
-      (placed : ArePlaced times packets (map items_in all) verdicts) where
+      (done : (family : Family) → HaveDone d family all (view_in v family))
+      (placed : ArePlaced packets (map items_in all) verdicts) where
     abbrev IsLeftHere : ℕ → ℕ → List frames.FrameFacts → List Deed → Type 0
     IsLeftHere w at views deeds = IsLeftOf d times policy packets verdicts (AreInTimeOrder packets)
         (λ order. clock_from 0 packets) keeps IsKnownOf timed_as IsKnownIn known_in w at views deeds
@@ -193,9 +193,9 @@ module _ (d : Deal) (times : Timeouts) (ages : Bool) (policy : PolicyFacts) (pac
           lawful = g.lawful;
           told = g.told;
           openings = g.did.openings;
-          count = sym (zip_count (HasCalls times family) all (view_in v family).records g.did.records) ∙ are.count;
-          each = λ w r at. let t = beside (HasCalls times family) all (view_in v family).records w r g.did.records at in
-              ap (map event_of) (t.2 ∙ ap (calls_by times family) (sym (list_there all w t.0 t.1)))
+          count = sym (zip_count (HasCalls family) all (view_in v family).records g.did.records) ∙ are.count;
+          each = λ w r at. let t = beside (HasCalls family) all (view_in v family).records w r g.did.records at in
+              ap (map event_of) (t.2 ∙ ap (calls_by family) (sym (list_there all w t.0 t.1)))
               ∙ m.dealt family w (let inside = within all w t.0 t.1 in let count = are.count in omega arith);
           wanted = g.did.wanted;
         };

@@ -16,7 +16,6 @@ use Rattle.bihash_rule.specs.declared.view.View.{View}
 use Rattle.session_state.specs.declared.timeouts.Timeouts.{Timeouts}
 use Rattle.flow_filter.specs.Ageing.{Removal}
 use Rattle.flow_filter.specs.OneThread.{same_family, sizes_in}
-use Rattle.flow_filter.specs.Updates.{update_of}
 use Rattle.packet_dealing.specs.Dealings.{Deal}
 use Rattle.flow_dealing.specs.Traces.{IsTrace, Item}
 use Rattle.flow_dealing.specs.Wanted.{HaveWanted}
@@ -52,11 +51,11 @@ aged_in (Takes i ∷ deeds) = aged_in deeds
 aged_in (Ages a ∷ deeds) = a ∷ aged_in deeds
 
 -- the calls on one family's table, in the order of the deeds
-abbrev pub calls_by : Timeouts → Family → List Deed → List Call
-calls_by times family [] = []
-calls_by times family (Takes i ∷ deeds) = add_in family (update_of times i.reading) i.call (calls_by times family deeds)
-calls_by times family (Ages a ∷ deeds) =
-    if same_family family a.family then a.call ∷ calls_by times family deeds else calls_by times family deeds
+abbrev pub calls_by : Family → List Deed → List Call
+calls_by family [] = []
+calls_by family (Takes i ∷ deeds) = add_in family i.asked (calls_by family deeds)
+calls_by family (Ages a ∷ deeds) =
+    if same_family family a.family then a.call ∷ calls_by family deeds else calls_by family deeds
 
 -- The deeds stand in the order of all packets, from one number on: a removal behind the packets that it names. None is behind
 -- more packets than there are.
@@ -91,13 +90,13 @@ pub record AreAllDeeds (d : Deal) (times : Timeouts) (ages : Bool) (policy : Pol
 
 -- The records are those of the workers in their order, each with the calls of its worker's deeds, of a table whose buckets
 -- began empty; calls that were refused for want of a block had wanted it.
-pub record HaveDeeds (z : Sizes) (times : Timeouts) (family : Family) (all : List (List Deed)) (v : View) : Type 0 where
-  pub records : AllZip (λ deeds r. r.calls ≡ calls_by times family deeds) all v.records
+pub record HaveDeeds (z : Sizes) (family : Family) (all : List (List Deed)) (v : View) : Type 0 where
+  pub records : AllZip (λ deeds r. r.calls ≡ calls_by family deeds) all v.records
   pub openings : v.known.openings ≡ no_openings
   pub wanted : HaveWanted z v
 
 -- one family's callers of these workers, all of them, as one caller that is lawful and whole
-pub record HaveDone (d : Deal) (times : Timeouts) (family : Family) (all : List (List Deed)) (v : View) : Type 0 where
+pub record HaveDone (d : Deal) (family : Family) (all : List (List Deed)) (v : View) : Type 0 where
   pub lawful : IsLawfulCaller (sizes_in d.layout family) v
   pub told : IsToldWhole (sizes_in d.layout family) v
-  pub did : HaveDeeds (sizes_in d.layout family) times family all v
+  pub did : HaveDeeds (sizes_in d.layout family) family all v

@@ -15,7 +15,7 @@ use Rattle.bihash_rule.specs.declared.view.Record.{Record}
 use Rattle.bihash_rule.specs.declared.view.View.{View}
 use Rattle.session_state.specs.declared.timeouts.Timeouts.{Timeouts}
 use Rattle.flow_filter.specs.Ageing.{Judges, Removal, Step, packets_in}
-use Rattle.flow_filter.specs.Judged.{Judged, verdict_on}
+use Rattle.flow_filter.specs.Judged.{Asks, Judged, verdict_on}
 use Rattle.flow_filter.specs.OneThread.{family_of, home_of, sizes_in}
 use Rattle.flow_filter.specs.Passing.{HoldsLive, LetsThrough}
 use Rattle.flow_filter.specs.Readings.{Ruled, Ruling}
@@ -49,18 +49,18 @@ pub record AreStepsBefore (steps : List Step) (number : ℕ) (j : Judged) (earli
 -- The packet has an event in the record of the worker that it is dealt to, on the bucket of its flow's key: there it stands
 -- behind the worker's events of all steps that come before the packet, and no others. The packet passes exactly where at that
 -- place its session is live or the rule lets it through.
-pub record PassesAtPlace (d : Deal) (times : Timeouts) (steps : List Step) (views : Views) (number : ℕ) (j : Judged) (u : Update)
+pub record PassesAtPlace (d : Deal) (steps : List Step) (views : Views) (number : ℕ) (j : Judged) (u : Update)
     (ruling : Ruling) : Type 0 where
   pub e : Event
-  pub its : j.event ≡ Some e
+  pub its : j.asked ≡ Asks u e
   pub stands : HasPlace (sizes_in d.layout (family_of u.key)) (view_in views (family_of u.key))
       (worker_of d number (flow_of_reading j.reading)) e
   pub earlier : List Step
   pub are_earlier : AreStepsBefore steps number j earlier
   pub place : stands.place
-      ≡ length (events_by d times (family_of u.key) (worker_of d number (flow_of_reading j.reading)) 0 earlier)
+      ≡ length (events_by d (family_of u.key) (worker_of d number (flow_of_reading j.reading)) 0 earlier)
   pub home : stands.call.bucket ≡ (home_of d.layout u.key).bucket
-  pub exactly : (passes (verdict_on times j) ≡ true)
+  pub exactly : (passes (verdict_on j) ≡ true)
       ↔ (HoldsLive u (after (opening_at (view_in views (family_of u.key)).known stands.call.bucket)
       (known_at (view_in views (family_of u.key)).known stands.call.bucket) stands.before)
       ⊎ LetsThrough u stands.left ruling)
@@ -70,7 +70,7 @@ abbrev pub PassByRecords : {d : Deal} {times : Timeouts} {policy : PolicyFacts} 
     {verdicts : List Verdict} → AreJudgedBetween d times policy packets removals verdicts → Type 0
 PassByRecords {d = d} {times = times} are = (k : ℕ) (j : Judged) (moment : ℕ) (tuple : TupleFacts) (ruling : Ruling) (u : Update)
     → get_elem? are.judged k ≡ some j → j.reading ≡ Ruled moment tuple ruling → update_of times j.reading ≡ Some u
-    → PassesAtPlace d times are.steps are.views k j u ruling
+    → PassesAtPlace d are.steps are.views k j u ruling
 
 -- however the packets were judged, and whichever sessions were removed between them, each packet of a flow does so
 abbrev pub PassAtPlaces : Deal → Timeouts → PolicyFacts → List PacketFacts → List Verdict → Type 0
@@ -79,9 +79,9 @@ PassAtPlaces d times policy packets verdicts =
 
 -- No two packets have the same call: of two packets that one worker judged, with flows of one family, the call of the one
 -- that comes first stands first in the worker's record.
-abbrev pub HaveOwnCalls : Deal → Timeouts → List Step → Views → Type 0
-HaveOwnCalls d times steps views = (k m : ℕ) (j i : Judged) (u w : Update) (one other : Ruling)
-    → update_of times j.reading ≡ Some u → (p : PassesAtPlace d times steps views k j u one)
-    → (q : PassesAtPlace d times steps views m i w other) → family_of u.key ≡ family_of w.key
+abbrev pub HaveOwnCalls : Deal → List Step → Views → Type 0
+HaveOwnCalls d steps views = (k m : ℕ) (j i : Judged) (u w : Update) (one other : Ruling)
+    → (p : PassesAtPlace d steps views k j u one)
+    → (q : PassesAtPlace d steps views m i w other) → family_of u.key ≡ family_of w.key
     → worker_of d k (flow_of_reading j.reading) ≡ worker_of d m (flow_of_reading i.reading)
     → k < m → p.stands.place < q.stands.place

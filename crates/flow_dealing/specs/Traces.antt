@@ -1,18 +1,18 @@
 -- What one worker did: an item for each packet that was dealt to it.
-use Rattle.std.specs.Prelude.{◌≡◌, ℕ, ◌+◌, ◌==◌, if◌then◌else◌, List, [], ◌∷◌, length, map, Option, Some, option_map, All, slice_get}
+use Rattle.std.specs.Prelude.{◌≡◌, ℕ, ◌+◌, ◌==◌, if◌then◌else◌, List, [], ◌∷◌, length, map, Some, All, slice_get}
 use Rattle.std.specs.List.{AllZip}
 use lib.ListN.{get_elem?}
 use mathlib.Core.Option.{some}
 use Rattle.packet_view.specs.Captures.{PacketFacts}
 use Rattle.packet_view.specs.Frames as frames
 use Rattle.acl_policy.specs.Policies.{PolicyFacts}
+use Rattle.bihash_words.specs.Maps.{Event}
 use Rattle.bihash_rule.specs.Histories.{event_of}
 use Rattle.bihash_rule.specs.declared.view.Call.{Call}
 use Rattle.session_state.specs.declared.timeouts.Timeouts.{Timeouts}
 use Rattle.session_state.specs.declared.verdict.Verdict.{Verdict}
 use Rattle.flow_filter.specs.Readings.{IsReading, IsSeen, Reading}
-use Rattle.flow_filter.specs.Updates.{Update, update_of}
-use Rattle.flow_filter.specs.Judged.{IsAsked, Judged, verdict_on}
+use Rattle.flow_filter.specs.Judged.{Asked, Asks, IsAsked, Judged, Settled, verdict_on}
 use Rattle.flow_filter.specs.OneThread.{Layout, home_of}
 use Rattle.packet_dealing.specs.Dealings.{Deal, flow_of_reading, flow_of_frame, worker_of}
 
@@ -20,16 +20,24 @@ use Rattle.packet_dealing.specs.Dealings.{Deal, flow_of_reading, flow_of_frame, 
 pub record Item : Type 0 where
   pub packet : ℕ
   pub reading : Reading
-  pub call : Option Call
+  pub asked : Asked Call
+
+abbrev pub events_of : Asked Call → Asked Event
+events_of Settled = Settled
+events_of (Asks u c) = Asks u (event_of c)
 
 abbrev pub judged_of : Item → Judged
-judged_of i = record { reading = i.reading; event = option_map event_of i.call }
+judged_of i = record { reading = i.reading; asked = events_of i.asked }
+
+-- the call is one on the bucket of the update's key
+abbrev pub IsCallAt : Layout → Asked Call → Type 0
+IsCallAt l Settled = Unit {0}
+IsCallAt l (Asks u c) = c.bucket ≡ (home_of l u.key).bucket
 
 -- the packet asked once, on the bucket of its flow's key, where it has a flow
 pub record IsItem (l : Layout) (times : Timeouts) (i : Item) : Type 0 where
   pub asked : IsAsked times (judged_of i)
-  pub placed : (u : Update) (c : Call) → update_of times i.reading ≡ Some u → i.call ≡ Some c
-      → c.bucket ≡ (home_of l u.key).bucket
+  pub placed : IsCallAt l i.asked
 
 -- the item is of a packet of this worker, and has its reading
 pub record IsItemOf (d : Deal) (worker : ℕ) (policy : PolicyFacts) (packets : List PacketFacts)
@@ -65,8 +73,8 @@ pub record AreTraces (d : Deal) (times : Timeouts) (policy : PolicyFacts) (packe
   pub each : (w : ℕ) (trace : List Item) → get_elem? traces w ≡ some trace → IsTrace d times w policy packets trace
 
 -- each packet's verdict is at its place
-pub record ArePlaced (times : Timeouts) (packets : List PacketFacts) (traces : List (List Item))
+pub record ArePlaced (packets : List PacketFacts) (traces : List (List Item))
     (verdicts : List Verdict) : Type 0 where
   pub count : length verdicts ≡ length packets
   pub each : (w : ℕ) (trace : List Item) → get_elem? traces w ≡ some trace → (k : ℕ) (i : Item)
-      → get_elem? trace k ≡ some i → get_elem? verdicts i.packet ≡ some (verdict_on times (judged_of i))
+      → get_elem? trace k ≡ some i → get_elem? verdicts i.packet ≡ some (verdict_on (judged_of i))

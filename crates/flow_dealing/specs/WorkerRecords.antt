@@ -1,6 +1,6 @@
 -- What many workers leave: one event for each packet of a flow, in the record of the worker that it was dealt to, and one for
 -- each session that they remove.
-use Rattle.std.specs.Prelude.{◌≡◌, ◌≢◌, ◌≤◌, ◌<◌, ◌*◌, ◌%◌, ◌^◌, ◌-◌, ℕ, ◌+◌, ◌==◌, ◌&&◌, Bool, true, false, count_by, if◌then◌else◌, List, [], ◌∷◌, length, map, Option, Some, None, All}
+use Rattle.std.specs.Prelude.{◌≡◌, ◌≢◌, ◌≤◌, ◌<◌, ◌*◌, ◌%◌, ◌^◌, ◌-◌, ℕ, ◌+◌, ◌==◌, ◌&&◌, Bool, true, false, count_by, if◌then◌else◌, List, [], ◌∷◌, length, map, Some, All}
 use lib.ListN.{get_elem?}
 use mathlib.Core.Option.{some}
 use Rattle.packet_view.specs.Captures.{PacketFacts}
@@ -18,42 +18,39 @@ use Rattle.session_state.specs.declared.verdict.Verdict.{Verdict}
 use Rattle.session_state.specs.declared.verdict.Verdict.TheVariants.{NoPages}
 use Rattle.flow_filter.specs.Ageing.{IsOfExpired, Judges, NeverFall, Removal, Removes, Step, moment_of, packets_in, removals_in, removed_from}
 use Rattle.flow_filter.specs.Readings.{AreReadings}
-use Rattle.flow_filter.specs.Updates.{Update, update_of}
-use Rattle.flow_filter.specs.Judged.{IsAsked, Judged, verdict_on}
+use Rattle.flow_filter.specs.Judged.{Asked, Asks, IsAsked, Judged, Settled, verdict_on}
 use Rattle.flow_filter.specs.OneThread.{HasPages, Layout, bounds_in, family_of, same_family, sizes_in}
 use Rattle.flow_dealing.specs.Views.{Views, view_in}
 use Rattle.packet_dealing.specs.Dealings.{Deal, flow_of_reading, worker_of}
 use Rattle.flow_dealing.specs.Wanted.{HaveWanted}
 
--- What came of an update of this family, an event or a call, stands before the others. An update of which nothing came can't
--- occur where packets are asked (`asked`).
-abbrev pub add_in : {A : Type 0} → Family → Option Update → Option A → List A → List A
-add_in family None this others = others
-add_in family (Some u) None others = others
-add_in family (Some u) (Some this) others = if same_family family (family_of u.key) then this ∷ others else others
+-- what came of an update of this family, an event or a call, stands before the others
+abbrev pub add_in : {A : Type 0} → Family → Asked A → List A → List A
+add_in family Settled others = others
+add_in family (Asks u this) others = if same_family family (family_of u.key) then this ∷ others else others
 
 -- The events of a worker on one family's table, in the order of the steps: those of its packets, whose numbers begin with n,
 -- and its removals.
-unfoldable pub events_by : Deal → Timeouts → Family → ℕ → ℕ → List Step → List Event
-events_by d times family worker n [] = []
-events_by d times family worker n (Judges j ∷ steps) =
+unfoldable pub events_by : Deal → Family → ℕ → ℕ → List Step → List Event
+events_by d family worker n [] = []
+events_by d family worker n (Judges j ∷ steps) =
     if worker_of d n (flow_of_reading j.reading) == worker
-    then add_in family (update_of times j.reading) j.event (events_by d times family worker (n + 1) steps)
-    else events_by d times family worker (n + 1) steps
-events_by d times family worker n (Removes r ∷ steps) =
-    if same_family family r.family && (r.worker == worker) then r.event ∷ events_by d times family worker n steps
-    else events_by d times family worker n steps
+    then add_in family j.asked (events_by d family worker (n + 1) steps)
+    else events_by d family worker (n + 1) steps
+events_by d family worker n (Removes r ∷ steps) =
+    if same_family family r.family && (r.worker == worker) then r.event ∷ events_by d family worker n steps
+    else events_by d family worker n steps
 
 -- The records of one family's callers, all of them: that of each worker has the events of its packets and its removals, in
 -- their order, and no other. The caller that has them is lawful and whole, of a table that began empty. Each call that was
 -- refused for want of a block had wanted it at the map where it stands.
-pub record AreRecorded (d : Deal) (times : Timeouts) (family : Family) (steps : List Step) (v : View) : Type 0 where
+pub record AreRecorded (d : Deal) (family : Family) (steps : List Step) (v : View) : Type 0 where
   pub lawful : IsLawfulCaller (sizes_in d.layout family) v
   pub told : IsToldWhole (sizes_in d.layout family) v
   pub openings : v.known.openings ≡ no_openings
   pub count : length v.records ≡ d.workers
   pub each : (worker : ℕ) (r : Record) → get_elem? v.records worker ≡ some r
-      → map event_of r.calls ≡ events_by d times family worker 0 steps
+      → map event_of r.calls ≡ events_by d family worker 0 steps
   pub wanted : HaveWanted (sizes_in d.layout family) v
 
 -- The packets were judged by workers, one of whom removed each of these sessions between them, which had ended. Each packet
@@ -64,14 +61,14 @@ pub record AreJudgedBetween (d : Deal) (times : Timeouts) (policy : PolicyFacts)
   pub judged : List Judged
   pub read : AreReadings policy packets (map (λ j. j.reading) judged)
   pub asked : All (IsAsked times) judged
-  pub said : verdicts ≡ map (verdict_on times) judged
+  pub said : verdicts ≡ map verdict_on judged
   pub steps : List Step
   pub packets_are : packets_in steps ≡ judged
   pub removals_are : removals_in steps ≡ removals
   pub ended : All (IsOfExpired times) removals
   pub by : All (λ r. r.worker < d.workers) removals
   pub views : Views
-  pub recorded : (family : Family) → AreRecorded d times family steps (view_in views family)
+  pub recorded : (family : Family) → AreRecorded d family steps (view_in views family)
 
 -- the same where no session was removed
 abbrev pub AreJudged : Deal → Timeouts → PolicyFacts → List PacketFacts → List Verdict → Type 0
@@ -82,31 +79,30 @@ abbrev pub AreJudgedBy : Deal → Timeouts → PolicyFacts → List PacketFacts 
 AreJudgedBy d times policy packets verdicts views = (run : AreJudged d times policy packets verdicts) × (run.views ≡ views)
 
 -- a packet of this family's flows
-abbrev pub is_in : Family → Option Update → Bool
-is_in family None = false
-is_in family (Some u) = same_family family (family_of u.key)
+abbrev pub is_in : Family → Asked Event → Bool
+is_in family Settled = false
+is_in family (Asks u e) = same_family family (family_of u.key)
 
 -- how many packets are of this family's flows
-abbrev pub keyed : Timeouts → Family → List Judged → ℕ
-keyed times family js = count_by (λ j. is_in family (update_of times j.reading)) js
+abbrev pub keyed : Family → List Judged → ℕ
+keyed family js = count_by (λ j. is_in family j.asked) js
 
 -- so few packets of the family's flows that its pages can't run out, however blocks grow
-abbrev pub AreFew : Layout → Timeouts → Family → List Judged → Type 0
-AreFew l times family js = keyed times family js * 2 ^ (sizes_in l family).max_log2 ≤ (sizes_in l family).pages
+abbrev pub AreFew : Layout → Family → List Judged → Type 0
+AreFew l family js = keyed family js * 2 ^ (sizes_in l family).max_log2 ≤ (sizes_in l family).pages
 
 -- how many removals are of this family's table
 abbrev pub removed_of : Family → List Removal → ℕ
 removed_of family removals = count_by (λ r. same_family family r.family) removals
 
 -- the same where sessions are removed too
-abbrev pub AreFewBetween : Layout → Timeouts → Family → List Removal → List Judged → Type 0
-AreFewBetween l times family removals js =
-    (keyed times family js + removed_of family removals) * 2 ^ (sizes_in l family).max_log2 ≤ (sizes_in l family).pages
+abbrev pub AreFewBetween : Layout → Family → List Removal → List Judged → Type 0
+AreFewBetween l family removals js =
+    (keyed family js + removed_of family removals) * 2 ^ (sizes_in l family).max_log2 ≤ (sizes_in l family).pages
 
 -- a packet of this family's flows was not refused for want of pages, and its verdict doesn't say so
-abbrev pub HasPagesIn : Timeouts → Family → Judged → Type 0
-HasPagesIn times family j =
-    is_in family (update_of times j.reading) ≡ true → HasPages j × (verdict_on times j ≢ NoPages)
+abbrev pub HasPagesIn : Family → Judged → Type 0
+HasPagesIn family j = is_in family j.asked ≡ true → HasPages j × (verdict_on j ≢ NoPages)
 
 -- no verdict says no-pages
 abbrev pub HavePages : List Verdict → Type 0

@@ -23,8 +23,8 @@ pub fn deeds_judge_each_packet()
     ensures { (d : Deal) (times : Timeouts) (ages : Bool) (policy : PolicyFacts) (packets : List PacketFacts)
         (all : List (List Deed)) (v : Views) (verdicts : List Verdict)
         → 0 < d.workers → AreAllDeeds d times ages policy packets all
-        → ((family : Family) → HaveDone d times family all (view_in v family))
-        → ArePlaced times packets (map items_in all) verdicts
+        → ((family : Family) → HaveDone d family all (view_in v family))
+        → ArePlaced packets (map items_in all) verdicts
         → AreJudgedAgeing d times ages policy packets verdicts v }
 {}
 
@@ -59,13 +59,13 @@ pub fn ageing_workers_give_one_report()
 pub fn few_packets_have_pages()
     ensures one_family { (d : Deal) (times : Timeouts) (policy : PolicyFacts) (packets : List PacketFacts)
         (verdicts : List Verdict) (are : AreJudged d times policy packets verdicts) (family : Family)
-        → AreFew d.layout times family are.judged → All (HasPagesIn times family) are.judged }
+        → AreFew d.layout family are.judged → All (HasPagesIn family) are.judged }
     ensures both_families { (d : Deal) (times : Timeouts) (policy : PolicyFacts) (packets : List PacketFacts)
         (verdicts : List Verdict) (are : AreJudged d times policy packets verdicts)
-        → ((family : Family) → AreFew d.layout times family are.judged) → HavePages verdicts }
+        → ((family : Family) → AreFew d.layout family are.judged) → HavePages verdicts }
     ensures between { (d : Deal) (times : Timeouts) (policy : PolicyFacts) (packets : List PacketFacts) (removals : List Removal)
         (verdicts : List Verdict) (are : AreJudgedBetween d times policy packets removals verdicts) (family : Family)
-        → AreFewBetween d.layout times family removals are.judged → All (HasPagesIn times family) are.judged }
+        → AreFewBetween d.layout family removals are.judged → All (HasPagesIn family) are.judged }
 {}
 
 /// The main promise. Whatever packets are dealt by, whichever sessions are removed, and whatever verdicts say: each packet
@@ -75,5 +75,5 @@ pub fn few_packets_have_pages()
 pub fn packets_pass_at_their_places()
     ensures places { (d : Deal) (times : Timeouts) (policy : PolicyFacts) (packets : List PacketFacts)
         (verdicts : List Verdict) → PassAtPlaces d times policy packets verdicts }
-    ensures own { (d : Deal) (times : Timeouts) (steps : List Step) (views : Views) → HaveOwnCalls d times steps views }
+    ensures own { (d : Deal) (steps : List Step) (views : Views) → HaveOwnCalls d steps views }
 {}

@@ -1,3 +1,4 @@
+pub mod AskedLemmas
 pub mod HomeLemmas
 pub mod OneThreadLemmas
 pub mod PassingLemmas

@@ -14,8 +14,9 @@ use Rattle.acl_policy.specs.Policies.{PolicyFacts}
 use Rattle.session_state.specs.declared.verdict.Verdict.{Verdict}
 use Rattle.flow_filter.specs.Readings.{AreReadings, Reading}
 use Rattle.flow_filter.specs.Updates.{Update, update_of, words_of}
-use Rattle.flow_filter.specs.Judged.{AreAsked, IsAsked, IsAskedBy, IsEventOf, Judged, expired_for, readings_of, verdicts_on}
+use Rattle.flow_filter.specs.Judged.{AreAsked, Asked, Asks, IsAsked, IsAskedBy, IsEventOf, Judged, Settled, WhereAsked, expired_for, readings_of, verdicts_on}
 use Rattle.flow_filter.specs.OneThread.{AreVerdicts, HasPages, Home, IsHome, IsOneThread, Layout, nothing, add_event, bounds_in, events_at, home_of, same_home}
+use Rattle.flow_filter.proofs.AskedLemmas.{asks_nothing, asks_once, of_asked}
 use Rattle.flow_filter.proofs.ReadingLemmas.{one_readings, some_readings}
 use Rattle.flow_filter.proofs.HomeLemmas.{homes_are_one, is_home, same_as_itself}
 
@@ -32,7 +33,7 @@ pub record IsThread (l : Layout) (times : Timeouts) (maps : Home → Pairs) (cou
     (js : List Judged) : Type 0 where
   pub asked : AreAsked times js
   pub runs : (home : Home) → IsHome l home
-      → Runs (bounds_in l home.family) (maps home) (counts home) (events_at l times home js)
+      → Runs (bounds_in l home.family) (maps home) (counts home) (events_at l home js)
   pub paged : All HasPages js
 
 -- what the buckets hold, and how often they changed, after an event of the bucket `at`
@@ -79,39 +80,36 @@ abbrev pub Thread : Layout → Timeouts → (Home → Pairs) → (Home → ℕ) 
 Thread l times maps counts readings = (js : List Judged) × (readings_of js ≡ readings) × IsThread l times maps counts js
 
 -- the events on a bucket begin with the packet's where its key is of it
-pub events_are : (l : Layout) (times : Timeouts) (home : Home) (u : Option Update) (e : Option Event) (j : Judged)
-    (js : List Judged) → update_of times j.reading ≡ u → j.event ≡ e
-    → events_at l times home (j ∷ js) ≡ add_event l home u e (events_at l times home js)
-events_are l times home u e j js is at = ap₂ (λ u e. add_event l home u e (events_at l times home js)) is at
+pub events_are : (l : Layout) (home : Home) (a : Asked Event) (j : Judged) (js : List Judged) → j.asked ≡ a
+    → events_at l home (j ∷ js) ≡ add_event l home a (events_at l home js)
+events_are l home a j js at = ap (λ a. add_event l home a (events_at l home js)) at
 
 -- a packet without an update may stand in front of the others
 pub thread_unasked : (l : Layout) (times : Timeouts) (maps : Home → Pairs) (counts : Home → ℕ) (j : Judged)
-    (js : List Judged) → update_of times j.reading ≡ None → j.event ≡ None → IsThread l times maps counts js
+    (js : List Judged) → update_of times j.reading ≡ None → j.asked ≡ Settled → IsThread l times maps counts js
     → IsThread l times maps counts (j ∷ js)
 thread_unasked l times maps counts j js none at thread = record {
-  asked = All-cons (IsAsked times) j js (subst (λ u. IsAskedBy u j.event) (sym none) at) thread.asked;
+  asked = All-cons (IsAsked times) j js (subst (IsAskedBy (update_of times j.reading)) (sym at) none) thread.asked;
   runs = λ home is.
-      subst (Runs (bounds_in l home.family) (maps home) (counts home)) (sym (events_are l times home None None j js none at))
+      subst (Runs (bounds_in l home.family) (maps home) (counts home)) (sym (events_are l home Settled j js at))
       (thread.runs home is);
-  paged = All-cons HasPages j js (λ e is. let f : ⊥ = cc in absurd f) thread.paged;
+  paged = All-cons HasPages j js (subst (λ a. WhereAsked a (λ e. IsNoRefusal e.reply)) (sym at) tt) thread.paged;
 }
 
 -- so may a packet with this update and this event
 pub thread_asked : (l : Layout) (times : Timeouts) (maps : Home → Pairs) (counts : Home → ℕ) (j : Judged)
-    (js : List Judged) (u : Update) (e : Event) (n : Pairs) → update_of times j.reading ≡ Some u → j.event ≡ Some e
+    (js : List Judged) (u : Update) (e : Event) (n : Pairs) → update_of times j.reading ≡ Some u → j.asked ≡ Asks u e
     → IsEventOf u e → IsNoRefusal e.reply
     → IsEvent (bounds_in l (home_of l u.key).family) (maps (home_of l u.key)) (counts (home_of l u.key)) e n
     → IsThread l times (maps_after maps (home_of l u.key) n) (counts_after counts (home_of l u.key) e) js
     → IsThread l times maps counts (j ∷ js)
 thread_asked l times maps counts j js u e n is at of paged step thread = record {
-  asked = All-cons (IsAsked times) j js (subst (λ u. IsAskedBy u j.event) (sym is) (e, at, of)) thread.asked;
+  asked = All-cons (IsAsked times) j js (subst (IsAskedBy (update_of times j.reading)) (sym at) (is, of)) thread.asked;
   runs = λ home in_table.
       subst (Runs (bounds_in l home.family) (maps home) (counts home))
-      (sym (events_are l times home (Some u) (Some e) j js is at))
-      (before_run l home (home_of l u.key) maps counts n e (events_at l times home js) step (thread.runs home in_table));
-  paged =
-      All-cons HasPages j js
-      (λ f same. subst (λ (f : Event). IsNoRefusal f.reply) (let s : e ≡ f = cc in s) paged) thread.paged;
+      (sym (events_are l home (Asks u e) j js at))
+      (before_run l home (home_of l u.key) maps counts n e (events_at l home js) step (thread.runs home in_table));
+  paged = All-cons HasPages j js (subst (λ a. WhereAsked a (λ e. IsNoRefusal e.reply)) (sym at) paged) thread.paged;
 }
 
 one_more : (l : Layout) (times : Timeouts) (maps : Home → Pairs) (counts : Home → ℕ) (reading : Reading)
@@ -119,7 +117,7 @@ one_more : (l : Layout) (times : Timeouts) (maps : Home → Pairs) (counts : Hom
     → (u : Option Update) → update_of times reading ≡ u → Thread l times maps counts (reading ∷ readings)
 one_more l times maps counts reading readings rest None none =
     let (js, same, thread) = rest maps counts in
-    let j : Judged = record { reading = reading; event = None } in
+    let j : Judged = record { reading = reading; asked = Settled } in
     (j ∷ js, ap (λ rs. reading ∷ rs) same, thread_unasked l times maps counts j js none refl thread)
 one_more l times maps counts reading readings rest (Some u) is =
     let at = home_of l u.key in
@@ -134,7 +132,7 @@ one_more l times maps counts reading readings rest (Some u) is =
       recycling = recycling;
     } in
     let (js, same, thread) = rest (maps_after maps at n) (counts_after counts at e) in
-    let j : Judged = record { reading = reading; event = Some e } in (
+    let j : Judged = record { reading = reading; asked = Asks u e } in (
       j ∷ js,
       ap (λ rs. reading ∷ rs) same,
       thread_asked l times maps counts j js u e n is refl (record { key = refl; change = refl; expiry = bears }) paged step
@@ -161,7 +159,7 @@ pub record IsFirst (l : Layout) (times : Timeouts) (maps : Home → Pairs) (coun
     (js : List Judged) : Type 0 where
   pub event : Event
   pub left : Pairs
-  pub is : j.event ≡ Some event
+  pub is : j.asked ≡ Asks u event
   pub of : IsEventOf u event
   pub paged : IsNoRefusal event.reply
   pub step : IsEvent (bounds_in l (home_of l u.key).family) (maps (home_of l u.key))
@@ -173,14 +171,14 @@ pub first_asked : (l : Layout) (times : Timeouts) (maps : Home → Pairs) (count
     (js : List Judged)
     → update_of times j.reading ≡ Some u → IsThread l times maps counts (j ∷ js) → IsFirst l times maps counts u j js
 first_asked l times maps counts u j js is thread =
-    let (e, at, of) : IsAskedBy (Some u) j.event =
-    subst (λ u. IsAskedBy u j.event) is (All-head (IsAsked times) j js thread.asked) in
+    let (e, at, of) =
+    asks_once (update_of times j.reading) j.asked (All-head (IsAsked times) j js thread.asked) u is in
     let home : Home = home_of l u.key in
-    let events : Home → List Event = λ h. events_at l times h js in
+    let events : Home → List Event = λ h. events_at l h js in
     let runs : (h : Home) → IsHome l h
-    → Runs (bounds_in l h.family) (maps h) (counts h) (add_event l h (Some u) (Some e) (events h)) =
+    → Runs (bounds_in l h.family) (maps h) (counts h) (add_event l h (Asks u e) (events h)) =
     λ h in_table. subst (Runs (bounds_in l h.family) (maps h) (counts h))
-    (events_are l times h (Some u) (Some e) j js is at) (thread.runs h in_table) in
+    (events_are l h (Asks u e) j js at) (thread.runs h in_table) in
     let (last, writes, (n, step, rest)) : Runs (bounds_in l home.family) (maps home) (counts home) (e ∷ events home) =
     subst (λ t. Runs (bounds_in l home.family) (maps home) (counts home) (if t then e ∷ events home else events home))
     (same_as_itself home) (runs home (is_home l u.key)) in
@@ -189,7 +187,7 @@ first_asked l times maps counts u j js is thread =
       left = n;
       is = at;
       of = of;
-      paged = All-head HasPages j js thread.paged e at;
+      paged = of_asked (λ e. IsNoRefusal e.reply) j.asked u e (All-head HasPages j js thread.paged) at;
       step = step;
       behind = record {
         asked = All-tail (IsAsked times) j js thread.asked;
@@ -201,21 +199,21 @@ first_asked l times maps counts u j js is thread =
 pub first_unasked : (l : Layout) (times : Timeouts) (maps : Home → Pairs) (counts : Home → ℕ) (j : Judged)
     (js : List Judged)
     → update_of times j.reading ≡ None → IsThread l times maps counts (j ∷ js)
-    → (j.event ≡ None) × IsThread l times maps counts js
+    → (j.asked ≡ Settled) × IsThread l times maps counts js
 first_unasked l times maps counts j js none thread =
-    let at : j.event ≡ None = subst (λ u. IsAskedBy u j.event) none (All-head (IsAsked times) j js thread.asked) in (
+    let at = asks_nothing (update_of times j.reading) j.asked (All-head (IsAsked times) j js thread.asked) none in (
       at,
       record {
         asked = All-tail (IsAsked times) j js thread.asked;
         runs = λ h in_table.
-            subst (Runs (bounds_in l h.family) (maps h) (counts h)) (events_are l times h None None j js none at)
+            subst (Runs (bounds_in l h.family) (maps h) (counts h)) (events_are l h Settled j js at)
             (thread.runs h in_table);
         paged = All-tail HasPages j js thread.paged;
       },
     )
 
-same_judged : (j k : Judged) → j.reading ≡ k.reading → j.event ≡ k.event → j ≡ k
-same_judged j k readings events = ap₂ (λ r e. record { reading = r; event = e }) readings events
+same_judged : (j k : Judged) → j.reading ≡ k.reading → j.asked ≡ k.asked → j ≡ k
+same_judged j k readings asked = ap₂ (λ r a. record { reading = r; asked = a }) readings asked
 
 -- where both lists of the packets after are one, both lists are
 one_by_update : (l : Layout) (times : Timeouts) (maps : Home → Pairs) (counts : Home → ℕ) (j k : Judged)
@@ -239,7 +237,7 @@ one_by_update l times maps counts j k js ks same (Some u) is rest one two =
     subst (λ n. IsThread l times (maps_after maps home n) (counts_after counts home a.event) ks) (sym both.1)
     (subst (λ e. IsThread l times (maps_after maps home b.left) (counts_after counts home e) ks)
     (sym both.0) b.behind) in
-    ap₂ (λ x xs. x ∷ xs) (same_judged j k same (a.is ∙ ap Some both.0 ∙ sym b.is))
+    ap₂ (λ x xs. x ∷ xs) (same_judged j k same (a.is ∙ ap (Asks u) both.0 ∙ sym b.is))
     (rest (maps_after maps home a.left) (counts_after counts home a.event) a.behind behind)
 
 -- and in one way
@@ -277,7 +275,7 @@ pub some_verdicts : (l : Layout) (times : Timeouts) (policy : PolicyFacts) (pack
 some_verdicts l times policy packets =
     let (readings, are) = some_readings policy packets in
     let (js, same, is) = some_judged l times nothing readings in (
-      verdicts_on times js,
+      verdicts_on js,
       record {
         judged = js;
         read = subst (AreReadings policy packets) (sym same) are;
@@ -293,4 +291,4 @@ one_verdicts l times policy packets a b one two =
     let same = one_judged l times nothing one.judged two.judged
     (one_readings policy packets (readings_of one.judged) (readings_of two.judged) one.read two.read) one.one_thread
     two.one_thread in
-    one.said ∙ ap (verdicts_on times) same ∙ sym two.said
+    one.said ∙ ap verdicts_on same ∙ sym two.said

@@ -1,5 +1,5 @@
 -- A packet goes through exactly where a rule lets it through or its session is live.
-use Rattle.std.proofs.Common.{◌≡◌, ◌⊎◌, ◌∙◌, ◌+◌, ℕ, Bool, true, false, Option, Some, None, ap, sym, refl, subst, inl, inr}
+use Rattle.std.proofs.Common.{◌≡◌, ◌⊎◌, ◌∙◌, ◌+◌, ℕ, Bool, true, false, Option, Some, None, ap, ap₂, sym, refl, subst, inl, inr}
 use Rattle.std.specs.FinMap.{get}
 use Rattle.std.specs.Prelude.{◌↔◌, if◌then◌else◌, is_some, option_map}
 use Rattle.std.proofs.lemmas.Bool.{and_parts}
@@ -20,10 +20,11 @@ use Rattle.session_state.specs.declared.flow.Flow.{Flow}
 use Rattle.session_state.specs.Flows.{flow_of}
 use Rattle.session_state.specs.declared.verdict.Verdict.{Verdict}
 use Rattle.session_state.specs.declared.verdict.Verdict.TheVariants as verdict
-use Rattle.flow_filter.specs.Judged.{IsEventOf, verdict_by_event, verdict_with}
+use Rattle.flow_filter.specs.Judged.{Asks, IsAsked, IsEventOf, Judged, verdict_on, verdict_with}
 use Rattle.flow_filter.specs.Passing.{HoldsLive, HoldsStarted, IsPermitting, LetsThrough}
 use Rattle.flow_filter.specs.Readings.{Ruled, Ruling}
 use Rattle.flow_filter.specs.Updates.{Update, reflects, update_in, update_of, words_of}
+use Rattle.flow_filter.proofs.AskedLemmas.{asks_nothing}
 use Rattle.session_state.specs.Passes.{passes}
 use Rattle.flow_filter.specs.Verdicts.{verdict_entered, verdict_of, verdict_of_rules, verdict_reflected}
 
@@ -127,16 +128,20 @@ pass_by_event u ruling b m n w e of step rules = go (is_live_for u.patch e.found
 pub pass_by_reading : (times : Timeouts) (moment : ℕ) (tuple : TupleFacts) (ruling : Ruling) (u : Update) (b : Bounds)
     (m n : Pairs)
     (w : ℕ) (e : Event) → update_of times (Ruled moment tuple ruling) ≡ Some u → IsEventOf u e → IsEvent b m w e n
-    → (passes (verdict_with times (Ruled moment tuple ruling) (Some e)) ≡ true)
-    ↔ (HoldsLive u m ⊎ LetsThrough u n ruling)
+    → (passes (verdict_with (Ruled moment tuple ruling) (Asks u e)) ≡ true) ↔ (HoldsLive u m ⊎ LetsThrough u n ruling)
 pass_by_reading times moment tuple ruling u b m n w e is of step =
-    subst (λ v. (passes (verdict_by_event ruling v (Some e)) ≡ true) ↔ (HoldsLive u m ⊎ LetsThrough u n ruling))
-    (sym is)
-    (pass_by_event u ruling b m n w e of step (reflects_by_rule times moment tuple ruling u is))
+    pass_by_event u ruling b m n w e of step (reflects_by_rule times moment tuple ruling u is)
 
--- a packet without a flow goes through exactly where the rule permits
-pub pass_by_rules : (times : Timeouts) (moment : ℕ) (tuple : TupleFacts) (ruling : Ruling) (event : Option Event)
-    → update_of times (Ruled moment tuple ruling) ≡ None
-    → (passes (verdict_with times (Ruled moment tuple ruling) event) ≡ true) ↔ IsPermitting ruling
-pass_by_rules times moment tuple ruling event none =
-    subst (λ v. (passes (verdict_by_event ruling v event) ≡ true) ↔ IsPermitting ruling) (sym none) (rules_pass ruling)
+-- what the rules alone say of a packet without a flow
+pub said_by_rules : (times : Timeouts) (moment : ℕ) (tuple : TupleFacts) (ruling : Ruling) (j : Judged) → IsAsked times j
+    → j.reading ≡ Ruled moment tuple ruling → update_of times j.reading ≡ None → verdict_on j ≡ verdict_of_rules ruling
+said_by_rules times moment tuple ruling j asked reads none =
+    ap₂ verdict_with reads (asks_nothing (update_of times j.reading) j.asked asked none)
+
+-- it goes through exactly where the rule permits
+pub pass_by_rules : (times : Timeouts) (moment : ℕ) (tuple : TupleFacts) (ruling : Ruling) (j : Judged) → IsAsked times j
+    → j.reading ≡ Ruled moment tuple ruling → update_of times j.reading ≡ None
+    → (passes (verdict_on j) ≡ true) ↔ IsPermitting ruling
+pass_by_rules times moment tuple ruling j asked reads none =
+    subst (λ v. (passes v ≡ true) ↔ IsPermitting ruling) (sym (said_by_rules times moment tuple ruling j asked reads none))
+    (rules_pass ruling)

@@ -1,6 +1,5 @@
 -- The one-thread filter that ages: between packets, sessions that have ended are removed (this project's profile).
 use Rattle.std.specs.Prelude.{◌≡◌, ◌≢◌, ◌<◌, ◌≤◌, ◌^◌, ℕ, true, if◌then◌else◌, List, [], ◌∷◌, Option, Some, None, All, map}
-use Rattle.std.specs.Option.{ForSome}
 use Rattle.bihash_words.specs.Maps.{Event, Pairs}
 use Rattle.bihash_words.specs.Runs.{IsRun}
 use Rattle.bihash_words.specs.declared.patch.Change.TheVariants.{Remove}
@@ -10,10 +9,9 @@ use Rattle.bihash_words.specs.Sizes.{bucket_of}
 use Rattle.packet_view.specs.declared.tuple.Family.{Family}
 use Rattle.session_state.specs.declared.timeouts.Timeouts.{Timeouts}
 use Rattle.session_state.specs.Sessions.{is_expired_at}
-use Rattle.flow_filter.specs.Judged.{IsAsked, Judged}
+use Rattle.flow_filter.specs.Judged.{IsAsked, Judged, WhereAsked}
 use Rattle.flow_filter.specs.OneThread.{HasPages, Home, IsHome, Layout, add_event, bounds_in, same_home, sizes_in}
 use Rattle.flow_filter.specs.Readings.{Framed, Reading, Ruled}
-use Rattle.flow_filter.specs.Updates.{update_of}
 
 -- a removal between packets: the worker that makes it, its moment, the family of its table, and the event there
 pub record Removal : Type 0 where
@@ -59,11 +57,11 @@ removals_in (Judges j ∷ steps) = removals_in steps
 removals_in (Removes r ∷ steps) = r ∷ removals_in steps
 
 -- the events on one bucket, in the order of the steps
-abbrev pub steps_at : Layout → Timeouts → Home → List Step → List Event
-steps_at l times home [] = []
-steps_at l times home (Judges j ∷ steps) = add_event l home (update_of times j.reading) j.event (steps_at l times home steps)
-steps_at l times home (Removes r ∷ steps) =
-    if same_home home (removed_from l r) then r.event ∷ steps_at l times home steps else steps_at l times home steps
+abbrev pub steps_at : Layout → Home → List Step → List Event
+steps_at l home [] = []
+steps_at l home (Judges j ∷ steps) = add_event l home j.asked (steps_at l home steps)
+steps_at l home (Removes r ∷ steps) =
+    if same_home home (removed_from l r) then r.event ∷ steps_at l home steps else steps_at l home steps
 
 -- when a step was: a packet that its frame alone gives a verdict has no moment
 abbrev pub moment_of_reading : Reading → Option ℕ
@@ -85,7 +83,7 @@ NeverFall least (Some moment ∷ moments) = (least ≤ moment) × NeverFall mome
 pub record IsAgedThread (l : Layout) (times : Timeouts) (opening : Home → Pairs) (steps : List Step) : Type 0 where
   pub right : All (IsRightStep times) steps
   pub runs : (home : Home) → IsHome l home → (last : Pairs) × (writes : ℕ)
-      × IsRun (bounds_in l home.family) (opening home) 0 (steps_at l times home steps) last writes
+      × IsRun (bounds_in l home.family) (opening home) 0 (steps_at l home steps) last writes
   pub in_time : NeverFall 0 (map moment_of steps)
 
 -- the packet's bucket was not worn
@@ -93,4 +91,4 @@ abbrev pub IsNotWorn : Reply → Type 0
 IsNotWorn reply = (found : Option ℕ) → reply ≢ Worn found
 
 abbrev pub IsUnworn : Judged → Type 0
-IsUnworn j = ForSome j.event (λ e. IsNotWorn e.reply)
+IsUnworn j = WhereAsked j.asked (λ e. IsNotWorn e.reply)

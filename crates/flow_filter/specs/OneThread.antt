@@ -1,6 +1,5 @@
 -- The one-thread filter: what becomes of packets that are judged one after the other (this project's profile).
-use Rattle.std.specs.Prelude.{◌≡◌, ◌<◌, ℕ, ◌^◌, ◌==◌, Bool, true, false, ◌&&◌, if◌then◌else◌, List, [], ◌∷◌, Option, Some, None, All}
-use Rattle.std.specs.Option.{ForSome}
+use Rattle.std.specs.Prelude.{◌≡◌, ◌<◌, ℕ, ◌^◌, ◌==◌, Bool, true, false, ◌&&◌, if◌then◌else◌, List, [], ◌∷◌, All}
 use Rattle.std.specs.FinMap.{empty}
 use Rattle.packet_view.specs.Captures.{PacketFacts}
 use Rattle.packet_view.specs.declared.tuple.Family.{Family}
@@ -16,8 +15,8 @@ use Rattle.session_state.specs.declared.flow.FlowKey.TheVariants.{Four, Six}
 use Rattle.session_state.specs.declared.timeouts.Timeouts.{Timeouts}
 use Rattle.session_state.specs.declared.verdict.Verdict.{Verdict}
 use Rattle.flow_filter.specs.Readings.{AreReadings}
-use Rattle.flow_filter.specs.Updates.{Update, update_of, words_of}
-use Rattle.flow_filter.specs.Judged.{AreAsked, Judged, readings_of, verdicts_on}
+use Rattle.flow_filter.specs.Updates.{words_of}
+use Rattle.flow_filter.specs.Judged.{AreAsked, Asked, Asks, Judged, Settled, WhereAsked, readings_of, verdicts_on}
 
 -- the sizes of the tables of both families
 pub record Layout : Type 0 where
@@ -65,28 +64,26 @@ same_family V6 V6 = true
 abbrev pub same_home : Home → Home → Bool
 same_home one other = same_family one.family other.family && (one.bucket == other.bucket)
 
--- A packet's event stands before the others where its key is of this bucket.
--- An update without an event can't occur where packets are asked (AreAsked).
-abbrev pub add_event : Layout → Home → Option Update → Option Event → List Event → List Event
-add_event l home None event events = events
-add_event l home (Some u) None events = events
-add_event l home (Some u) (Some e) events = if same_home home (home_of l u.key) then e ∷ events else events
+-- a packet's event stands before the others where its key is of this bucket
+abbrev pub add_event : Layout → Home → Asked Event → List Event → List Event
+add_event l home Settled events = events
+add_event l home (Asks u e) events = if same_home home (home_of l u.key) then e ∷ events else events
 
 -- the events on one bucket, in the order of the packets
-abbrev pub events_at : Layout → Timeouts → Home → List Judged → List Event
-events_at l times home [] = []
-events_at l times home (j ∷ js) = add_event l home (update_of times j.reading) j.event (events_at l times home js)
+abbrev pub events_at : Layout → Home → List Judged → List Event
+events_at l home [] = []
+events_at l home (j ∷ js) = add_event l home j.asked (events_at l home js)
 
 -- the packet was not refused for want of pages
 abbrev pub HasPages : Judged → Type 0
-HasPages j = ForSome j.event (λ e. IsNoRefusal e.reply)
+HasPages j = WhereAsked j.asked (λ e. IsNoRefusal e.reply)
 
 -- The packets are judged one after the other: each asks once, the events on each bucket are a run of one bounded map,
 -- and pages never run out. The buckets hold these pairs at first.
 pub record IsOneThread (l : Layout) (times : Timeouts) (opening : Home → Pairs) (js : List Judged) : Type 0 where
   pub asked : AreAsked times js
   pub runs : (home : Home) → IsHome l home → (last : Pairs) × (writes : ℕ)
-      × IsRun (bounds_in l home.family) (opening home) 0 (events_at l times home js) last writes
+      × IsRun (bounds_in l home.family) (opening home) 0 (events_at l home js) last writes
   pub paged : All HasPages js
 
 -- no bucket holds anything
@@ -99,4 +96,4 @@ pub record AreVerdicts (l : Layout) (times : Timeouts) (policy : PolicyFacts) (p
   pub judged : List Judged
   pub read : AreReadings policy packets (readings_of judged)
   pub one_thread : IsOneThread l times nothing judged
-  pub said : verdicts ≡ verdicts_on times judged
+  pub said : verdicts ≡ verdicts_on judged

@@ -7,7 +7,6 @@ use Rattle.std.specs.declared.cmp.Ordering.TheVariants.{Greater}
 use Rattle.acl_policy.specs.declared.rule.Action.TheVariants.{Deny, Permit, Reflect}
 use Rattle.bihash_words.specs.Maps.{Bounds, Pairs, most_pairs}
 use Rattle.bihash_words.specs.Runs.{IsRun}
-use Rattle.session_state.specs.declared.timeouts.Timeouts.{Timeouts}
 use Rattle.session_state.specs.Decisions.{IsLiveFor, is_live_for, started_session}
 use Rattle.session_state.specs.Sessions.{SessionFacts, session_word}
 use Rattle.flow_filter.specs.Judged.{Judged}
@@ -39,9 +38,9 @@ LetsThrough u m (Some (i, Permit)) = Unit {0}
 LetsThrough u m (Some (i, Reflect)) = u.patch.reflects ≡ true → HoldsStarted u m
 
 -- packets that are judged one after the other leave this in a bucket that held `opening`
-abbrev pub Leave : Layout → Timeouts → (Home → Pairs) → List Judged → Home → Pairs → Type 0
-Leave l times opening js home m =
-    (writes : ℕ) × IsRun (bounds_in l home.family) (opening home) 0 (events_at l times home js) m writes
+abbrev pub Leave : Layout → (Home → Pairs) → List Judged → Home → Pairs → Type 0
+Leave l opening js home m =
+    (writes : ℕ) × IsRun (bounds_in l home.family) (opening home) 0 (events_at l home js) m writes
 
 -- The packet would start a session, and there is no room for it: its bucket may still change, holds none of this flow,
 -- has its most pairs, and each word there is a session that is live at the packet's moment.

@@ -77,24 +77,24 @@ continues_learned z v w b learned = record {
 abbrev IsIn : Family → Aged → Type 0
 IsIn family a = a.family ≡ family
 
-calls_own : (times : Timeouts) (family : Family) → same_family family family ≡ true → (aged : List Aged)
-    → All (IsIn family) aged → calls_by times family (map deed.Ages aged) ≡ map (λ a. a.call) aged
-calls_own times family own [] all = refl
-calls_own times family own (a ∷ aged) all =
-    let rest = calls_own times family own aged (All-tail (IsIn family) a aged all) in
-    ap (λ f. if same_family family f then a.call ∷ calls_by times family (map deed.Ages aged) else calls_by times family (map deed.Ages aged))
+calls_own : (family : Family) → same_family family family ≡ true → (aged : List Aged)
+    → All (IsIn family) aged → calls_by family (map deed.Ages aged) ≡ map (λ a. a.call) aged
+calls_own family own [] all = refl
+calls_own family own (a ∷ aged) all =
+    let rest = calls_own family own aged (All-tail (IsIn family) a aged all) in
+    ap (λ f. if same_family family f then a.call ∷ calls_by family (map deed.Ages aged) else calls_by family (map deed.Ages aged))
     (All-head (IsIn family) a aged all)
-    ∙ (ap (λ t. if t then a.call ∷ calls_by times family (map deed.Ages aged) else calls_by times family (map deed.Ages aged)) own
+    ∙ (ap (λ t. if t then a.call ∷ calls_by family (map deed.Ages aged) else calls_by family (map deed.Ages aged)) own
     ∙ ap (λ cs. a.call ∷ cs) rest)
 
-calls_other : (times : Timeouts) (family other : Family) → same_family other family ≡ false → (aged : List Aged)
-    → All (IsIn family) aged → calls_by times other (map deed.Ages aged) ≡ []
-calls_other times family other apart [] all = refl
-calls_other times family other apart (a ∷ aged) all =
-    let rest = calls_other times family other apart aged (All-tail (IsIn family) a aged all) in
-    ap (λ f. if same_family other f then a.call ∷ calls_by times other (map deed.Ages aged) else calls_by times other (map deed.Ages aged))
+calls_other : (family other : Family) → same_family other family ≡ false → (aged : List Aged)
+    → All (IsIn family) aged → calls_by other (map deed.Ages aged) ≡ []
+calls_other family other apart [] all = refl
+calls_other family other apart (a ∷ aged) all =
+    let rest = calls_other family other apart aged (All-tail (IsIn family) a aged all) in
+    ap (λ f. if same_family other f then a.call ∷ calls_by other (map deed.Ages aged) else calls_by other (map deed.Ages aged))
     (All-head (IsIn family) a aged all)
-    ∙ (ap (λ t. if t then a.call ∷ calls_by times other (map deed.Ages aged) else calls_by times other (map deed.Ages aged)) apart
+    ∙ (ap (λ t. if t then a.call ∷ calls_by other (map deed.Ages aged) else calls_by other (map deed.Ages aged)) apart
     ∙ rest)
 
 no_items : (aged : List Aged) → items_in (map deed.Ages aged) ≡ []
@@ -202,8 +202,8 @@ module _ (run : RunFacts) (ages : run.ages ≡ true) (w at : ℕ) (packet : Pack
   -- the worker's deeds, with these removals behind them
   module _ (v x y : Views) (verdicts : List Verdict) (old : IsWorkUntil run w at v x verdicts) where
     with_aged : (aged : List Aged) → All IsRemoval aged → All (IsBehind at) aged
-        → RecordContinues v.four y.four (calls_by run.times V4 (old.deeds ++ map deed.Ages aged))
-        → RecordContinues v.six y.six (calls_by run.times V6 (old.deeds ++ map deed.Ages aged))
+        → RecordContinues v.four y.four (calls_by V4 (old.deeds ++ map deed.Ages aged))
+        → RecordContinues v.six y.six (calls_by V6 (old.deeds ++ map deed.Ages aged))
         → KeepWanted run.deal.layout v y → IsWorkUntil run w at v y verdicts
     with_aged aged removals behind four six wanted = record {
       deeds = old.deeds ++ map deed.Ages aged;
@@ -219,7 +219,7 @@ module _ (run : RunFacts) (ages : run.ages ≡ true) (w at : ℕ) (packet : Pack
       four = four;
       six = six;
       wanted = wanted;
-      said = subst (λ is. AreSaid run is verdicts) (sym items_are) old.said;
+      said = subst (λ is. AreSaid is verdicts) (sym items_are) old.said;
     }
       where
         items_are : items_in (old.deeds ++ map deed.Ages aged) ≡ items_in old.deeds
@@ -228,10 +228,10 @@ module _ (run : RunFacts) (ages : run.ages ≡ true) (w at : ℕ) (packet : Pack
 
     -- a family's calls, with those of removals behind them
     calls_with : (family : Family) (aged : List Aged) (cs : List Call)
-        → calls_by run.times family (map deed.Ages aged) ≡ cs
-        → calls_by run.times family (old.deeds ++ map deed.Ages aged) ≡ calls_by run.times family old.deeds ++ cs
+        → calls_by family (map deed.Ages aged) ≡ cs
+        → calls_by family (old.deeds ++ map deed.Ages aged) ≡ calls_by family old.deeds ++ cs
     calls_with family aged cs are =
-        calls_join run.times family old.deeds (map deed.Ages aged) ∙ ap (λ k. calls_by run.times family old.deeds ++ k) are
+        calls_join family old.deeds (map deed.Ages aged) ∙ ap (λ k. calls_by family old.deeds ++ k) are
 
   pub four_aged : (v x : Views) (u : View) (verdicts : List Verdict) (looks : List Look)
       → LookInTurn run.deal.layout.four is_due x.four looks u → All (λ look. IsOwn run.deal.workers w look.bucket) looks
@@ -240,10 +240,10 @@ module _ (run : RunFacts) (ages : run.ages ≡ true) (w at : ℕ) (packet : Pack
       let l = leaves V4 looks x.four u looked own in
       with_aged v x (record { four = u; six = x.six }) verdicts old l.aged l.removals l.behind
       (subst (RecordContinues v.four u) (sym (calls_with v x (record { four = u; six = x.six }) verdicts old V4 l.aged _
-      (calls_own run.times V4 refl l.aged l.own)))
-      (continues_through v.four x.four u (calls_by run.times V4 old.deeds) (map (λ a. a.call) l.aged) old.four l.calls))
+      (calls_own V4 refl l.aged l.own)))
+      (continues_through v.four x.four u (calls_by V4 old.deeds) (map (λ a. a.call) l.aged) old.four l.calls))
       (subst (RecordContinues v.six x.six) (sym (calls_with v x (record { four = u; six = x.six }) verdicts old V6 l.aged []
-      (calls_other run.times V4 V6 refl l.aged l.own) ∙ append-nil (calls_by run.times V6 old.deeds))) old.six)
+      (calls_other V4 V6 refl l.aged l.own) ∙ append-nil (calls_by V6 old.deeds))) old.six)
       (λ had. l.wanted (old.wanted.0 had), old.wanted.1)
 
   pub six_aged : (v x : Views) (u : View) (verdicts : List Verdict) (looks : List Look)
@@ -253,10 +253,10 @@ module _ (run : RunFacts) (ages : run.ages ≡ true) (w at : ℕ) (packet : Pack
       let l = leaves V6 looks x.six u looked own in
       with_aged v x (record { four = x.four; six = u }) verdicts old l.aged l.removals l.behind
       (subst (RecordContinues v.four x.four) (sym (calls_with v x (record { four = x.four; six = u }) verdicts old V4 l.aged []
-      (calls_other run.times V6 V4 refl l.aged l.own) ∙ append-nil (calls_by run.times V4 old.deeds))) old.four)
+      (calls_other V6 V4 refl l.aged l.own) ∙ append-nil (calls_by V4 old.deeds))) old.four)
       (subst (RecordContinues v.six u) (sym (calls_with v x (record { four = x.four; six = u }) verdicts old V6 l.aged _
-      (calls_own run.times V6 refl l.aged l.own)))
-      (continues_through v.six x.six u (calls_by run.times V6 old.deeds) (map (λ a. a.call) l.aged) old.six l.calls))
+      (calls_own V6 refl l.aged l.own)))
+      (continues_through v.six x.six u (calls_by V6 old.deeds) (map (λ a. a.call) l.aged) old.six l.calls))
       (old.wanted.0, λ had. l.wanted (old.wanted.1 had))
 
 -- ---- A caller of one table

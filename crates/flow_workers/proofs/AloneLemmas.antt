@@ -107,8 +107,8 @@ module _ {A B R G K L : Type 0} (ga : Ghosts A K) (gb : Ghosts B L) (setup : Set
             })
             (gathered ga gb setup.tables.now run (done.deeds ∷ []) v
             (gone.four.lawful, gone.six.lawful) (gone.four.whole, gone.six.whole)
-            (same_deeds _ _ V4 _ _ _ gone.four.records gone.four.known done.four)
-            (same_deeds _ _ V6 _ _ _ gone.six.records gone.six.known done.six))
+            (same_deeds _ V4 _ _ _ gone.four.records gone.four.known done.four)
+            (same_deeds _ V6 _ _ _ gone.six.records gone.six.known done.six))
             (one_placed run (items_in done.deeds) (before ++ said) one done.are.trace (ap (λ vs. before ++ vs) gone.said ∙ done.said)),
       )
 

@@ -22,11 +22,11 @@ use Rattle.flow_filter.specs.Filters.{section_in}
 use Rattle.flow_filter.specs.Readings.{IsReading, IsReadingOf, Reading, Ruling}
 use Rattle.flow_filter.specs.Updates.{Update, update_in, update_of, words_of}
 use Rattle.flow_filter.specs.Verdicts.{verdict_of}
-use Rattle.flow_filter.specs.Judged.{IsAskedBy, expired_for, verdict_by_event, verdict_with}
+use Rattle.flow_filter.specs.Judged.{Asks, Settled, expired_for, verdict_with}
 use Rattle.flow_filter.specs.OneThread.{Layout}
 use Rattle.flow_dealing.specs.Views.{Views}
 use Rattle.flow_workers.specs.declared.viewed_packet.ViewedPacket.{ViewedPacket}
-use Rattle.flow_workers.specs.Judging.{IsAway, IsEnteredBy, IsJudged, IsPacketRefused}
+use Rattle.flow_workers.specs.Judging.{IsAway, IsJudged, IsPacketRefused}
 use Rattle.flow_workers.specs.inner.PacketPlans.{IsFrameRuling, reading_with}
 use Rattle.flow_workers.specs.inner.Updates.{IsToldFlow, told_event}
 use Rattle.flow_workers.specs.inner.ViewedPackets.{IsViewed, IsViewedBy}
@@ -79,25 +79,24 @@ reads policy s p ruling is = (
 
 pub settled : (l : Layout) (took : View → View → Reply → Type 0) (times : Timeouts) (policy : PolicyFacts)
     (s : PacketFacts) (p : ViewedPacket) (ruling : Ruling) (v : Views) (verdict : Verdict) → IsRuled policy s p ruling
-    → (update_of times (reading_in p ruling) ≡ None) × (verdict ≡ verdict_with times (reading_in p ruling) None)
+    → (update_of times (reading_in p ruling) ≡ None) × (verdict ≡ verdict_with (reading_in p ruling) Settled)
     → IsJudged l took times policy s v v verdict
 settled l took times policy s p ruling v verdict is known = record {
-  judged = record { reading = reading_in p ruling; event = None };
+  judged = record { reading = reading_in p ruling; asked = Settled };
   read = reads policy s p ruling is;
-  asked = subst (λ u. IsAskedBy u None) (sym known.0) refl;
-  entered = subst (λ u. IsEnteredBy l took u None v v) (sym known.0) refl;
+  asked = known.0;
+  entered = refl;
   said = known.1;
 }
 
 -- only a packet of a five-tuple has an update, and its verdict is that of the update
 said_by : (times : Timeouts) (moment : ℕ) (view : FrameFacts) (ruling : Ruling) (u : Update) (e : Event)
     → update_of times (reading_with moment view ruling) ≡ Some u
-    → verdict_with times (reading_with moment view ruling) (Some e) ≡ verdict_of u.patch ruling e.found e.reply
+    → verdict_with (reading_with moment view ruling) (Asks u e) ≡ verdict_of u.patch ruling e.found e.reply
 said_by times moment frames.NotIp ruling u e is = absurd (let f : ⊥ = cc in f)
 said_by times moment frames.Malformed ruling u e is = absurd (let f : ⊥ = cc in f)
 said_by times moment frames.Short ruling u e is = absurd (let f : ⊥ = cc in f)
-said_by times moment (frames.Ip direction tuple) ruling u e is =
-    ap (λ update. verdict_by_event ruling update (Some e)) is
+said_by times moment (frames.Ip direction tuple) ruling u e is = refl
 
 -- the update's patch has the packet's moment and these timeouts
 timed_by : (times : Timeouts) (moment : ℕ) (view : FrameFacts) (ruling : Ruling) (u : Update)
@@ -120,12 +119,10 @@ pub answered : (l : Layout) (took : View → View → Reply → Type 0) (times :
     → IsToldFlow l took u.key (decision_of u.patch) (is_expired_at times p.moment) v w reply
     → verdict ≡ verdict_of u.patch ruling (found_by reply) reply → IsJudged l took times policy s v w verdict
 answered l took times policy s p ruling v w verdict u reply is asks entered said = record {
-  judged = record { reading = reading_in p ruling; event = Some event };
+  judged = record { reading = reading_in p ruling; asked = Asks u event };
   read = reads policy s p ruling is;
-  asked =
-      subst (λ update. IsAskedBy update (Some event)) (sym asks)
-      (event, refl, record { key = refl; change = refl; expiry = expiry });
-  entered = subst (λ update. IsEnteredBy l took update (Some event) v w) (sym asks) entered.1;
+  asked = (asks, record { key = refl; change = refl; expiry = expiry });
+  entered = entered.1;
   said = said ∙ sym (said_by times p.moment (frame_facts p.frame.now) ruling u event asks);
 }
   where

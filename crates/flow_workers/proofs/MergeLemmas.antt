@@ -87,14 +87,14 @@ all_first (y ∷ z ∷ zs) x one at = absurd (omega arith)
 
 -- what it said is in order already
 pub one_placed : (run : RunFacts) (trace : List Item) (verdicts : List Verdict) → run.deal.workers ≡ 1
-    → IsTrace run.deal run.times 0 run.policy run.packets trace → AreSaid run trace verdicts
-    → ArePlaced run.times run.packets (trace ∷ []) verdicts
+    → IsTrace run.deal run.times 0 run.policy run.packets trace → AreSaid trace verdicts
+    → ArePlaced run.packets (trace ∷ []) verdicts
 one_placed run trace verdicts alone is said =
     let vs = all_views run.policy run.packets in
     let numbers = is.dealt vs.0 vs.1 in
     record {
       count =
-          ap length said ∙ (length-map trace (verdict_in run.times) ∙ (sym (length-map trace (λ (k : Item). k.packet))
+          ap length said ∙ (length-map trace verdict_in ∙ (sym (length-map trace (λ (k : Item). k.packet))
           ∙ (ap length numbers ∙ (alone_count run.deal 0 vs.0 alone ∙ sym (zip_count _ run.packets vs.0 vs.1)))));
       each = λ w other stands k i at.
           let first : w ≡ 0 = let inside = within (trace ∷ []) w other stands in omega arith in
@@ -104,7 +104,7 @@ one_placed run trace verdicts alone is said =
           let place : i.packet ≡ 0 + k = alone_at run.deal 0 vs.0 k i.packet alone
           (sym (ap (λ ns. get_elem? ns k) numbers) ∙ after_map (λ (x : Item). x.packet) trace k i here) in
           ap (get_elem? verdicts) (place ∙ (let e : 0 + k ≡ k = omega arith in e))
-          ∙ (ap (λ vs. get_elem? vs k) said ∙ after_map (verdict_in run.times) trace k i here);
+          ∙ (ap (λ vs. get_elem? vs k) said ∙ after_map verdict_in trace k i here);
     }
 
 -- ---- What workers of one run said
@@ -136,7 +136,7 @@ module _ (run : RunFacts) (traces : List (List Item)) (gone : LetGo) (all : List
   told_next placed w is said x at told =
       let n = slice_index placed.next w in
       let same = said_is placed w is said at in
-      let inside = within said.items n _ (subst (λ s. get_elem? s.items n ≡ some (verdict_in run.times is.item)) same is.verdict) in
+      let inside = within said.items n _ (subst (λ s. get_elem? s.items n ≡ some (verdict_in is.item)) same is.verdict) in
       ap (λ s. get_elem? s.items n) same ∙ (at_or said.items n x inside ∙ ap some (sym told))
 
   pub placed_more : (placed new : VerdictMerge) (w : ℕ) (x : Verdict) → ArePlacedBefore run traces gone placed
@@ -168,9 +168,9 @@ module _ (run : RunFacts) (traces : List (List Item)) (gone : LetGo) (all : List
             let this : i ≡ is.item =
             some-injective i is.item
             (sym stands ∙ (ap (λ k'. get_elem? trace k') last ∙ (ap (λ t. get_elem? t m) one ∙ is.at))) in
-            let right : x ≡ verdict_in run.times i =
-            some-injective x (verdict_in run.times i)
-            (sym said ∙ (is.verdict ∙ ap (λ (j : Item). some (verdict_in run.times j)) (sym this))) in
+            let right : x ≡ verdict_in i =
+            some-injective x (verdict_in i)
+            (sym said ∙ (is.verdict ∙ ap (λ (j : Item). some (verdict_in j)) (sym this))) in
             let place : i.packet ≡ at + 0 = let p = ap (λ (j : Item). j.packet) this ∙ is.number in omega arith in
             ap (get_elem? new.verdicts.items) place ∙ (ap (λ vs. get_elem? vs (at + 0)) verdicts
             ∙ (at_after placed.verdicts.items (x ∷ []) 0 x refl ∙ ap some right))
@@ -207,10 +207,10 @@ module _ (run : RunFacts) (traces : List (List Item)) (gone : LetGo) (all : List
       longer : length new.verdicts.items ≡ at + 1
       longer = ap length verdicts ∙ (let e = length-append placed.verdicts.items (x ∷ []) in omega arith)
 
-      kept : (i : Item) → get_elem? placed.verdicts.items i.packet ≡ some (verdict_in run.times i)
-          → get_elem? new.verdicts.items i.packet ≡ some (verdict_in run.times i)
+      kept : (i : Item) → get_elem? placed.verdicts.items i.packet ≡ some (verdict_in i)
+          → get_elem? new.verdicts.items i.packet ≡ some (verdict_in i)
       kept i old = ap (λ vs. get_elem? vs i.packet) verdicts
-          ∙ at_front placed.verdicts.items (x ∷ []) i.packet (verdict_in run.times i) old
+          ∙ at_front placed.verdicts.items (x ∷ []) i.packet (verdict_in i) old
 
 -- what stands behind the first of two lists
 behind_front : {X : Type 0} (xs ys : List X) (k : ℕ) → get_elem? (xs ++ ys) (length xs + k) ≡ get_elem? ys k
@@ -272,7 +272,7 @@ module _ (run : RunFacts) (traces : List (List Item)) (gone : LetGo) (all : List
     item = item.0;
     at = item.1;
     verdict = sym (behind_front (gone w) s.0.items n)
-        ∙ (ap (λ vs. get_elem? vs m) (are.said w t.0 s.0 t.1 s.1) ∙ after_map (verdict_in run.times) t.0 m item.0 item.1);
+        ∙ (ap (λ vs. get_elem? vs m) (are.said w t.0 s.0 t.1 s.1) ∙ after_map verdict_in t.0 m item.0 item.1);
     number = item.2;
     behind = behind;
   }
@@ -315,7 +315,7 @@ module _ (run : RunFacts) (traces : List (List Item)) (gone : LetGo) (all : List
 
   pub all_placed : (placed : VerdictMerge) → ArePlacedBefore run traces gone placed
       → length placed.verdicts.items ≡ length run.packets
-      → ArePlaced run.times run.packets traces placed.verdicts.items
+      → ArePlaced run.packets traces placed.verdicts.items
   all_placed placed before count = record {
     count = count;
     each = λ w trace traced k i stands.
@@ -332,14 +332,14 @@ module _ (run : RunFacts) (traces : List (List Item)) (gone : LetGo) (all : List
 
   -- verdicts that are in place are what all workers said and let go
   pub in_place : (shares : LetGo) → ((w : ℕ) (said : Vec Verdict) → get_elem? all w ≡ some said → shares w ≡ gone w ++ said.items)
-      → (verdicts : List Verdict) → ArePlaced run.times run.packets traces verdicts → AreInPlace run shares verdicts
+      → (verdicts : List Verdict) → ArePlaced run.packets traces verdicts → AreInPlace run shares verdicts
   in_place shares is verdicts placed = record {
     count = placed.count;
     each = λ w views few these.
         let t = there traces w (let count = are.traced.count in omega arith) in
         let s = there all w (let count = are.count in omega arith) in
         ap (map (get_elem? verdicts)) (sym ((are.traced.each w t.0 t.1).dealt views these))
-        ∙ (same_elements (get_elem? verdicts) (verdict_in run.times) (λ (i : Item). i.packet) t.0 (placed.each w t.0 t.1)
+        ∙ (same_elements (get_elem? verdicts) verdict_in (λ (i : Item). i.packet) t.0 (placed.each w t.0 t.1)
         ∙ ap (map (λ v. some v)) (sym (is w s.0 s.1 ∙ are.said w t.0 s.0 t.1 s.1)));
   }
 
@@ -383,9 +383,9 @@ in_place_before run more traces gone all verdicts are place = record {
       (sym (after_map (λ n. get_elem? verdicts.items n) (numbers_from run.deal w 0 s.front) k this.0 this.1)
       ∙ (ap (λ ns. get_elem? ns k) s.each ∙ after_map (λ v. some v) (gone w) k said.0 said.1)) in
       let share = there all w (let few = within traces w trace traced in let count = are.traced.count in let many = are.count in omega arith) in
-      let right : said.0 ≡ verdict_in run.times i = some-injective said.0 (verdict_in run.times i)
+      let right : said.0 ≡ verdict_in i = some-injective said.0 (verdict_in i)
       (sym (at_front (gone w) share.0.items k said.0 said.1)
-      ∙ (ap (λ vs. get_elem? vs k) (are.said w trace share.0 traced share.1) ∙ after_map (verdict_in run.times) trace k i stands)) in
+      ∙ (ap (λ vs. get_elem? vs k) (are.said w trace share.0 traced share.1) ∙ after_map verdict_in trace k i stands)) in
       ap (get_elem? verdicts.items) (sym same) ∙ (found ∙ ap some right);
 }
   where
@@ -412,7 +412,7 @@ in_place_before run more traces gone all verdicts are place = record {
 
 -- all verdicts that are in place, after all packets
 pub all_in_place : (run : RunFacts) (traces : List (List Item)) (gone : LetGo) (all : List (Vec Verdict)) (verdicts : Vec Verdict)
-    → AreTold run traces gone all → AreInPlace run gone verdicts.items → ArePlaced run.times run.packets traces verdicts.items
+    → AreTold run traces gone all → AreInPlace run gone verdicts.items → ArePlaced run.packets traces verdicts.items
 all_in_place run traces gone all verdicts are place =
     let same = append-nil run.packets in
     all_placed run traces gone all are (before_batch verdicts)
@@ -430,20 +430,20 @@ more_than_one (suc (suc n)) some_worker other = omega arith
 pub all_verdicts_placed : (run : RunFacts) (traces : List (List Item)) (gone : LetGo) (all : List (Vec Verdict)) (merged : Vec Verdict)
     → AreTold run traces gone all → (1 < run.deal.workers → AreInPlace run gone merged.items)
     → (run.deal.workers ≡ 1 → gone 0 ≡ []) → (verdicts : List Verdict) → AreAllVerdicts merged.items all verdicts
-    → ArePlaced run.times run.packets traces verdicts
+    → ArePlaced run.packets traces verdicts
 all_verdicts_placed run traces gone all merged are place none verdicts is = elim (eqb_tells run.deal.workers 1) [
   | inl (test, alone) ↦
       let t = there traces 0 (let count = are.traced.count in omega arith) in
       let s = there all 0 (let count = are.count in omega arith) in
-      subst (λ vs. ArePlaced run.times run.packets traces vs)
+      subst (λ vs. ArePlaced run.packets traces vs)
       (sym (is.one s.0 (all_first all s.0 (are.count ∙ alone) s.1)))
-      (subst (λ ts. ArePlaced run.times run.packets ts s.0.items)
+      (subst (λ ts. ArePlaced run.packets ts s.0.items)
       (sym (all_first traces t.0 (are.traced.count ∙ alone) t.1))
       (one_placed run t.0 s.0.items alone (are.traced.each 0 t.0 t.1)
-      (subst (λ vs. AreSaid run t.0 (vs ++ s.0.items)) (none alone) (are.said 0 t.0 s.0 t.1 s.1))))
+      (subst (λ vs. AreSaid t.0 (vs ++ s.0.items)) (none alone) (are.said 0 t.0 s.0 t.1 s.1))))
   | inr (test, other) ↦
       let many = more_than_one run.deal.workers are.some_worker other in
-      subst (λ vs. ArePlaced run.times run.packets traces vs)
+      subst (λ vs. ArePlaced run.packets traces vs)
       (sym (is.several (let count = are.count in omega arith)))
       (all_in_place run traces gone all merged are (place many))
 ]

@@ -30,7 +30,7 @@ use Rattle.session_state.specs.declared.verdict.Verdict.TheVariants as verdict
 use Rattle.flow_filter.specs.Readings.{Ruling}
 use Rattle.flow_filter.specs.Updates.{Update, update_in, update_of}
 use Rattle.flow_filter.specs.Verdicts.{verdict_by, verdict_entered, verdict_of, verdict_of_rules, verdict_reflected}
-use Rattle.flow_filter.specs.Judged.{verdict_by_event, verdict_with}
+use Rattle.flow_filter.specs.Judged.{Settled, verdict_with}
 use Rattle.flow_filter.specs.OneThread.{Layout}
 use Rattle.packet_dealing.specs.Dealings.{flow_of_frame}
 use Rattle.flow_dealing.specs.Views.{Views}
@@ -78,13 +78,13 @@ told_no_pages p ruling found r = go (is_live_for p found) p.reflects
 -- a packet without an update has pages
 pub settled_has_pages : (times : Timeouts) (moment : ℕ) (view : FrameFacts) (ruling : Ruling) (said : Verdict)
     → (update_of times (reading_with moment view ruling) ≡ None)
-    × (said ≡ verdict_with times (reading_with moment view ruling) None)
+    × (said ≡ verdict_with (reading_with moment view ruling) Settled)
     → said ≡ verdict.NoPages → ⊥
 settled_has_pages times moment frames.NotIp ruling said is e = let x = sym is.1 ∙ e in cc
 settled_has_pages times moment frames.Malformed ruling said is e = let x = sym is.1 ∙ e in cc
 settled_has_pages times moment frames.Short ruling said is e = let x = sym is.1 ∙ e in cc
 settled_has_pages times moment (frames.Ip direction tuple) ruling said is e =
-    by_rules ruling (sym (is.1 ∙ ap (λ u. verdict_by_event ruling u None) is.0) ∙ e)
+    by_rules ruling (sym is.1 ∙ e)
 
 -- the update is that of the packet's flow
 pub flow_updated : (times : Timeouts) (moment : ℕ) (view : FrameFacts) (ruling : Ruling) (u : Update)

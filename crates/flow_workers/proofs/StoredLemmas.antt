@@ -42,7 +42,7 @@ pub left_by_one : (d : Deal) (times : Timeouts) (policy : PolicyFacts) (packets 
     (are : AreJudged d times policy packets verdicts) → (d.dealing ≡ Bucket) ⊎ (d.workers ≡ 1) → (home : Home)
     → IsHome d.layout home → (pairs : List (List ℕ × ℕ))
     → AreStored (sizes_in d.layout home.family) (view_in are.views home.family).known pairs
-    → AreLeft d.layout times are.judged home pairs
+    → AreLeft d.layout are.judged home pairs
 left_by_one d times policy packets verdicts are one home inside pairs stored =
     let known = (view_in are.views home.family).known in
     let run = run_at d times policy packets verdicts are one home inside in record {

@@ -50,12 +50,12 @@ pub if_ok : {X E : Type 0} (P Q : X → Type 0) (r : Result X E) → ((x : X) �
 if_ok P Q (Ok x) f h = f x h
 if_ok P Q (Err e) f h = tt
 
-pub fresh_deeds : (z : Sizes) (times : Timeouts) (family : Family) (v w : View) (t : List Deed) → IsFreshView v
-    → RecordContinues v w (calls_by times family t) → (HaveWanted z v → HaveWanted z w) → HaveDeeds z times family (t ∷ []) w
-fresh_deeds z times family v w t fresh goes wanted =
+pub fresh_deeds : (z : Sizes) (family : Family) (v w : View) (t : List Deed) → IsFreshView v
+    → RecordContinues v w (calls_by family t) → (HaveWanted z v → HaveWanted z w) → HaveDeeds z family (t ∷ []) w
+fresh_deeds z family v w t fresh goes wanted =
     let r = goes.calls (empty_record fresh.number) fresh.records in
     record {
-      records = subst (AllZip (HasCalls times family) (t ∷ [])) (sym r.1) (refl, tt);
+      records = subst (AllZip (HasCalls family) (t ∷ [])) (sym r.1) (refl, tt);
       openings = goes.openings ∙ fresh.openings;
       wanted = wanted (fresh_wanted z v fresh);
     }

@@ -10,7 +10,7 @@ use Rattle.session_state.specs.Sessions.{is_expired_at}
 use Rattle.flow_filter.specs.declared.interface_filters.InterfaceFilter.{InterfaceFilter}
 use Rattle.session_state.specs.declared.verdict.Verdict.{Verdict}
 use Rattle.flow_filter.specs.Filters.{section_in}
-use Rattle.flow_filter.specs.Judged.{verdict_with}
+use Rattle.flow_filter.specs.Judged.{Settled, verdict_with}
 use Rattle.flow_filter.specs.Readings.{Ruling}
 use Rattle.flow_filter.specs.Updates.{Update, update_of}
 use Rattle.flow_filter.specs.Verdicts.{verdict_of}
@@ -30,7 +30,7 @@ pub told_settled : {A B K L E : Type 0} (ga : Ghosts A K) (gb : Ghosts B L) (too
     (callers : Callers A B K L ga gb) (verdict : Verdict) → AreIdle ga gb tables callers
     → IsFrameRuling (section_in filter) (frame_facts packet.frame.now) ruling
     → (update_of filter.times (reading_in packet ruling) ≡ None)
-    × (verdict ≡ verdict_with filter.times (reading_in packet ruling) None)
+    × (verdict ≡ verdict_with (reading_in packet ruling) Settled)
     → TellsViewed {E = E} took filter packet tables callers callers (Ok verdict)
 told_settled ga gb took filter packet ruling tables callers verdict idle ruled known = record {
   same = record { four = refl; six = refl };

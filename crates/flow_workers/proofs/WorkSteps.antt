@@ -1,6 +1,6 @@
 -- One packet more of a worker.
 use Rattle.std.proofs.Common.{◌≡◌, ◌≢◌, ◌∙◌, ◌+◌, ◌<◌, ℕ, zero, suc, Bool, true, false, cond, All, List, [], ◌∷◌, ◌++◌, length, drop, map, Option, Some, None, ap, refl, sym, subst, arith, append_assoc, append-nil, add-one, eq-eqb}
-use Rattle.std.specs.Prelude.{if◌then◌else◌, ◌==◌, option_map, slice_get}
+use Rattle.std.specs.Prelude.{if◌then◌else◌, ◌==◌, slice_get}
 use Rattle.std.proofs.lemmas.Bool.{ne_eqb}
 use Rattle.std.proofs.lemmas.List.Elements.{All-nil, All-push}
 use Rattle.std.proofs.lemmas.List.{map-append}
@@ -25,13 +25,14 @@ use Rattle.session_state.specs.declared.timeouts.Timeouts.{Timeouts}
 use Rattle.session_state.specs.declared.verdict.Verdict.{Verdict}
 use Rattle.flow_filter.specs.Readings.{IsReading, IsReadingOf, IsSeen, Reading}
 use Rattle.flow_filter.specs.Updates.{Update, update_of, words_of}
-use Rattle.flow_filter.specs.Judged.{IsAskedBy, verdict_on}
+use Rattle.flow_filter.specs.Judged.{Asked, Asks, IsAskedBy, Settled, verdict_with}
 use Rattle.flow_filter.specs.OneThread.{Layout, family_of, home_of, same_family}
 use Rattle.flow_dealing.specs.Views.{Views}
 use Rattle.packet_dealing.specs.Dealings.{Deal, flow_of_reading, flow_of_frame, worker_of}
-use Rattle.flow_dealing.specs.Traces.{AreFrames, IsItem, IsItemOf, Item, numbers_from}
+use Rattle.flow_dealing.specs.Traces.{AreFrames, IsCallAt, IsItem, IsItemOf, Item, events_of, numbers_from}
 use Rattle.flow_dealing.specs.AgeingTraces.{Ages, AreInOrder, Deed, IsRemovalOf, Takes, aged_in, calls_by, items_in}
 use Rattle.flow_dealing.proofs.AgeingMerges.{order_from}
+use Rattle.flow_dealing.proofs.DealtEvents.{add_in-append}
 use Rattle.flow_dealing.specs.WorkerRecords.{add_in}
 use Rattle.flow_workers.specs.Judging.{IsFlowEntry, IsEnteredBy, IsJudged}
 use Rattle.flow_workers.specs.inner.Work.{AreSaid, RecordContinues, IsWork, IsWorkUntil, RunFacts, numbers_of, verdict_in}
@@ -63,37 +64,21 @@ continues_push z v u w cs e a old = record {
 
 -- ---- One packet's call
 
--- the call is one on the bucket of the update's key
-abbrev IsCallAt : Layout → Option Update → Option Call → Type 0
-IsCallAt l None call = Unit {0}
-IsCallAt l (Some u) None = Unit {0}
-IsCallAt l (Some u) (Some c) = c.bucket ≡ (home_of l u.key).bucket
-
-call_at : (l : Layout) (update : Option Update) (call : Option Call) → IsCallAt l update call
-    → (u : Update) (c : Call) → update ≡ Some u → call ≡ Some c → c.bucket ≡ (home_of l u.key).bucket
-call_at l None call at u c is called = cc
-call_at l (Some v) None at u c is called = cc
-call_at l (Some v) (Some d) at u c is called =
-    let update : v ≡ u = cc in
-    let same : d ≡ c = cc in
-    subst (λ (x : Update). c.bucket ≡ (home_of l x.key).bucket) update (subst (λ (x : Call). x.bucket ≡ (home_of l v.key).bucket) same at)
-
--- the call of a packet with this update and event, and what it leaves of both callers
-record Left (l : Layout) (update : Option Update) (event : Option Event) (v w : Views)
-    (c4 c6 : List Call) : Type 0 where
-  call : Option Call
-  is : option_map event_of call ≡ event
-  placed : IsCallAt l update call
-  four : RecordContinues v.four w.four (c4 ++ add_in V4 update call [])
-  six : RecordContinues v.six w.six (c6 ++ add_in V6 update call [])
+-- what a packet asked, as its call, and what this leaves of both callers
+record Left (l : Layout) (asked : Asked Event) (v w : Views) (c4 c6 : List Call) : Type 0 where
+  call : Asked Call
+  is : events_of call ≡ asked
+  placed : IsCallAt l call
+  four : RecordContinues v.four w.four (c4 ++ add_in V4 call [])
+  six : RecordContinues v.six w.six (c6 ++ add_in V6 call [])
 
 by_key : (l : Layout) (u : Update) (key : FlowKey) (e : Event) (v x w : Views) (c4 c6 : List Call)
     → u.key ≡ key → e.key ≡ words_of key → IsFlowEntry l TookByTries key e x w
-    → RecordContinues v.four x.four c4 → RecordContinues v.six x.six c6 → Left l (Some u) (Some e) v w c4 c6
+    → RecordContinues v.four x.four c4 → RecordContinues v.six x.six c6 → Left l (Asks u e) v w c4 c6
 by_key l u (Four words) e v x w c4 c6 same asked entered four six =
     let c : Call = entry_of l.four (length entered.0.history) e entered.0.noted in
     record {
-      call = Some c;
+      call = Asks u c;
       is = refl;
       placed = subst (λ k. c.bucket ≡ (home_of l k).bucket) (sym same) (ap (λ k. (home_of l (Four k)).bucket) asked);
       four =
@@ -105,7 +90,7 @@ by_key l u (Four words) e v x w c4 c6 same asked entered four six =
 by_key l u (Six words) e v x w c4 c6 same asked entered four six =
     let c : Call = entry_of l.six (length entered.0.history) e entered.0.noted in
     record {
-      call = Some c;
+      call = Asks u c;
       is = refl;
       placed = subst (λ k. c.bucket ≡ (home_of l k).bucket) (sym same) (ap (λ k. (home_of l (Six k)).bucket) asked);
       four =
@@ -115,47 +100,31 @@ by_key l u (Six words) e v x w c4 c6 same asked entered four six =
           (continues_push l.six v.six x.six w.six c6 e entered.0 six);
     }
 
-event_key : (u : Update) (e : Event) → IsAskedBy (Some u) (Some e) → e.key ≡ words_of u.key
-event_key u e asked = let same : asked.0 ≡ e = let s = asked.1 in cc in
-    ap (λ (x : Event). x.key) (sym same) ∙ asked.2.key
-
-left_by : (l : Layout) (update : Option Update) (event : Option Event) (v x w : Views) (c4 c6 : List Call)
-    → IsAskedBy update event → IsEnteredBy l TookByTries update event x w
-    → RecordContinues v.four x.four c4 → RecordContinues v.six x.six c6 → Left l update event v w c4 c6
-left_by l None event v x w c4 c6 asked entered four six = record {
-  call = None;
-  is = sym asked;
+left_by : (l : Layout) (update : Option Update) (asked : Asked Event) (v x w : Views) (c4 c6 : List Call)
+    → IsAskedBy update asked → IsEnteredBy l TookByTries asked x w
+    → RecordContinues v.four x.four c4 → RecordContinues v.six x.six c6 → Left l asked v w c4 c6
+left_by l update Settled v x w c4 c6 none entered four six = record {
+  call = Settled;
+  is = refl;
   placed = tt;
   four = continues_same v.four x.four w.four c4 (ap (λ (y : Views). y.four) entered) four;
   six = continues_same v.six x.six w.six c6 (ap (λ (y : Views). y.six) entered) six;
 }
-left_by l (Some u) None v x w c4 c6 asked entered four six = absurd entered
-left_by l (Some u) (Some e) v x w c4 c6 asked entered four six =
-    by_key l u u.key e v x w c4 c6 refl (event_key u e asked) entered four six
+left_by l update (Asks u e) v x w c4 c6 asked entered four six = by_key l u u.key e v x w c4 c6 refl asked.1.key entered four six
 
 -- ---- Lists of deeds
 
-add_in_append : (family : Family) (u : Option Update) (call : Option Call) (xs ys : List Call)
-    → add_in family u call xs ++ ys ≡ add_in family u call (xs ++ ys)
-add_in_append family None call xs ys = refl
-add_in_append family (Some u) None xs ys = refl
-add_in_append family (Some u) (Some c) xs ys = go (same_family family (family_of u.key))
+pub calls_join : (family : Family) (deeds more : List Deed)
+    → calls_by family (deeds ++ more) ≡ calls_by family deeds ++ calls_by family more
+calls_join family [] more = refl
+calls_join family (Takes i ∷ deeds) more =
+    ap (add_in family i.asked) (calls_join family deeds more)
+    ∙ add_in-append family i.asked (calls_by family deeds) (calls_by family more)
+calls_join family (Ages a ∷ deeds) more = go (same_family family a.family) (calls_join family deeds more)
   where
-    go : (t : Bool) → (if t then c ∷ xs else xs) ++ ys ≡ (if t then c ∷ (xs ++ ys) else (xs ++ ys))
-    go true = refl
-    go false = refl
-
-pub calls_join : (times : Timeouts) (family : Family) (deeds more : List Deed)
-    → calls_by times family (deeds ++ more) ≡ calls_by times family deeds ++ calls_by times family more
-calls_join times family [] more = refl
-calls_join times family (Takes i ∷ deeds) more =
-    ap (add_in family (update_of times i.reading) i.call) (calls_join times family deeds more)
-    ∙ sym (add_in_append family (update_of times i.reading) i.call (calls_by times family deeds) (calls_by times family more))
-calls_join times family (Ages a ∷ deeds) more = go (same_family family a.family) (calls_join times family deeds more)
-  where
-    go : (t : Bool) → calls_by times family (deeds ++ more) ≡ calls_by times family deeds ++ calls_by times family more
-        → (if t then a.call ∷ calls_by times family (deeds ++ more) else calls_by times family (deeds ++ more))
-        ≡ (if t then a.call ∷ calls_by times family deeds else calls_by times family deeds) ++ calls_by times family more
+    go : (t : Bool) → calls_by family (deeds ++ more) ≡ calls_by family deeds ++ calls_by family more
+        → (if t then a.call ∷ calls_by family (deeds ++ more) else calls_by family (deeds ++ more))
+        ≡ (if t then a.call ∷ calls_by family deeds else calls_by family deeds) ++ calls_by family more
     go true rest = ap (λ cs. a.call ∷ cs) rest
     go false rest = rest
 
@@ -271,12 +240,12 @@ work_passed run w at v x verdicts packet view is other old = record {
   said = old.said;
 }
 
-said_push : (run : RunFacts) (trace : List Item) (i : Item) (verdicts : List Verdict) (verdict : Verdict)
-    → AreSaid run trace verdicts → verdict ≡ verdict_in run.times i
-    → AreSaid run (trace ++ i ∷ []) (verdicts ++ verdict ∷ [])
-said_push run trace i verdicts verdict old is =
-    ap (λ vs. vs ++ verdict ∷ []) old ∙ (ap (λ k. map (verdict_in run.times) trace ++ k ∷ []) is
-    ∙ sym (map-append (verdict_in run.times) trace (i ∷ [])))
+said_push : (trace : List Item) (i : Item) (verdicts : List Verdict) (verdict : Verdict)
+    → AreSaid trace verdicts → verdict ≡ verdict_in i
+    → AreSaid (trace ++ i ∷ []) (verdicts ++ verdict ∷ [])
+said_push trace i verdicts verdict old is =
+    ap (λ vs. vs ++ verdict ∷ []) old ∙ (ap (λ k. map verdict_in trace ++ k ∷ []) is
+    ∙ sym (map-append verdict_in trace (i ∷ [])))
 
 pub work_push : (run : RunFacts) (w at : ℕ) (v x y : Views) (verdicts : List Verdict) (packet : PacketFacts) (view : frames.FrameFacts)
     (verdict : Verdict) → IsAt run at packet view → worker_of run.deal at (flow_of_frame view) ≡ w
@@ -287,7 +256,7 @@ work_push run w at v x y verdicts packet view verdict is mine j keep old = recor
   items = subst (All (IsItem run.deal.layout run.times)) (sym (items_join old.deeds (Takes item ∷ [])))
       (All-push (IsItem run.deal.layout run.times) trace item old.items (record {
         asked = asked;
-        placed = call_at run.deal.layout _ _ left.placed;
+        placed = left.placed;
       }));
   of = subst (All (IsItemOf run.deal w run.policy run.packets)) (sym (items_join old.deeds (Takes item ∷ [])))
       (All-push (IsItemOf run.deal w run.policy run.packets) trace item old.of (record {
@@ -308,33 +277,29 @@ work_push run w at v x y verdicts packet view verdict is mine j keep old = recor
       (sym (aged_join old.deeds (Takes item ∷ []) ∙ append-nil (aged_in old.deeds))) old.removals;
   order = λ more in_order. subst (AreInOrder (length run.packets) 0) (sym (append_assoc old.deeds (Takes item ∷ []) more))
       (old.order (Takes item ∷ more) (omega arith, in_order));
-  four = subst (λ cs. RecordContinues v.four y.four cs) (sym (calls_join run.times V4 old.deeds (Takes item ∷ []))) left.four;
-  six = subst (λ cs. RecordContinues v.six y.six cs) (sym (calls_join run.times V6 old.deeds (Takes item ∷ []))) left.six;
+  four = subst (λ cs. RecordContinues v.four y.four cs) (sym (calls_join V4 old.deeds (Takes item ∷ []))) left.four;
+  six = subst (λ cs. RecordContinues v.six y.six cs) (sym (calls_join V6 old.deeds (Takes item ∷ []))) left.six;
   wanted = (λ had. keep.0 (old.wanted.0 had), λ had. keep.1 (old.wanted.1 had));
-  said = subst (λ is. AreSaid run is (verdicts ++ verdict ∷ [])) (sym (items_join old.deeds (Takes item ∷ [])))
-      (said_push run trace item verdicts verdict old.said said);
+  said = subst (λ is. AreSaid is (verdicts ++ verdict ∷ [])) (sym (items_join old.deeds (Takes item ∷ [])))
+      (said_push trace item verdicts verdict old.said said);
 }
   where
     trace : List Item
     trace = items_in old.deeds
 
-    left : Left run.deal.layout (update_of run.times j.judged.reading) j.judged.event v y
-        (calls_by run.times V4 old.deeds) (calls_by run.times V6 old.deeds)
+    left : Left run.deal.layout j.judged.asked v y (calls_by V4 old.deeds) (calls_by V6 old.deeds)
     left =
-        left_by run.deal.layout (update_of run.times j.judged.reading) j.judged.event v x y
-        (calls_by run.times V4 old.deeds) (calls_by run.times V6 old.deeds) j.asked j.entered old.four old.six
+        left_by run.deal.layout (update_of run.times j.judged.reading) j.judged.asked v x y
+        (calls_by V4 old.deeds) (calls_by V6 old.deeds) j.asked j.entered old.four old.six
 
     item : Item
-    item = record { packet = at; reading = j.judged.reading; call = left.call }
+    item = record { packet = at; reading = j.judged.reading; asked = left.call }
 
-    asked : IsAskedBy (update_of run.times j.judged.reading) (option_map event_of left.call)
+    asked : IsAskedBy (update_of run.times j.judged.reading) (events_of left.call)
     asked = subst (IsAskedBy (update_of run.times j.judged.reading)) (sym left.is) j.asked
 
-    said : verdict ≡ verdict_in run.times item
-    said = j.said ∙ ap (λ e. verdict_of_event e) (sym left.is)
-      where
-        verdict_of_event : Option Event → Verdict
-        verdict_of_event e = verdict_on run.times (record { reading = j.judged.reading; event = e })
+    said : verdict ≡ verdict_in item
+    said = j.said ∙ ap (verdict_with j.judged.reading) (sym left.is)
 
 -- the same, where the first packets are counted apart
 pub one_more : (run : RunFacts) (w first at : ℕ) (v u : Views) (verdicts : List Verdict)

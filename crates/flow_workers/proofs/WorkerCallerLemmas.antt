@@ -9,34 +9,33 @@ use Rattle.bihash_steps.specs.Steps.{view_after_join}
 use Rattle.bihash_rule.specs.declared.view.Known.{Known}
 use Rattle.bihash_rule.specs.declared.view.Record.{Record}
 use Rattle.bihash_rule.specs.declared.view.View.{View}
-use Rattle.session_state.specs.declared.timeouts.Timeouts.{Timeouts}
 use Rattle.flow_dealing.specs.AgeingTraces.{Deed, HaveDeeds}
 use Rattle.flow_dealing.proofs.TraceMerges.{HasCalls}
 use Rattle.flow_dealing.specs.Wanted.{HasWanted}
 use Rattle.flow_workers.proofs.WantedLemmas.{joined_wanted}
 
 -- one record before others
-with_deeds : (times : Timeouts) (family : Family) (t : List Deed) (ts : List (List Deed)) (rs qs : List Record)
-    → AllZip (HasCalls times family) (t ∷ []) rs → AllZip (HasCalls times family) ts qs
-    → AllZip (HasCalls times family) (t ∷ ts) (rs ++ qs)
-with_deeds times family t ts [] qs one more = absurd one
-with_deeds times family t ts (r ∷ []) qs one more = (one.0, more)
-with_deeds times family t ts (r ∷ q ∷ rs) qs one more = absurd one.1
+with_deeds : (family : Family) (t : List Deed) (ts : List (List Deed)) (rs qs : List Record)
+    → AllZip (HasCalls family) (t ∷ []) rs → AllZip (HasCalls family) ts qs
+    → AllZip (HasCalls family) (t ∷ ts) (rs ++ qs)
+with_deeds family t ts [] qs one more = absurd one
+with_deeds family t ts (r ∷ []) qs one more = (one.0, more)
+with_deeds family t ts (r ∷ q ∷ rs) qs one more = absurd one.1
 
-pub joined_deeds : (v w : View) → IsConsistent v.known w.known → (z : Sizes) (times : Timeouts) (family : Family)
-    (t : List Deed) (ts : List (List Deed)) → HaveDeeds z times family (t ∷ []) v → HaveDeeds z times family ts w
-    → HaveDeeds z times family (t ∷ ts) (view_after_join v w)
-joined_deeds v w agree z times family t ts one more = record {
-  records = with_deeds times family t ts v.records w.records one.records more.records;
+pub joined_deeds : (v w : View) → IsConsistent v.known w.known → (z : Sizes) (family : Family)
+    (t : List Deed) (ts : List (List Deed)) → HaveDeeds z family (t ∷ []) v → HaveDeeds z family ts w
+    → HaveDeeds z family (t ∷ ts) (view_after_join v w)
+joined_deeds v w agree z family t ts one more = record {
+  records = with_deeds family t ts v.records w.records one.records more.records;
   openings = one.openings;
   wanted = joined_wanted z v w agree one.wanted more.wanted;
 }
 
 -- the same records over the same writes
-pub same_deeds : (z : Sizes) (times : Timeouts) (family : Family) (ts : List (List Deed)) (v w : View)
-    → w.records ≡ v.records → w.known ≡ v.known → HaveDeeds z times family ts v → HaveDeeds z times family ts w
-same_deeds z times family ts v w did known had = record {
-  records = subst (AllZip (HasCalls times family) ts) (sym did) had.records;
+pub same_deeds : (z : Sizes) (family : Family) (ts : List (List Deed)) (v w : View)
+    → w.records ≡ v.records → w.known ≡ v.known → HaveDeeds z family ts v → HaveDeeds z family ts w
+same_deeds z family ts v w did known had = record {
+  records = subst (AllZip (HasCalls family) ts) (sym did) had.records;
   openings = ap (λ (k : Known). k.openings) known ∙ had.openings;
   wanted = subst (λ k. All (λ r. All (HasWanted z k) r.calls) w.records) (sym known)
       (subst (All (λ r. All (HasWanted z v.known) r.calls)) (sym did) had.wanted);

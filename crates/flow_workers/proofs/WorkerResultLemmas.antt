@@ -55,9 +55,9 @@ pub record IsDone {A B K L : Type 0} (ga : Ghosts A K) (gb : Ghosts B L) (before
   pub idle : AreIdle ga gb tables share.callers
   pub deeds : List Deed
   pub are : AreDeeds run.deal run.times run.ages w run.policy run.packets deeds
-  pub four : HaveDeeds run.deal.layout.four run.times V4 (deeds ∷ []) share.callers.four.seat.view
-  pub six : HaveDeeds run.deal.layout.six run.times V6 (deeds ∷ []) share.callers.six.seat.view
-  pub said : AreSaid run (items_in deeds) (before ++ share.said.items)
+  pub four : HaveDeeds run.deal.layout.four V4 (deeds ∷ []) share.callers.four.seat.view
+  pub six : HaveDeeds run.deal.layout.six V6 (deeds ∷ []) share.callers.six.seat.view
+  pub said : AreSaid (items_in deeds) (before ++ share.said.items)
 
 module _ {A B K L : Type 0} (ga : Ghosts A K) (gb : Ghosts B L) (tables : Tables A B K L) (run : RunFacts) (gone : LetGo) where
   -- the shares of the workers from one on
@@ -67,10 +67,10 @@ module _ {A B K L : Type 0} (ga : Ghosts A K) (gb : Ghosts B L) (tables : Tables
     each : (k : ℕ) (t : List Deed) → get_elem? all k ≡ some t
         → AreDeeds run.deal run.times run.ages (w + k) run.policy run.packets t
     idle : All (λ s. AreIdle ga gb tables s.callers) shares
-    four : AllZip (λ t s. HaveDeeds run.deal.layout.four run.times V4 (t ∷ []) s.callers.four.seat.view) all shares
-    six : AllZip (λ t s. HaveDeeds run.deal.layout.six run.times V6 (t ∷ []) s.callers.six.seat.view) all shares
+    four : AllZip (λ t s. HaveDeeds run.deal.layout.four V4 (t ∷ []) s.callers.four.seat.view) all shares
+    six : AllZip (λ t s. HaveDeeds run.deal.layout.six V6 (t ∷ []) s.callers.six.seat.view) all shares
     said : (k : ℕ) (t : List Deed) (s : Share A B K L ga gb) → get_elem? all k ≡ some t → get_elem? shares k ≡ some s
-        → AreSaid run (items_in t) (gone (w + k) ++ s.said.items)
+        → AreSaid (items_in t) (gone (w + k) ++ s.said.items)
 
   all_done : (w : ℕ) (shares : List (Share A B K L ga gb))
       → ((k : ℕ) (s : Share A B K L ga gb) → get_elem? shares k ≡ some s → IsDone ga gb (gone (w + k)) tables run (w + k) s)
@@ -99,16 +99,16 @@ module _ {A B K L : Type 0} (ga : Ghosts A K) (gb : Ghosts B L) (tables : Tables
         said = next_said one.deeds more.all one.said more.said;
       }
     where
-      next_said : (x : List Deed) (xs : List (List Deed)) → AreSaid run (items_in x) (gone (w + 0) ++ s.said.items)
+      next_said : (x : List Deed) (xs : List (List Deed)) → AreSaid (items_in x) (gone (w + 0) ++ s.said.items)
           → ((k : ℕ) (t : List Deed) (y : Share A B K L ga gb) → get_elem? xs k ≡ some t → get_elem? ss k ≡ some y
-          → AreSaid run (items_in t) (gone (w + 1 + k) ++ y.said.items))
+          → AreSaid (items_in t) (gone (w + 1 + k) ++ y.said.items))
           → (k : ℕ) (t : List Deed) (y : Share A B K L ga gb) → get_elem? (x ∷ xs) k ≡ some t → get_elem? (s ∷ ss) k ≡ some y
-          → AreSaid run (items_in t) (gone (w + k) ++ y.said.items)
+          → AreSaid (items_in t) (gone (w + k) ++ y.said.items)
       next_said x xs one more zero t y at there =
-          subst (λ z. AreSaid run (items_in t) (gone (w + 0) ++ z.said.items)) (some-injective s y there)
-          (subst (λ k. AreSaid run (items_in k) (gone (w + 0) ++ s.said.items)) (some-injective x t at) one)
+          subst (λ z. AreSaid (items_in t) (gone (w + 0) ++ z.said.items)) (some-injective s y there)
+          (subst (λ k. AreSaid (items_in k) (gone (w + 0) ++ s.said.items)) (some-injective x t at) one)
       next_said x xs one more (suc k) t y at there =
-          subst (λ n. AreSaid run (items_in t) (gone n ++ y.said.items))
+          subst (λ n. AreSaid (items_in t) (gone n ++ y.said.items))
           (let e : w + 1 + k ≡ w + suc k = omega arith in e) (more k t y at there)
 
       next : (x : List Deed) (xs : List (List Deed)) → AreDeeds run.deal run.times run.ages (w + 0) run.policy run.packets x
@@ -146,9 +146,9 @@ module _ {A B K L : Type 0} (ga : Ghosts A K) (gb : Ghosts B L) (tables : Tables
     said = λ w t said at there.
         let s = before_map (λ (s : Share A B K L ga gb). s.said) shares w said there in
         let of = before_map items_in a.all w t at in
-        subst (λ (v : Vec Verdict). AreSaid run t (gone w ++ v.items)) s.2
-        (subst (λ x. AreSaid run x (gone w ++ s.0.said.items)) of.2
-        (let e : 0 + w ≡ w = omega arith in subst (λ n. AreSaid run (items_in of.0) (gone n ++ s.0.said.items)) e (a.said w of.0 s.0 of.1 s.1)));
+        subst (λ (v : Vec Verdict). AreSaid t (gone w ++ v.items)) s.2
+        (subst (λ x. AreSaid x (gone w ++ s.0.said.items)) of.2
+        (let e : 0 + w ≡ w = omega arith in subst (λ n. AreSaid (items_in of.0) (gone n ++ s.0.said.items)) e (a.said w of.0 s.0 of.1 s.1)));
   }
 
   -- there is a caller of each worker
@@ -164,16 +164,16 @@ module _ {A B K L : Type 0} (ga : Ghosts A K) (gb : Ghosts B L) (tables : Tables
   pub gathered : (all : List (List Deed)) (v : Views)
       → IsLawfulCaller run.deal.layout.four v.four × IsLawfulCaller run.deal.layout.six v.six
       → IsToldWhole run.deal.layout.four v.four × IsToldWhole run.deal.layout.six v.six
-      → HaveDeeds run.deal.layout.four run.times V4 all v.four → HaveDeeds run.deal.layout.six run.times V6 all v.six
-      → (family : Family) → HaveDone run.deal run.times family all (view_in v family)
+      → HaveDeeds run.deal.layout.four V4 all v.four → HaveDeeds run.deal.layout.six V6 all v.six
+      → (family : Family) → HaveDone run.deal family all (view_in v family)
   gathered all v lawful told four six V4 = record { lawful = lawful.0; told = told.0; did = four }
   gathered all v lawful told four six V6 = record { lawful = lawful.1; told = told.1; did = six }
 
   pub run_judged : (gone : LetGo) (results : WorkerResults A B K L ga gb) (p : AreResults ga gb tables run gone results)
       → (v : Views) → IsLawfulCaller run.deal.layout.four v.four × IsLawfulCaller run.deal.layout.six v.six
       → IsToldWhole run.deal.layout.four v.four × IsToldWhole run.deal.layout.six v.six
-      → HaveDeeds run.deal.layout.four run.times V4 p.all v.four → HaveDeeds run.deal.layout.six run.times V6 p.all v.six
-      → (verdicts : List Verdict) → ArePlaced run.times run.packets (map items_in p.all) verdicts
+      → HaveDeeds run.deal.layout.four V4 p.all v.four → HaveDeeds run.deal.layout.six V6 p.all v.six
+      → (verdicts : List Verdict) → ArePlaced run.packets (map items_in p.all) verdicts
       → AreJudgedAgeing run.deal run.times run.ages run.policy run.packets verdicts v
   run_judged gone results p v lawful told four six verdicts placed =
       judge_each_packet run.deal run.times run.ages run.policy run.packets p.all v verdicts p.told.some_worker p.are
@@ -187,8 +187,8 @@ rest_done ga gb said setup packets w share rest = record {
   idle = rest.idle;
   deeds = work.deeds;
   are = work.are;
-  four = fresh_deeds _ run.times V4 rest.began.four u.four work.deeds rest.fresh.0 work.four work.wanted.0;
-  six = fresh_deeds _ run.times V6 rest.began.six u.six work.deeds rest.fresh.1 work.six work.wanted.1;
+  four = fresh_deeds _ V4 rest.began.four u.four work.deeds rest.fresh.0 work.four work.wanted.0;
+  six = fresh_deeds _ V6 rest.began.six u.six work.deeds rest.fresh.1 work.six work.wanted.1;
   said = work.said;
 }
   where
@@ -258,10 +258,10 @@ module _ {A B R G K L : Type 0} (ga : Ghosts A K) (gb : Ghosts B L) (setup : Set
           all.idle)),
     );
     four =
-        subst (AllZip (λ t c. HaveDeeds run.deal.layout.four run.times V4 (t ∷ []) c.seat.view) all.all) (sym of.four)
+        subst (AllZip (λ t c. HaveDeeds run.deal.layout.four V4 (t ∷ []) c.seat.view) all.all) (sym of.four)
         (zip_map _ _ all.all shares all.four);
     six =
-        subst (AllZip (λ t c. HaveDeeds run.deal.layout.six run.times V6 (t ∷ []) c.seat.view) all.all) (sym of.six)
+        subst (AllZip (λ t c. HaveDeeds run.deal.layout.six V6 (t ∷ []) c.seat.view) all.all) (sym of.six)
         (zip_map _ _ all.all shares all.six);
   }
     where

@@ -1,5 +1,5 @@
 -- What judging one packet leaves of the callers.
-use Rattle.std.specs.Prelude.{◌≡◌, Option, Some, None, Ok}
+use Rattle.std.specs.Prelude.{◌≡◌, Some, Ok}
 use Rattle.bihash_words.specs.Maps.{Event}
 use Rattle.bihash_words.specs.Sizes.{bucket_of}
 use Rattle.bihash_words.specs.declared.patch.Reply.{Reply}
@@ -14,7 +14,7 @@ use Rattle.session_state.specs.declared.timeouts.Timeouts.{Timeouts}
 use Rattle.session_state.specs.declared.verdict.Verdict.{Verdict}
 use Rattle.flow_filter.specs.Readings.{IsReading, Reading}
 use Rattle.flow_filter.specs.Updates.{Update, update_of}
-use Rattle.flow_filter.specs.Judged.{IsAsked, Judged, verdict_on}
+use Rattle.flow_filter.specs.Judged.{Asked, Asks, IsAsked, Judged, Settled, verdict_on}
 use Rattle.flow_filter.specs.OneThread.{Layout}
 use Rattle.flow_dealing.specs.Views.{Views}
 
@@ -32,10 +32,9 @@ IsFlowEntry l took (Six key) e v w =
     IsAnswered l.six v.six w.six e × (w.four ≡ v.four) × took v.six w.six e.reply
 
 -- a packet without a flow made no call
-abbrev pub IsEnteredBy : Layout → (View → View → Reply → Type 0) → Option Update → Option Event → Views → Views → Type 0
-IsEnteredBy l took None event v w = w ≡ v
-IsEnteredBy l took (Some u) None v w = ⊥
-IsEnteredBy l took (Some u) (Some e) v w = IsFlowEntry l took u.key e v w
+abbrev pub IsEnteredBy : Layout → (View → View → Reply → Type 0) → Asked Event → Views → Views → Type 0
+IsEnteredBy l took Settled v w = w ≡ v
+IsEnteredBy l took (Asks u e) v w = IsFlowEntry l took u.key e v w
 
 -- The packet was judged: it asked once where it has a flow, by one call that is in its family's record now and
 -- took locks as `took` says, and else not at all; and the verdict is that of what it found and was answered.
@@ -44,8 +43,8 @@ pub record IsJudged (l : Layout) (took : View → View → Reply → Type 0) (ti
   pub judged : Judged
   pub read : IsReading policy packet judged.reading
   pub asked : IsAsked times judged
-  pub entered : IsEnteredBy l took (update_of times judged.reading) judged.event v w
-  pub said : verdict ≡ verdict_on times judged
+  pub entered : IsEnteredBy l took judged.asked v w
+  pub said : verdict ≡ verdict_on judged
 
 -- the call met another caller (IsContended) and took one lock at most; the other family's caller made no call
 abbrev pub IsAway : Layout → FlowKey → Views → Views → Type 0

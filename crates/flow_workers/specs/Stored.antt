@@ -10,7 +10,6 @@ use Rattle.bihash_words.specs.Sizes.{Sizes, bucket_of}
 use Rattle.bihash_rule.specs.Words.{buckets}
 use Rattle.bihash_rule.specs.declared.view.Known.{Known}
 use Rattle.bihash_table.specs.Closing.{map_in}
-use Rattle.session_state.specs.declared.timeouts.Timeouts.{Timeouts}
 use Rattle.flow_filter.specs.Judged.{Judged}
 use Rattle.flow_filter.specs.OneThread.{Home, Layout, bounds_in, events_at, nothing, sizes_in}
 
@@ -29,10 +28,10 @@ pub record AreStored (z : Sizes) (known : Known) (pairs : List (List ℕ × ℕ)
 
 -- Of a family's pairs, those of this bucket are all of the map to which the one-thread filter comes there by these packets,
 -- where no bucket held anything at first.
-pub record AreLeft (l : Layout) (times : Timeouts) (judged : List Judged) (home : Home) (pairs : List (List ℕ × ℕ)) : Type 0 where
+pub record AreLeft (l : Layout) (judged : List Judged) (home : Home) (pairs : List (List ℕ × ℕ)) : Type 0 where
   pub last : Pairs
   pub writes : ℕ
-  pub run : IsRun (bounds_in l home.family) (nothing home) 0 (events_at l times home judged) last writes
+  pub run : IsRun (bounds_in l home.family) (nothing home) 0 (events_at l home judged) last writes
   pub kept : (key : List ℕ) (value : ℕ) → Contains pairs (key, value)
       → bucket_of (sizes_in l home.family) key ≡ home.bucket → get last key ≡ Some value
   pub all : (key : List ℕ) (value : ℕ) → get last key ≡ Some value → Contains pairs (key, value)

@@ -89,8 +89,8 @@ where
     ensures pages { IfOk result (λ v. (are : AreJudged
         (record { layout = layout_of ⟦<A as Shape>⟧ ⟦<B as Shape>⟧; dealing = dealing; workers = workers })
         filter.now.times (policy_facts filter.now.policy) (remaining packets.entry) v.items) (family : Family)
-        → AreFew (layout_of ⟦<A as Shape>⟧ ⟦<B as Shape>⟧) filter.now.times family are.judged
-        → All (HasPagesIn filter.now.times family) are.judged) }
+        → AreFew (layout_of ⟦<A as Shape>⟧ ⟦<B as Shape>⟧) family are.judged
+        → All (HasPagesIn family) are.judged) }
 {
     let (tables, callers) = create_tables::<A, B>(alloc)?;
     let prepared = filter.prepare(alloc, packets.count())?;

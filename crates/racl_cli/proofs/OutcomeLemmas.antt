@@ -117,7 +117,7 @@ reached_by options ready tables workers ages orders packets ended judged timed s
 pub judged_count : (d : Deal) (times : Timeouts) (policy : PolicyFacts) (packets : List PacketFacts) (verdicts : List Verdict)
     (removals : List Removal) → AreJudgedBetween d times policy packets removals verdicts → length verdicts ≡ length packets
 judged_count d times policy packets verdicts removals is =
-    ap length is.said ∙ length-map is.judged (verdict_on times) ∙ sym (length-map is.judged (λ j. j.reading))
+    ap length is.said ∙ length-map is.judged verdict_on ∙ sym (length-map is.judged (λ j. j.reading))
     ∙ sym (zip_count (IsReading policy) packets (readings_of is.judged) is.read)
 
 -- what workers said who ended, and what is told of the capture whose packets they judged

@@ -57,8 +57,8 @@ pub record ByWorkers (options : Options) (ages : Bool) (policy : PolicyFacts) (p
   pub few : workers ≤ options.workers
   pub views : Views
   pub said : AreJudgedAgeing (bucket_deal options.tables workers) options.times ages policy packets verdicts views
-  pub paged : (family : Family) → AreFewBetween (layout_for options.tables) options.times family said.removals said.judged.judged
-      → All (HasPagesIn options.times family) said.judged.judged
+  pub paged : (family : Family) → AreFewBetween (layout_for options.tables) family said.removals said.judged.judged
+      → All (HasPagesIn family) said.judged.judged
   pub places : PassByRecords said.judged
 
 -- where they age, the packets' moments never fall, and packets and removals are no more than the writes that a bucket may have

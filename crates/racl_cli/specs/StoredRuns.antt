@@ -19,4 +19,4 @@ pairs_of stored V6 = stored.six
 pub record AreLeftByOneThread (l : Layout) (times : Timeouts) (policy : PolicyFacts) (packets : List PacketFacts)
     (verdicts : List Verdict) (stored : StoredFacts) : Type 0 where
   pub verdicts_are : AreVerdicts l times policy packets verdicts
-  pub left : (home : Home) → IsHome l home → AreLeft l times verdicts_are.judged home (pairs_of stored home.family)
+  pub left : (home : Home) → IsHome l home → AreLeft l verdicts_are.judged home (pairs_of stored home.family)

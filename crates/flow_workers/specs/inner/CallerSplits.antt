@@ -11,7 +11,6 @@ use Rattle.bihash_rule.specs.Views.{nothing_held}
 use Rattle.bihash_steps.specs.declared.row_and_callers.Caller.{Caller}
 use Rattle.bihash_rule.specs.declared.view.View.{View}
 use Rattle.bihash_table.specs.declared.shared_table.Sessions.{Sessions}
-use Rattle.session_state.specs.declared.timeouts.Timeouts.{Timeouts}
 use Rattle.flow_dealing.specs.AgeingTraces.{Deed, HaveDeeds}
 use Rattle.flow_workers.specs.inner.Fresh.{IsFreshView}
 
@@ -48,15 +47,15 @@ pub record IsJoinedOne {A K : Type 0} (z : Sizes) (table : Sessions A K) (s othe
   pub own : t.row ≡ table.row
   pub free : t.view.holds ≡ nothing_held
   pub lawful : IsLawfulCaller z t.view
-  pub deeds : (of : Sizes) (times : Timeouts) (family : Family) (deeds : List Deed) (all : List (List Deed))
-      → HaveDeeds of times family (deeds ∷ []) s.view → HaveDeeds of times family all others.view
-      → HaveDeeds of times family (deeds ∷ all) t.view
+  pub deeds : (of : Sizes) (family : Family) (deeds : List Deed) (all : List (List Deed))
+      → HaveDeeds of family (deeds ∷ []) s.view → HaveDeeds of family all others.view
+      → HaveDeeds of family (deeds ∷ all) t.view
 
 -- the deeds of all these callers are in this view, in their order
 abbrev pub HasDeedsOf : {A K : Type 0} {g : Ghosts A K} → List (Caller A K g) → View → Type 0
-HasDeedsOf callers v = (of : Sizes) (times : Timeouts) (family : Family) (all : List (List Deed))
-    → AllZip (λ deeds c. HaveDeeds of times family (deeds ∷ []) c.seat.view) all callers
-    → HaveDeeds of times family all v
+HasDeedsOf callers v = (of : Sizes) (family : Family) (all : List (List Deed))
+    → AllZip (λ deeds c. HaveDeeds of family (deeds ∷ []) c.seat.view) all callers
+    → HaveDeeds of family all v
 
 -- the caller t of this table has them, and holds nothing
 pub record AreJoined {A K : Type 0} {g : Ghosts A K} (table : Sessions A K) (callers : List (Caller A K g))

@@ -36,7 +36,7 @@ pub record AreTold (run : RunFacts) (traces : List (List Item)) (gone : LetGo) (
   pub traced : AreTraces run.deal run.times run.policy run.packets traces
   pub count : length all ≡ run.deal.workers
   pub said : (w : ℕ) (trace : List Item) (said : Vec Verdict) → get_elem? traces w ≡ some trace → get_elem? all w ≡ some said
-      → AreSaid run trace (gone w ++ said.items)
+      → AreSaid trace (gone w ++ said.items)
 
 -- at the numbers of each worker's packets stand the verdicts that it said and let go, and these are the verdicts on all packets
 pub record AreInPlace (run : RunFacts) (gone : LetGo) (verdicts : List Verdict) : Type 0 where
@@ -54,7 +54,7 @@ pub record ArePlacedBefore (run : RunFacts) (traces : List (List Item)) (gone : 
       ≡ numbers_from run.deal w (length placed.verdicts.items) (drop (length placed.verdicts.items) views)
   pub each : (w : ℕ) (trace : List Item) → get_elem? traces w ≡ some trace → (k : ℕ) (i : Item)
       → get_elem? trace k ≡ some i → k < length (gone w) + slice_index placed.next w
-      → get_elem? placed.verdicts.items i.packet ≡ some (verdict_in run.times i)
+      → get_elem? placed.verdicts.items i.packet ≡ some (verdict_in i)
 
 -- the verdicts on the packets before these workers' are placed
 pub record MayPlace (run : RunFacts) (traces : List (List Item)) (gone : LetGo) (all : List (Vec Verdict))
@@ -93,7 +93,7 @@ CanMerge all workers verdicts = (run : RunFacts) × (traces : List (List Item)) 
 -- workers let go before.
 abbrev pub AreMerged : List (Vec Verdict) → List ℕ → Vec Verdict → List Verdict → Type 0
 AreMerged all workers before verdicts = (run : RunFacts) (traces : List (List Item)) (gone : LetGo)
-    → MayMerge run traces gone all workers before → ArePlaced run.times run.packets traces verdicts
+    → MayMerge run traces gone all workers before → ArePlaced run.packets traces verdicts
 
 -- the shares have their callers, and nothing that was said
 pub record HaveLetGo {A B K L : Type 0} {ga : Ghosts A K} {gb : Ghosts B L} (old new : List (Share A B K L ga gb))
@@ -123,7 +123,7 @@ pub record IsNext (run : RunFacts) (traces : List (List Item)) (gone : LetGo) (a
   pub few : w < 16
   pub item : Item
   pub at : get_elem? trace (length (gone w) + slice_index placed.next w) ≡ some item
-  pub verdict : get_elem? said.items (slice_index placed.next w) ≡ some (verdict_in run.times item)
+  pub verdict : get_elem? said.items (slice_index placed.next w) ≡ some (verdict_in item)
   pub number : item.packet ≡ length placed.verdicts.items
   pub behind : (v : ℕ) (views : List frames.FrameFacts) → AreFrames run.policy run.packets views
       → numbers_from run.deal v (length placed.verdicts.items) (drop (length placed.verdicts.items) views)

@@ -10,6 +10,7 @@ use Rattle.session_state.specs.declared.verdict.Verdict.TheVariants as verdict
 use Rattle.flow_filter.specs.LazyPatches.{facts_of}
 use Rattle.flow_filter.specs.Readings.{Framed, Reading, Ruled, Ruling}
 use Rattle.flow_filter.specs.Updates.{update_of}
+use Rattle.flow_filter.specs.Judged as judged
 use Rattle.flow_filter.specs.Judged.{verdict_with}
 use Rattle.flow_workers.specs.declared.packet_plan.PacketPlan.{PacketPlan}
 use Rattle.flow_workers.specs.declared.packet_plan.PacketPlan.TheVariants.{Settled, Asks}
@@ -31,6 +32,6 @@ reading_with moment (frames.Ip direction tuple) ruling = Ruled moment tuple ruli
 -- the verdict of a packet without an update, or the update of the others
 abbrev pub IsPacketPlan : {D : Type 0} (g : Ghosts D) → Timeouts → Reading → PacketPlan D g → Type 0
 IsPacketPlan g times reading (Settled verdict) =
-    (update_of times reading ≡ None) × (verdict ≡ verdict_with times reading None)
+    (update_of times reading ≡ None) × (verdict ≡ verdict_with reading judged.Settled)
 IsPacketPlan g times reading (Asks key patch) =
     update_of times reading ≡ Some (record { key = key.now; patch = facts_of g patch })

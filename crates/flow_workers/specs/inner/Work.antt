@@ -24,8 +24,8 @@ pub record RunFacts : Type 0 where
   pub packets : List PacketFacts
   pub ages : Bool
 
-abbrev pub verdict_in : Timeouts → Item → Verdict
-verdict_in times i = verdict_on times (judged_of i)
+abbrev pub verdict_in : Item → Verdict
+verdict_in i = verdict_on (judged_of i)
 
 abbrev pub numbers_of : List Item → List ℕ
 numbers_of is = map (λ i. i.packet) is
@@ -37,8 +37,8 @@ pub record RecordContinues (v w : View) (more : List Call) : Type 0 where
   pub openings : w.known.openings ≡ v.known.openings
 
 -- the verdicts are those of the items, in their order
-abbrev pub AreSaid : RunFacts → List Item → List Verdict → Type 0
-AreSaid run trace verdicts = verdicts ≡ map (verdict_in run.times) trace
+abbrev pub AreSaid : List Item → List Verdict → Type 0
+AreSaid trace verdicts = verdicts ≡ map verdict_in trace
 
 -- A worker has looked at so many packets, judged its own, and removed sessions between them. Whatever deeds are in order from
 -- there on may follow its deeds.
@@ -51,10 +51,10 @@ pub record IsWorkUntil (run : RunFacts) (worker at : ℕ) (v w : Views)
       → numbers_of (items_in deeds) ++ numbers_from run.deal worker at (drop at views) ≡ numbers_from run.deal worker 0 views
   pub removals : All (IsRemovalOf run.deal run.times run.ages run.packets worker) (aged_in deeds)
   pub order : (more : List Deed) → AreInOrder (length run.packets) at more → AreInOrder (length run.packets) 0 (deeds ++ more)
-  pub four : RecordContinues v.four w.four (calls_by run.times V4 deeds)
-  pub six : RecordContinues v.six w.six (calls_by run.times V6 deeds)
+  pub four : RecordContinues v.four w.four (calls_by V4 deeds)
+  pub six : RecordContinues v.six w.six (calls_by V6 deeds)
   pub wanted : KeepWanted run.deal.layout v w
-  pub said : AreSaid run (items_in deeds) verdicts
+  pub said : AreSaid (items_in deeds) verdicts
 
 -- A worker judged its packets, all of them, and removed sessions between them: the calls of its deeds follow what its callers'
 -- records had, and these are its verdicts.
@@ -62,7 +62,7 @@ pub record IsWork (run : RunFacts) (worker : ℕ) (v w : Views)
     (verdicts : List Verdict) : Type 0 where
   pub deeds : List Deed
   pub are : AreDeeds run.deal run.times run.ages worker run.policy run.packets deeds
-  pub four : RecordContinues v.four w.four (calls_by run.times V4 deeds)
-  pub six : RecordContinues v.six w.six (calls_by run.times V6 deeds)
+  pub four : RecordContinues v.four w.four (calls_by V4 deeds)
+  pub six : RecordContinues v.six w.six (calls_by V6 deeds)
   pub wanted : KeepWanted run.deal.layout v w
-  pub said : AreSaid run (items_in deeds) verdicts
+  pub said : AreSaid (items_in deeds) verdicts

@@ -22,8 +22,8 @@ pub record AreResults {A B K L : Type 0} (ga : Ghosts A K) (gb : Ghosts B L) (ta
       × All (λ c. c.seat.row ≡ tables.six.row) results.six.items
   pub free : All (λ c. c.seat.view.holds ≡ nothing_held) results.four.items
       × All (λ c. c.seat.view.holds ≡ nothing_held) results.six.items
-  pub four : AllZip (λ deeds c. HaveDeeds run.deal.layout.four run.times V4 (deeds ∷ []) c.seat.view) all results.four.items
-  pub six : AllZip (λ deeds c. HaveDeeds run.deal.layout.six run.times V6 (deeds ∷ []) c.seat.view) all results.six.items
+  pub four : AllZip (λ deeds c. HaveDeeds run.deal.layout.four V4 (deeds ∷ []) c.seat.view) all results.four.items
+  pub six : AllZip (λ deeds c. HaveDeeds run.deal.layout.six V6 (deeds ∷ []) c.seat.view) all results.six.items
 
 -- these are the parts of the shares
 pub record AreResultsOf {A B K L : Type 0} {ga : Ghosts A K} {gb : Ghosts B L} (shares : List (Share A B K L ga gb))

@@ -1,5 +1,5 @@
 use Rattle.filter_laws.proofs.FullLemmas.{full_by_reading}
-use Rattle.filter_laws.proofs.OrderLemmas.{full_in_order}
+use Rattle.filter_laws.proofs.RowLemmas.{full_in_order}
 use Rattle.filter_laws.proofs.verdict_laws.full_buckets_hold_live_sessions.Goals as goal
 
 pub returns : goal.returns

@@ -18,9 +18,9 @@ loop-caller-init g c =
       left = (own.0, free.0);
       own = own.1;
       free = free.1;
-      deeds = λ z times family all each.
-          let last = last_of (λ deeds k. HaveDeeds z times family (deeds ∷ []) k.seat.view) all _ _
-          (subst (AllZip (λ deeds k. HaveDeeds z times family (deeds ∷ []) k.seat.view) all) popped each) in
+      deeds = λ z family all each.
+          let last = last_of (λ deeds k. HaveDeeds z family (deeds ∷ []) k.seat.view) all _ _
+          (subst (AllZip (λ deeds k. HaveDeeds z family (deeds ∷ []) k.seat.view) all) popped each) in
           (last.front, last.last ∷ [], last.split, last.others, last.one);
     }
 
@@ -55,16 +55,16 @@ loop-caller-preserved g c =
       );
       own = c.join_one-joined.ensures.own;
       free = c.join_one-joined.ensures.free;
-      deeds = λ z times family all each.
-          let old = inv.deeds z times family all each in
-          let last = last_of (λ deeds k. HaveDeeds z times family (deeds ∷ []) k.seat.view) old.0 _ _
-          (subst (AllZip (λ deeds k. HaveDeeds z times family (deeds ∷ []) k.seat.view) old.0) popped old.3) in (
+      deeds = λ z family all each.
+          let old = inv.deeds z family all each in
+          let last = last_of (λ deeds k. HaveDeeds z family (deeds ∷ []) k.seat.view) old.0 _ _
+          (subst (AllZip (λ deeds k. HaveDeeds z family (deeds ∷ []) k.seat.view) old.0) popped old.3) in (
             last.front,
             last.last ∷ old.1,
             old.2 ∙ (ap (λ (ts : List (List Deed)). ts ++ old.1) last.split
                 ∙ append_assoc last.front (last.last ∷ []) old.1),
             last.others,
-            c.join_one-joined.ensures.deeds z times family last.last old.1 last.one old.4,
+            c.join_one-joined.ensures.deeds z family last.last old.1 last.one old.4,
           );
     }
 
@@ -75,8 +75,8 @@ returns g c =
     record {
       own = c.loop-caller.invariant.own;
       free = c.loop-caller.invariant.free;
-      deeds = λ z times family all each.
-          let old = c.loop-caller.invariant.deeds z times family all each in
-          subst (λ ts. HaveDeeds z times family ts c.loop-caller.joined.seat.view)
+      deeds = λ z family all each.
+          let old = c.loop-caller.invariant.deeds z family all each in
+          subst (λ ts. HaveDeeds z family ts c.loop-caller.joined.seat.view)
           (sym (old.2 ∙ ap (λ (ts : List (List Deed)). ts ++ old.1) (no_deeds _ old.0 _ left old.3))) old.4;
     }

@@ -9,8 +9,8 @@ returns g c = record {
   own = ap (λ (s : CallerState). s.row) c.join.ensures.view ∙ c.requires.own.0;
   free = ap (λ (s : CallerState). s.view.holds) c.join.ensures.view ∙ c.requires.free.0;
   lawful = c.join.ensures.lawful;
-  deeds = λ z times family t ts one more.
-      subst (λ (s : CallerState). HaveDeeds z times family (t ∷ ts) s.view) (sym c.join.ensures.view)
-      (joined_deeds c.args.worker.seat.view c.args.others.seat.view c.join.ensures.agree.known z times family t ts one
+  deeds = λ z family t ts one more.
+      subst (λ (s : CallerState). HaveDeeds z family (t ∷ ts) s.view) (sym c.join.ensures.view)
+      (joined_deeds c.args.worker.seat.view c.args.others.seat.view c.join.ensures.agree.known z family t ts one
       more);
 }

@@ -8,8 +8,8 @@ returns g c = record {
   free = c.wait_until_lone.ensures.holds ∙ c.join_all-joined.ensures.free;
   lawful = c.wait_until_lone.ensures.lawful;
   whole = c.wait_until_lone.ensures.whole;
-  deeds = λ z times family all each.
-      same_deeds z times family all c.join_all-joined.result.seat.view c.wait_until_lone.new.caller.seat.view
+  deeds = λ z family all each.
+      same_deeds z family all c.join_all-joined.result.seat.view c.wait_until_lone.new.caller.seat.view
       c.wait_until_lone.ensures.records c.wait_until_lone.ensures.known
-      (c.join_all-joined.ensures.deeds z times family all each);
+      (c.join_all-joined.ensures.deeds z family all each);
 }

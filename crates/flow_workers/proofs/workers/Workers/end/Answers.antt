@@ -40,7 +40,7 @@ returns g c = record {
       (record { four = c.join_worker_callers.result.seat.view; six = c.join_worker_callers-2.result.seat.view })
       (c.join_worker_callers.ensures.lawful, c.join_worker_callers-2.ensures.lawful)
       (c.join_worker_callers.ensures.whole, c.join_worker_callers-2.ensures.whole)
-      (c.join_worker_callers.ensures.deeds _ _ V4 p.all p.four) (c.join_worker_callers-2.ensures.deeds _ _ V6 p.all p.six)
+      (c.join_worker_callers.ensures.deeds _ V4 p.all p.four) (c.join_worker_callers-2.ensures.deeds _ V6 p.all p.six)
       c.all_verdicts.result.items
       (all_verdicts_placed _ (map items_in p.all) rest.gone c.in_ok-four.field-0.said.items c.args.self.verdicts p.told rest.merged rest.kept
       c.all_verdicts.result.items c.all_verdicts.ensures);
