@@ -1,14 +1,14 @@
 // Searches in a table of many pairs with keys of two words, for bench/measure_large: in a large table of the library for C,
 // or with PEER_RTE in DPDK's rte_hash, with PEER_LFHT in liburcu's cds_lfht. It enters the pairs that it is told to, as
-// many as the table takes, and writes lines: the pairs, what was searched, the threads, the calls of each, the
-// microseconds that they took, and how many found a value.
+// many as the table takes, and writes lines: the pairs, what was searched (in bursts: 32 stored keys are looked at ahead, and
+// then each is searched), the threads, the calls of each, the microseconds that they took, and how many found a value.
 #include <pthread.h>
 #include <stdint.h>
 #include <stdio.h>
 #include <stdlib.h>
 #include <time.h>
 
-enum { THREADS = 4, CALLS = 2000000 };
+enum { THREADS = 4, CALLS = 2000000, BURST = 32 };
 static const uint64_t ABSENT = UINT64_C(1) << 40;
 
 #if defined(PEER_RTE)
@@ -86,17 +86,29 @@ static inline int search(int thread, const uint64_t *key) {
 
 #include "bihash.h"
 
-static bihash4_handle callers[THREADS];
+#define LOOKS_AHEAD
 
-static int make(uint64_t pairs) { return (void)pairs, bihash4_create_large(&callers[0]) != BIHASH_DONE; }
-static int split(int thread) { return bihash4_split_wait(&callers[0], &callers[thread]) != BIHASH_DONE; }
+static bihash_handle callers[THREADS];
+
+static int make(uint64_t pairs) {
+    bihash_options options = BIHASH_OPTIONS(2, BIHASH_LARGE);
+    return (void)pairs, bihash_create(&callers[0], &options) != BIHASH_DONE;
+}
+static int split(int thread) { return bihash_split_wait(&callers[0], &callers[thread]) != BIHASH_DONE; }
 static void begin(void) {}
 static void end(void) {}
-static int enter(const uint64_t *key, uint64_t value) {
-    return bihash4_add_wait(&callers[0], key, value).kind == BIHASH_ADDED;
+static inline bihash_key key_of(const uint64_t *words) {
+    bihash_key key;
+    key.words[0] = words[0], key.words[1] = words[1];
+    return key;
 }
-static inline int search(int thread, const uint64_t *key) {
-    return bihash4_search_wait(&callers[thread], key).kind == BIHASH_FOUND;
+static int enter(const uint64_t *words, uint64_t value) {
+    bihash_key key = key_of(words);
+    return bihash_add_wait(&callers[0], &key, value).kind == BIHASH_ADDED;
+}
+static inline int search(int thread, const uint64_t *words) {
+    bihash_key key = key_of(words);
+    return bihash_search_wait(&callers[thread], &key).kind == BIHASH_FOUND;
 }
 
 #endif
@@ -113,36 +125,55 @@ static uint64_t microseconds(void) {
 }
 
 struct share {
-    int thread;
-    uint64_t from, pairs, calls, found;
+    int thread, in_bursts;
+    uint64_t from, pairs, calls, random, found;
 };
 
+static inline void next_key(struct share *share, uint64_t key[2]) {
+    share->random = share->random * UINT64_C(6364136223846793005) + UINT64_C(1442695040888963407);
+    numbered(share->from + (((share->random >> 33) * share->pairs) >> 31), key);
+}
+
 static void work(struct share *share) {
-    uint64_t random = (uint64_t)share->thread, key[2];
-    share->found = 0;
+    uint64_t key[2];
     for (uint64_t i = 0; i < share->calls; i++) {
-        random = random * UINT64_C(6364136223846793005) + UINT64_C(1442695040888963407);
-        numbered(share->from + (((random >> 33) * share->pairs) >> 31), key);
+        next_key(share, key);
         share->found += (uint64_t)search(share->thread, key);
     }
 }
 
-static void *run(void *share) {
+#ifdef LOOKS_AHEAD
+static void work_in_bursts(struct share *share) {
+    bihash_handle *caller = &callers[share->thread];
+    bihash_key keys[BURST];
+    for (uint64_t i = 0; i < share->calls; i += BURST) {
+        for (int k = 0; k < BURST; k++) next_key(share, keys[k].words);
+        bihash_look_ahead(caller, keys, BURST);
+        for (int k = 0; k < BURST; k++) share->found += bihash_search_wait(caller, &keys[k]).kind == BIHASH_FOUND;
+    }
+}
+#else
+static void work_in_bursts(struct share *share) { work(share); }
+#endif
+
+static void *run(void *given) {
+    struct share *share = given;
     begin();
-    work(share);
+    share->in_bursts ? work_in_bursts(share) : work(share);
     end();
     return NULL;
 }
 
-static int line(uint64_t pairs, int threads, const char *what, uint64_t from) {
+static int line(uint64_t pairs, int threads, const char *what, uint64_t from, int in_bursts) {
     pthread_t running[THREADS];
     struct share shares[THREADS];
     uint64_t calls = CALLS / (uint64_t)threads, found = 0, start = microseconds();
     for (int i = 0; i < threads; i++) {
-        shares[i] = (struct share){.thread = i, .from = from, .pairs = pairs, .calls = calls};
+        shares[i] = (struct share){
+            .thread = i, .in_bursts = in_bursts, .from = from, .pairs = pairs, .calls = calls, .random = (uint64_t)i};
         if (i && pthread_create(&running[i], NULL, run, &shares[i])) return 1;
     }
-    work(&shares[0]);
+    in_bursts ? work_in_bursts(&shares[0]) : work(&shares[0]);
     for (int i = 1; i < threads; i++) pthread_join(running[i], NULL);
     for (int i = 0; i < threads; i++) found += shares[i].found;
     printf("%llu %s %d %llu %llu %llu\n", (unsigned long long)pairs, what, threads, (unsigned long long)calls,
@@ -159,7 +190,11 @@ int main(int count, char **words) {
         numbered(entered, key);
         if (!enter(key, entered + 1)) break;
     }
-    for (int threads = 1; threads <= THREADS; threads += THREADS - 1)
-        if (line(entered, threads, "hit", 0) || line(entered, threads, "absent", ABSENT)) return 1;
+    for (int threads = 1; threads <= THREADS; threads += THREADS - 1) {
+        if (line(entered, threads, "hit", 0, 0) || line(entered, threads, "absent", ABSENT, 0)) return 1;
+#ifdef LOOKS_AHEAD
+        if (line(entered, threads, "bursts", 0, 1)) return 1;
+#endif
+    }
     return 0;
 }

@@ -20,7 +20,7 @@ static const uint8_t OWN_MAC[6] = {2, 0, 0, 0, 0, 1};
 
 /* `side` is 0 where the sender is the end that comes first. */
 struct packet {
-    uint64_t key[2];
+    bihash_key key;
     uint32_t second, side, flags;
     int is_outward, is_tcp;
 };
@@ -37,8 +37,8 @@ static uint32_t little(const uint8_t *at) { return at[0] | at[1] << 8 | at[2] <<
 static void set_flow(struct packet *packet, uint64_t sender, uint64_t receiver, uint64_t protocol) {
     packet->side = sender > receiver;
     uint64_t first = packet->side ? receiver : sender, second = packet->side ? sender : receiver;
-    packet->key[0] = first >> 16 << 32 | second >> 16;
-    packet->key[1] = (first & 0xffff) << 48 | (second & 0xffff) << 32 | protocol << 24;
+    packet->key.words[0] = first >> 16 << 32 | second >> 16;
+    packet->key.words[1] = (first & 0xffff) << 48 | (second & 0xffff) << 32 | protocol << 24;
 }
 
 /* What a frame has, which is looked at as RFC 791 and the headers behind it say. */
@@ -75,18 +75,18 @@ static uint64_t with_packet(uint64_t value, const struct packet *packet) {
     return value | (uint64_t)packet->flags << (32 + 8 * packet->side) | (uint64_t)packet->is_tcp << 48;
 }
 
-/* One thread judges here. Where several do, each flow is dealt to one of them, by bihash4_bucket_of_large of its key, since
+/* One thread judges here. Where several do, each flow is dealt to one of them, by bihash_bucket_of of its key, since
    a session is looked up and changed by two calls. */
-static const char *judge(bihash4_handle *caller, const struct packet *packet) {
-    bihash_answer found = bihash4_search_wait(caller, packet->key);
+static const char *judge(bihash_handle *caller, const struct packet *packet) {
+    bihash_answer found = bihash_search_wait(caller, &packet->key);
     int is_live = found.kind == BIHASH_FOUND && packet->second <= live_until(found.value);
     if (!is_live && !packet->is_outward) {
-        if (found.kind == BIHASH_FOUND) bihash4_remove_wait(caller, packet->key);
+        if (found.kind == BIHASH_FOUND) bihash_remove_wait(caller, &packet->key);
         return "drop default";
     }
     bihash_expiry expiry = bihash_expiry_at(packet->second, TCP_ESTABLISHED);
     uint64_t value = with_packet(is_live ? found.value : 0, packet);
-    switch (bihash4_add_or_recycle_wait(caller, packet->key, value, &expiry).kind) {
+    switch (bihash_add_or_recycle_wait(caller, &packet->key, value, &expiry).kind) {
     case BIHASH_FULL: return "drop full";
     case BIHASH_NO_PAGES: return "drop no-pages";
     case BIHASH_WORN:
@@ -95,7 +95,7 @@ static const char *judge(bihash4_handle *caller, const struct packet *packet) {
     }
 }
 
-static int judge_capture(bihash4_handle *caller, FILE *capture) {
+static int judge_capture(bihash_handle *caller, FILE *capture) {
     static uint8_t frame[MOST_BYTES];
     uint8_t header[24], record[16];
     long packets = 0, passed = 0;
@@ -116,10 +116,11 @@ static int judge_capture(bihash4_handle *caller, FILE *capture) {
 }
 
 int main(void) {
-    bihash4_handle table;
-    if (bihash4_create_large(&table) != BIHASH_DONE) return 1;
+    bihash_options options = BIHASH_OPTIONS(2, BIHASH_LARGE);
+    bihash_handle table;
+    if (bihash_create(&table, &options) != BIHASH_DONE) return 1;
     int status = judge_capture(&table, stdin);
     if (status) fprintf(stderr, "not a whole capture of TCP and UDP over IPv4\n");
-    bihash4_free(&table);
+    bihash_free(&table);
     return status;
 }

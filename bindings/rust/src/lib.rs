@@ -24,8 +24,10 @@
 //! ```
 
 mod calls;
+mod family;
 
-use calls::{Expiry as RawExpiry, Handle, RawAnswer};
+use calls::{Expiry as RawExpiry, Handle, Key, RawAnswer};
+use family::options;
 use std::cell::Cell;
 use std::fmt;
 use std::hint::spin_loop;
@@ -34,7 +36,7 @@ use std::mem::{ManuallyDrop, MaybeUninit};
 use std::ops::{Deref, DerefMut, Range};
 use std::sync::atomic::{AtomicU64, Ordering};
 
-pub use calls::{Family, V4, V6};
+pub use family::{Family, V4, V6};
 
 /// The value that may not be set, all ones.
 pub const NO_VALUE: u64 = u64::MAX;
@@ -133,10 +135,10 @@ fn checked(value: u64) -> u64 {
 
 /// What is behind a handle, freed with it. The number is that of the table.
 struct Held<F: Family> {
-    handle: Handle<F>,
+    handle: Handle,
     table: u64,
     // Not `Sync`: a handle is for one thread at a time.
-    of_one: PhantomData<Cell<()>>,
+    of_one: PhantomData<(F, Cell<()>)>,
 }
 
 // The library proves that its handles may go to other threads.
@@ -144,7 +146,7 @@ unsafe impl<F: Family> Send for Held<F> {}
 
 impl<F: Family> Drop for Held<F> {
     fn drop(&mut self) {
-        unsafe { F::free(&mut self.handle) }
+        unsafe { calls::bihash_free(&mut self.handle) }
     }
 }
 
@@ -160,6 +162,9 @@ pub struct Table<F: Family> {
 }
 
 static TABLES: AtomicU64 = AtomicU64::new(0);
+
+// How many keys go to the library at once.
+const BURST: usize = 32;
 
 /// The calls on a key, one try each, and the same until a try is answered.
 macro_rules! calls {
@@ -177,7 +182,7 @@ macro_rules! calls {
 
             /// The same in one try.
             pub fn $try_name(&mut self, key: &F::Key, $($given: $kind),*) -> Result<Answer, Contended> {
-                let ($h, $k) = (&mut self.held.handle, key);
+                let ($h, $k) = (&mut self.held.handle, &F::raw(key));
                 answer_of(unsafe { $call })
             }
         )*
@@ -189,7 +194,7 @@ impl<F: Family> Caller<F> {
     pub fn split(&mut self) -> Result<Caller<F>, Fault> {
         let mut fresh = Handle::none();
         loop {
-            match done(unsafe { F::split(&mut self.held.handle, &mut fresh) }) {
+            match done(unsafe { calls::bihash_split(&mut self.held.handle, &mut fresh) }) {
                 Err(Fault::Contended) => spin_loop(),
                 Err(fault) => return Err(fault),
                 Ok(()) => break,
@@ -198,7 +203,7 @@ impl<F: Family> Caller<F> {
         Ok(Caller::of(fresh, self.held.table))
     }
 
-    fn of(handle: Handle<F>, table: u64) -> Caller<F> {
+    fn of(handle: Handle, table: u64) -> Caller<F> {
         let of_one = PhantomData;
         Caller { held: Held { handle, table, of_one } }
     }
@@ -210,7 +215,7 @@ impl<F: Family> Caller<F> {
         }
         // The library takes what is behind its handle, so nothing is freed here.
         let mut other = ManuallyDrop::new(other);
-        unsafe { F::join(&mut self.held.handle, &mut other.held.handle) };
+        unsafe { calls::bihash_join(&mut self.held.handle, &mut other.held.handle) };
         Ok(())
     }
 
@@ -218,43 +223,55 @@ impl<F: Family> Caller<F> {
     pub fn meet(&mut self, other: &mut Caller<F>) -> bool {
         let is_same = other.held.table == self.held.table;
         if is_same {
-            unsafe { F::meet(&mut self.held.handle, &mut other.held.handle) };
+            unsafe { calls::bihash_meet(&mut self.held.handle, &mut other.held.handle) };
         }
         is_same
     }
 
     /// Whether every other caller of the table was joined into this one.
     pub fn is_lone(&mut self) -> bool {
-        unsafe { F::is_lone(&mut self.held.handle) }
+        unsafe { calls::bihash_is_lone(&mut self.held.handle) }
     }
 
     /// The bucket of the last answered call, and how many changes the bucket had when that was done, its own included.
     pub fn stamp(&mut self) -> Option<(u64, u64)> {
-        let stamp = unsafe { F::stamp(&mut self.held.handle) };
+        let stamp = unsafe { calls::bihash_stamp_of(&mut self.held.handle) };
         (stamp.known != 0).then_some((stamp.bucket, stamp.stamp))
     }
 
     calls! {
         /// The value of the key.
-        search, try_search() => |handle, key| F::search(handle, key);
+        search, try_search() => |handle, key| calls::bihash_search(handle, key);
         /// Sets the value, whatever was found. Panics at `NO_VALUE`.
-        add, try_add(value: u64) => |handle, key| F::add(handle, key, checked(value));
+        add, try_add(value: u64) => |handle, key| calls::bihash_add(handle, key, checked(value));
         /// Sets the value where there is none. Panics at `NO_VALUE`.
-        add_if_absent, try_add_if_absent(value: u64) => |handle, key| F::add_if_absent(handle, key, checked(value));
+        add_if_absent, try_add_if_absent(value: u64) => |handle, key| calls::bihash_add_if_absent(handle, key, checked(value));
         /// Sets the value where there is one. Panics at `NO_VALUE`.
-        touch, try_touch(value: u64) => |handle, key| F::touch(handle, key, checked(value));
+        touch, try_touch(value: u64) => |handle, key| calls::bihash_touch(handle, key, checked(value));
         /// Sets the value where the key still has the value `was`; `Found` tells another one that is there. Panics at
         /// `NO_VALUE`.
         replace_if, try_replace_if(was: u64, value: u64) => |handle, key|
-            F::replace_if(handle, key, was, checked(value));
+            calls::bihash_replace_if(handle, key, was, checked(value));
         /// Takes the value away.
-        remove, try_remove() => |handle, key| F::remove(handle, key);
+        remove, try_remove() => |handle, key| calls::bihash_remove(handle, key);
         /// As `add`; in a full bucket the new pair takes the place of the expired one with the least key.
         add_or_recycle, try_add_or_recycle(value: u64, expiry: Expiry) => |handle, key|
-            F::add_or_recycle(handle, key, checked(value), &expiry.raw());
+            calls::bihash_add_or_recycle(handle, key, checked(value), &expiry.raw());
         /// As `add_if_absent`, in the same way.
         add_if_absent_or_recycle, try_add_if_absent_or_recycle(value: u64, expiry: Expiry) => |handle, key|
-            F::add_if_absent_or_recycle(handle, key, checked(value), &expiry.raw());
+            calls::bihash_add_if_absent_or_recycle(handle, key, checked(value), &expiry.raw());
+    }
+
+    /// Loads what calls on these keys will load first, so that the processor waits for all of it at once, and tells nothing:
+    /// before bursts of calls on a table that is larger than the processor's caches.
+    pub fn look_ahead(&mut self, keys: &[F::Key]) {
+        for burst in keys.chunks(BURST) {
+            let mut raw = [Key { words: [0; 5] }; BURST];
+            for (own, key) in raw.iter_mut().zip(burst) {
+                *own = F::raw(key);
+            }
+            unsafe { calls::bihash_look_ahead(&mut self.held.handle, raw.as_ptr(), burst.len()) };
+        }
     }
 
     /// Looks at a bucket, and takes away one pair there whose value is expired: `Replaced` with the value that went, or
@@ -271,7 +288,7 @@ impl<F: Family> Caller<F> {
 
     /// The same in one try.
     pub fn try_expire(&mut self, bucket: u64, expiry: Expiry) -> Result<Answer, Contended> {
-        answer_of(unsafe { F::expire(&mut self.held.handle, bucket, &expiry.raw()) })
+        answer_of(unsafe { calls::bihash_expire(&mut self.held.handle, bucket, &expiry.raw()) })
     }
 
     /// Takes the expired pairs of these buckets away, of each until a look finds none there or its changes are used up,
@@ -290,42 +307,45 @@ impl<F: Family> Caller<F> {
 impl<F: Family> Table<F> {
     /// A new table.
     pub fn new() -> Result<Table<F>, Fault> {
-        Table::made(F::create)
+        Table::made(false)
     }
 
     /// A new large table: 65,536 buckets, 1,048,576 places in all.
     pub fn large() -> Result<Table<F>, Fault> {
-        Table::made(F::create_large)
+        Table::made(true)
     }
 
-    fn made(create: unsafe fn(&mut Handle<F>) -> u32) -> Result<Table<F>, Fault> {
+    fn made(is_large: bool) -> Result<Table<F>, Fault> {
         let mut handle = Handle::none();
-        done(unsafe { create(&mut handle) })?;
+        done(unsafe { calls::bihash_create(&mut handle, &options::<F>(is_large)) })?;
         Ok(Table { caller: Caller::of(handle, TABLES.fetch_add(1, Ordering::Relaxed)) })
     }
 
     /// Opens the table again: its pairs stay, and its buckets count their changes anew. All callers were joined before.
     pub fn renew(&mut self) -> Result<(), Fault> {
-        done(unsafe { F::renew(&mut self.caller.held.handle) })
+        done(unsafe { calls::bihash_renew(&mut self.caller.held.handle) })
     }
 
     /// Ends the table, and gives its pairs in the order of their keys. All callers were joined before; refused, the
     /// table comes back.
     pub fn close(mut self) -> Result<Vec<(F::Key, u64)>, (Fault, Table<F>)> {
         let handle = &mut self.caller.held.handle;
-        if let Err(fault) = done(unsafe { F::close(handle) }) {
+        if let Err(fault) = done(unsafe { calls::bihash_close(handle) }) {
             return Err((fault, self));
         }
-        let count = unsafe { F::pair_count(handle) };
+        let count = unsafe { calls::bihash_pair_count(handle) };
         Ok((0..count).map_while(|at| pair_at::<F>(handle, at)).collect())
     }
 }
 
 /// The pair at a place, of a table that was closed.
-fn pair_at<F: Family>(handle: &mut Handle<F>, at: u64) -> Option<(F::Key, u64)> {
+fn pair_at<F: Family>(handle: &mut Handle, at: u64) -> Option<(F::Key, u64)> {
     let mut pair = MaybeUninit::uninit();
-    let is_there = unsafe { F::pair_at(handle, at, pair.as_mut_ptr()) };
-    is_there.then(|| F::parts(unsafe { pair.assume_init() }))
+    let is_there = unsafe { calls::bihash_pair_at(handle, at, pair.as_mut_ptr()) };
+    is_there.then(|| {
+        let pair = unsafe { pair.assume_init() };
+        (F::of_raw(pair.key), pair.value)
+    })
 }
 
 impl<F: Family> fmt::Debug for Caller<F> {

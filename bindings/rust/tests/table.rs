@@ -76,6 +76,9 @@ fn each_call_has_its_answer() {
     assert_eq!(table.touch(&key, 8), Answer::Replaced(7));
     assert_eq!(table.try_search(&key), Ok(Answer::Found(8)));
     assert_eq!(table.stamp(), Some((V6::bucket_of(&key), 2)));
+    table.look_ahead(&[key; 70]);
+    table.look_ahead(&[]);
+    assert_eq!(table.stamp(), Some((V6::bucket_of(&key), 2)));
     assert_eq!(table.replace_if(&key, 7, 9), Answer::Found(8));
     assert_eq!(table.replace_if(&key, 8, 9), Answer::Replaced(8));
     assert_eq!(table.replace_if(&[0; 5], 0, 9), Answer::Absent);

@@ -1,3 +1,2 @@
-pub mod AsBox4
-pub mod AsBox6
+pub mod AsBox
 pub mod LoneAnswers

@@ -1,5 +1,5 @@
 -- What is behind a handle, and what a call makes of it.
-use Rattle.std.specs.Prelude.{◌≡◌, ◌⊎◌, ℕ, Bool, true, false, length, slice_get, Option, Some, None, Result}
+use Rattle.std.specs.Prelude.{◌≡◌, ◌⊎◌, ℕ, Bool, length, slice_get, Option, Result}
 use Rattle.bihash_words.specs.Sizes.{Sizes, sizes_of}
 use Rattle.bihash_words.specs.declared.shape.Shape.{Ghosts}
 use Rattle.bihash_words.specs.declared.patch.Change.{Change}
@@ -122,8 +122,3 @@ abbrev pub PairTold : {A K : Type 0} → Content A K → ℕ → Option (K × �
 PairTold Empty at found = ⊥
 PairTold (Caller s) at found = ⊥
 PairTold (Pairs ps) at found = found ≡ slice_get ps.items at
-
--- the pair that was found was given, or there was none
-abbrev pub IsGiven : {K : Type 0} → Option (K × ℕ) → (before after : K × ℕ) → Bool → Type 0
-IsGiven None before after given = (given ≡ false) × (after ≡ before)
-IsGiven (Some pair) before after given = (given ≡ true) × (after ≡ pair)

@@ -1,10 +1,13 @@
 pub mod Answers
+pub mod AnyContents
 pub mod CallersWithTable
 pub mod Contents
-pub mod EitherSizes
 pub mod EndFaults
 pub mod Expiries
-pub mod Handles4
-pub mod Handles6
+pub mod Handles
+pub mod Keys
+pub mod Kinds
+pub mod Options
+pub mod Pairs
 pub mod Replacements
 pub mod TableShares

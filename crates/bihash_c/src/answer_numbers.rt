@@ -45,6 +45,9 @@ pub const NUMBERS: u32 = 10;
 /// Some caller was not joined.
 pub const STRANGERS: u32 = 11;
 
+/// A table of no kind was asked for.
+pub const BAD_OPTIONS: u32 = 12;
+
 /// The answer of a call on a key.
 #[repr(C)]
 #[derive(Clone, Copy, Debug, PartialEq, Eq)]

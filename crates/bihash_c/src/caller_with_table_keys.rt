@@ -55,4 +55,16 @@ impl<S: Shape> CallerWithTable<S> {
         }
         sessions.try_expire(&mut self.caller, bucket as usize, expiry)
     }
+
+    /// Loads what calls on keys with these hashes load first of the caller's table: the buckets, and then the pages. It leaves
+    /// nothing that a clause could name.
+    pub fn look_ahead(&self, hashes: &[u64]) {
+        let sessions = self.share.sessions();
+        for hash in hashes {
+            sessions.peek_bucket(*hash);
+        }
+        for hash in hashes {
+            sessions.peek_page(*hash);
+        }
+    }
 }

@@ -59,4 +59,15 @@ impl<S: Shape> Content<S> {
         };
         expire_answer(caller.expire(bucket, expiry))
     }
+
+    /// Loads what calls on keys with these hashes load first. It leaves nothing that a clause could name.
+    #[inline(always)]
+    pub fn look_ahead(&self, hashes: &[u64])
+        requires { HasCaller self.now }
+    {
+        let Content::Caller(caller) = self else {
+            unreachable!();
+        };
+        caller.look_ahead(hashes);
+    }
 }

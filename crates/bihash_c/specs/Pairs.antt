@@ -1,0 +1,19 @@
+-- The pairs of a table that was closed, for C.
+use Rattle.std.specs.Prelude.{◌≡◌, ℕ, Bool, true, false, List, Option, None, Some}
+use Rattle.bihash_c.specs.Keys.{padded}
+use Rattle.bihash_c.specs.declared.pair.Pair.{Pair}
+
+-- a pair whose key has two words
+abbrev pub of_two : Option (List ℕ × ℕ) → Option Pair
+of_two None = None
+of_two (Some pair) = Some (record { key = record { words = padded pair.0 }; value = pair.1 })
+
+-- a pair whose key has five words
+abbrev pub of_five : Option (List ℕ × ℕ) → Option Pair
+of_five None = None
+of_five (Some pair) = Some (record { key = record { words = pair.0 }; value = pair.1 })
+
+-- the pair that was found was given, or there was none
+abbrev pub IsGiven : Option Pair → (before after : Pair) → Bool → Type 0
+IsGiven None before after given = (given ≡ false) × (after ≡ before)
+IsGiven (Some pair) before after given = (given ≡ true) × (after ≡ pair)

@@ -1,0 +1,78 @@
+//! A handle: a pointer whose type names no other type, so that it may go to C.
+ghost use Rattle.std.specs.Prelude.{◌≡◌, None, Option, Some};
+ghost use Rattle.bihash_c.specs.declared.place.Place.{Place};
+ghost use Rattle.bihash_c.specs.Handles.{HasPlace, content_in, handle_owns};
+
+use crate::box_raw_parts::Parts;
+use crate::place::Place;
+use std::alloc::Global;
+use std::marker::Model;
+use std::mem;
+use std::ptr::null_mut;
+
+/// A handle. Null: nothing is behind it.
+#[repr(C)]
+#[derive(Drop)]
+pub struct Handle {
+    at: *mut u8,
+    alloc: Global,
+    pub ghost place: { Option Place },
+}
+
+impl Model for Handle {
+    ghost also_owns = { λ h. handle_owns h.alloc h.at h.place };
+}
+
+impl Handle {
+    // A handle with nothing behind it.
+    fn empty(alloc: Global) -> Handle
+        ensures { result.place ≡ None }
+    {
+        Handle {
+            at: null_mut(),
+            alloc,
+        }
+    }
+
+    fn of_parts(parts: Parts<Place, Global>) -> Handle
+        ensures { result.place ≡ Some parts.value }
+    {
+        let Parts { ptr, alloc } = parts;
+        Handle {
+            at: ptr as *mut u8,
+            alloc,
+        }
+    }
+
+    fn into_parts(self) -> Parts<Place, Global>
+        requires { (p : Place) × (self.place ≡ Some p) }
+        ensures { Some result.value ≡ self.place }
+    {
+        let Handle { at, alloc } = self;
+        Parts {
+            ptr: at as *mut Place,
+            alloc,
+        }
+    }
+
+    /// Takes the place, and leaves a handle with nothing behind it.
+    #[inline(always)]
+    pub(crate) fn take(&mut self, alloc: Global) -> Box<Place, Global>
+        requires full { HasPlace self.old.place }
+        ensures taken { content_in self.old.place ≡ result.value.content }
+        ensures empty { self.new.place ≡ None }
+    {
+        let full = mem::replace(self, Handle::empty(alloc));
+        full.into_parts().into_box()
+    }
+
+    /// Puts a place behind the handle. What was behind it is let go of.
+    #[inline(always)]
+    pub(crate) fn put(&mut self, place: Box<Place, Global>)
+        ensures { content_in self.new.place ≡ place.value.content }
+    {
+        *self = Handle::of_parts(Parts::of(place));
+    }
+}
+
+unsafe impl Send for Handle {}
