@@ -1,8 +1,11 @@
 pub mod Ageing
+pub mod Closings
 pub mod Counting
 pub mod FlowBuckets
 pub mod Judges
 pub mod JudgeStates
+pub mod Meetings
 pub mod Renewals
+pub mod Sweeps
 pub mod TablesShares
 pub mod Ways

@@ -1,6 +1,6 @@
-//! Callers of both families' tables, split and joined.
+//! Callers of both families' tables, split, told of one another, and joined.
 ghost use Rattle.std.specs.Prelude.{◌≡◌, IfOk, IfErr};
-ghost use Rattle.bihash_steps.specs.CallerCalls.{IsJoined};
+ghost use Rattle.bihash_steps.specs.CallerCalls.{AreInformed, IsJoined};
 ghost use Rattle.bihash_words.specs.Sizes.{sizes_of};
 ghost use Rattle.flow_filter.specs.OneThread.{layout_of};
 ghost use Rattle.flow_workers.specs.Callers.{AreIdle};
@@ -61,4 +61,28 @@ pub fn join_callers<A: Shape, B: Shape>(
     let four = tables.four.join(callers.four, others.four);
     let six = tables.six.join(callers.six, others.six);
     Callers { four, six }
+}
+
+/// Callers of the same tables, each of which knows what either knew.
+pub fn meet_callers<A: Shape, B: Shape>(
+    tables: &Tables<A, B>,
+    callers: Callers<A, B>,
+    others: Callers<A, B>,
+) -> (Callers<A, B>, Callers<A, B>)
+    requires first { AreIdle ⟦<A as Shape>⟧ ⟦<B as Shape>⟧ tables.now callers }
+    requires second { AreIdle ⟦<A as Shape>⟧ ⟦<B as Shape>⟧ tables.now others }
+    ensures four { AreInformed (sizes_of A.Shape) callers.four.seat others.four.seat result.0.four.seat result.1.four.seat }
+    ensures six { AreInformed (sizes_of B.Shape) callers.six.seat others.six.seat result.0.six.seat result.1.six.seat }
+    ensures idle { AreIdle ⟦<A as Shape>⟧ ⟦<B as Shape>⟧ tables.now result.0 }
+    ensures other { AreIdle ⟦<A as Shape>⟧ ⟦<B as Shape>⟧ tables.now result.1 }
+{
+    let (four, other_four) = tables.four.meet(callers.four, others.four);
+    let (six, other_six) = tables.six.meet(callers.six, others.six);
+    (
+        Callers { four, six },
+        Callers {
+            four: other_four,
+            six: other_six,
+        },
+    )
 }
