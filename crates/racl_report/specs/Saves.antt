@@ -20,3 +20,8 @@ HasSaved bytes parts chosen verdicts None None = ⊤
 HasSaved bytes parts chosen verdicts (Some old) (Some new) =
     (saved : List ℕ) × AreSaved parts.form chosen parts.content verdicts saved × Appends (bytes old) (bytes new) saved
 HasSaved bytes parts chosen verdicts _ _ = ⊥
+
+-- how often a file failed, where there is one
+abbrev pub failures_of : {S : Type 0} → (S → ℕ) → Option S → ℕ
+failures_of failures None = 0
+failures_of failures (Some file) = failures file

@@ -1,5 +1,5 @@
 //! Packets of an input that are saved.
-ghost use Rattle.std.specs.Prelude.{◌≡◌, ◌-◌, ◌<◌, ◌^◌, ℕ, List, IfErr, IfSome, OnOk};
+ghost use Rattle.std.specs.Prelude.{◌≡◌, ◌+◌, ◌-◌, ◌<◌, ◌^◌, ℕ, List, IfErr, IfSome, OnErr, OnOk};
 ghost use Rattle.acl_policy.specs.Policies.{PolicyFacts};
 ghost use Rattle.packet_view.specs.Captures.{PacketFacts};
 ghost use Rattle.racl_io.specs.declared.fault.Fault.TheVariants.{Write};
@@ -7,7 +7,7 @@ ghost use Rattle.racl_io.specs.declared.totals_and_truncation.Captured.{Captured
 ghost use Rattle.racl_io.specs.Inputs.{InputFacts, IsInput, input_facts};
 ghost use Rattle.racl_views.specs.declared.chosen_packets.Chosen.TheVariants.{Dropped, Passing};
 ghost use Rattle.racl_report.specs.ReadInputs.{IsRead};
-ghost use Rattle.racl_report.specs.Saves.{HasSaved};
+ghost use Rattle.racl_report.specs.Saves.{HasSaved, failures_of};
 
 use racl_io::{Fault, Form, Input, Sink, split_input};
 use racl_views::{Chosen, write_chosen};
@@ -32,6 +32,8 @@ fn save_chosen<S: Sink>(
         → IsInput bytes (input_facts input.entry) → IsRead bytes policy packets captures
         → HasSaved S.bytes (input_facts input.entry) chosen verdicts.now file.old file.new) }
     ensures fault { IfErr result (λ fault. fault ≡ Write) }
+    ensures steady { OnOk result (failures_of S.failures file.new ≡ failures_of S.failures file.old) }
+    ensures failed { OnErr result (failures_of S.failures file.new ≡ failures_of S.failures file.old + 1) }
 {
     let Some(sink) = file else {
         return Ok(());
@@ -54,6 +56,10 @@ pub fn save_packets<S: Sink>(
         → (parts : InputFacts) × IsInput bytes.now parts × HasSaved S.bytes parts Dropped verdicts.now saves.old.drops saves.new.drops
         × HasSaved S.bytes parts Passing verdicts.now saves.old.passes saves.new.passes) }
     ensures fault { IfErr result (λ fault. fault ≡ Write) }
+    ensures steady { OnOk result ((failures_of S.failures saves.new.drops ≡ failures_of S.failures saves.old.drops)
+        × (failures_of S.failures saves.new.passes ≡ failures_of S.failures saves.old.passes)) }
+    ensures failed { OnErr result (failures_of S.failures saves.new.drops + failures_of S.failures saves.new.passes
+        ≡ (failures_of S.failures saves.old.drops + failures_of S.failures saves.old.passes) + 1) }
 {
     let Some(input) = split_input(bytes) else {
         return Ok(());

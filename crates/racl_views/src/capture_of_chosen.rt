@@ -1,5 +1,5 @@
 //! The packets of a capture that are chosen by their verdicts, as a capture.
-ghost use Rattle.std.specs.Prelude.{◌≡◌, ◌-◌, ◌<◌, ◌≤◌, ◌^◌, ◌++◌, ℕ, List, [], IfErr, IfNone, IfSome, drop, length, take};
+ghost use Rattle.std.specs.Prelude.{◌≡◌, ◌+◌, ◌-◌, ◌<◌, ◌≤◌, ◌^◌, ◌++◌, ℕ, List, [], IfErr, IfNone, IfSome, OnErr, OnOk, drop, length, take};
 ghost use Rattle.packet_view.specs.Captures.{End, IsCapture, IsCaptureAt, IsHeaderFault, RecordFacts, Whole, packets_at};
 ghost use Rattle.packet_view.specs.declared.capture.CaptureFault.{CaptureFault};
 ghost use Rattle.session_state.specs.declared.verdict.Verdict.{Verdict};
@@ -84,6 +84,8 @@ pub fn write_chosen<W: Sink>(
         → (written : List ℕ) × IsChosen chosen verdicts.now capture.now records written × HasPut W.bytes W.failures writer.old writer.new written result }
     ensures other { (fault : CaptureFault) → IsHeaderFault capture.now fault → HasPut W.bytes W.failures writer.old writer.new [] result }
     ensures fault { IfErr result (λ fault. fault ≡ Write) }
+    ensures steady { OnOk result (W.failures writer.new ≡ W.failures writer.old) }
+    ensures failed { OnErr result (W.failures writer.new ≡ W.failures writer.old + 1) }
 {
     match capture_header(capture) {
         Ok(order) => write_records(writer, capture, order, chosen, verdicts),
