@@ -15,28 +15,17 @@ use Rattle.bihash_words.specs.Patches.{free_mark}
 use Rattle.bihash_words.specs.declared.block_size.BlockSize.{BlockSize}
 use Rattle.bihash_words.specs.Pages.{Paging, page_of}
 use Rattle.bihash_plan.specs.Blocks.{HasKey, HasPairAt, IsCrowded, IsFirstFree, IsLawfulBlock, IsNew, is_taken, pairs}
-use Rattle.bihash_plan.specs.Layouts.{AreLaidOut, IsNamed, IsRehash, IsTakenBefore}
-use Rattle.bihash_plan.specs.Plans.{IsGrowth, IsLinearSize}
+use Rattle.bihash_plan.specs.Layouts.{IsLaid, IsNamed, IsRehash, IsTakenBefore}
+use Rattle.bihash_plan.specs.Plans.{Fits, IsGrowth, IsLinearSize, keys_of}
+use Rattle.bihash_plan.specs.inner.LaidPairs.{AllFree, IsLaidSoFar, MayBeLaid, Suits}
 use Rattle.bihash_plan.proofs.Counts.{le-count_by-from}
-use Rattle.bihash_plan.proofs.Orders.{AllFree, AllTaken, laid_out_none, laid_out_put, none_taken}
+use Rattle.bihash_plan.proofs.Orders.{AllTaken, laid_out_none, laid_out_put, none_taken}
 use Rattle.bihash_plan.proofs.PageLemmas.{page_of-lt}
 use Rattle.bihash_plan.proofs.Pairs.{count_by-filter, count_by-map, is_taken-pair, pairs-append, pairs_more, pairs_same}
 use Rattle.bihash_plan.proofs.Places.{block_sized, free_at, free_inside, has_key_read, pair_inside}
 use Rattle.bihash_plan.proofs.PlanLemmas.{all_taken, one_free}
 use Rattle.bihash_plan.proofs.Puts.{lawful_put, pair_after_put, pairs_put}
 use Rattle.bihash_plan.proofs.Room.{taken_key}
-
--- the block has just these pairs, laid out in turn
-pub record IsLaid {K : Type 0} (paging : Paging K) (log2 : ℕ) (linear : Bool)
-    (done out : List (K × ℕ)) : Type 0 where
-  pub lawful : IsLawfulBlock paging log2 linear out
-  pub same_pairs : IsPermutation done (pairs out)
-  pub in_order : AreLaidOut paging log2 linear done out
-
--- there are no more pairs than a block of this kind holds
-pub record Suits {K : Type 0} (paging : Paging K) (log2 : ℕ) (linear : Bool) (ps : List (K × ℕ)) : Type 0 where
-  pub in_pages : linear ≡ false → (page : ℕ) → count_by (λ pair. page_of paging log2 pair.0 == page) ps ≤ 4
-  pub in_all : linear ≡ true → length ps ≤ 4 * 2 ^ log2
 
 pub put_laid : {K : Type 0} (paging : Paging K) (log2 : ℕ) (linear : Bool) (done out : List (K × ℕ))
     (pair : K × ℕ) (i : ℕ)
@@ -104,10 +93,9 @@ not_crowded {K} paging log2 true done out pair laid sized suits crowded =
     )
 
 -- the pairs of the first places are no more than all pairs
-pub suits_so_far : {K : Type 0} (paging : Paging K) (log2 : ℕ) (linear : Bool) (places : List (K × ℕ))
-    (i : ℕ) (new : K × ℕ)
-    → Suits paging log2 linear (pairs places ++ new ∷ []) → Suits paging log2 linear (pairs (take i places))
-suits_so_far {K} paging log2 linear places i new suits =
+pub suits_so_far : {K : Type 0} (paging : Paging K) (log2 : ℕ) (linear : Bool) (places : List (K × ℕ)) (i : ℕ)
+    → Suits paging log2 linear (pairs places) → Suits paging log2 linear (pairs (take i places))
+suits_so_far {K} paging log2 linear places i suits =
     let whole : pairs places ≡ pairs (take i places) ++ pairs (drop i places) =
     ap pairs (sym (take-append-drop i places)) ∙ pairs-append (take i places) (drop i places) in
     record {
@@ -116,18 +104,26 @@ suits_so_far {K} paging log2 linear places i new suits =
           omega (
             arith,
             suits.in_pages plain page,
-            sum_by_push f (pairs places) new,
             ap (sum_by f) whole,
             sum_by-append f (pairs (take i places)) (pairs (drop i places)),
           );
       in_all = λ e. omega (
         arith,
         suits.in_all e,
-        length-append (pairs places) (new ∷ []),
         ap length whole,
         length-append (pairs (take i places)) (pairs (drop i places)),
       );
     }
+
+-- and so are those without a new one
+suits_without : {K : Type 0} (paging : Paging K) (log2 : ℕ) (linear : Bool) (ps : List (K × ℕ)) (new : K × ℕ)
+    → Suits paging log2 linear (ps ++ new ∷ []) → Suits paging log2 linear ps
+suits_without {K} paging log2 linear ps new suits = record {
+  in_pages = λ plain page.
+      let f : K × ℕ → ℕ = λ p. cond (page_of paging log2 p.0 == page) 1 0 in
+      omega (arith, suits.in_pages plain page, sum_by_push f ps new);
+  in_all = λ e. omega (arith, suits.in_all e, length-append ps (new ∷ []));
+}
 
 -- a count of a list with one more element at its end, or at its front
 count_last : {X Y : Type 0} (f : X → Y) (test : Y → Bool) (xs : List X) (x : X)
@@ -182,18 +178,15 @@ pub named_suits : {K : Type 0} {paging : Paging K} {size : BlockSize} {places : 
 named_suits {paging = paging} {size = size} {places = places} {key = key} value named =
     growth_suits paging named.was.log2 size.log2 named.was.linear size.linear places key value named.lawful named.plan.2
 
--- what is in the block after the first places: keys of these places alone
-pub record IsLaidSoFar {K : Type 0} (paging : Paging K) (log2 : ℕ) (linear : Bool) (old : List (K × ℕ))
-    (key : K) (i next : ℕ) (out : List (K × ℕ)) : Type 0 where
-  pub laid : IsLaid paging log2 linear (pairs (take i old)) out
-  pub before : IsTakenBefore linear next out
-  pub from_old : (k : K) (j : ℕ) → HasKey out k j → (n : ℕ) × (n < i) × HasKey old k n
+-- a block that was cleared has no pair
+pub cleared_free : {K : Type 0} (out : List (K × ℕ)) (n : ℕ) (key : K) → out ≡ replicate n (key, free_mark) → AllFree out
+cleared_free out n key cleared = All-same (λ place. is_taken place ≡ false) out (replicate n (key, free_mark)) cleared
+    (All-replicate (λ place. is_taken place ≡ false) n (key, free_mark) refl)
 
-pub laid_none : {K : Type 0} (paging : Paging K) (log2 : ℕ) (linear : Bool) (old : List (K × ℕ)) (key : K)
-    (out : List (K × ℕ)) (n : ℕ)
-    → log2 ≤ paging.max_log2 → length out ≡ 4 * 2 ^ log2 → out ≡ replicate n (key, free_mark)
-    → IsLaidSoFar paging log2 linear old key 0 0 out
-laid_none {K} paging log2 linear old key out n small sized cleared = record {
+pub laid_none : {K : Type 0} (paging : Paging K) (log2 : ℕ) (linear : Bool) (old : List (K × ℕ))
+    (out : List (K × ℕ))
+    → log2 ≤ paging.max_log2 → length out ≡ 4 * 2 ^ log2 → AllFree out → IsLaidSoFar paging log2 linear old 0 0 out
+laid_none {K} paging log2 linear old out small sized free_all = record {
   laid = record {
     lawful = record {
       sized = inr sized;
@@ -210,10 +203,6 @@ laid_none {K} paging log2 linear old key out n small sized cleared = record {
   from_old = λ k j h. absurd (no_pair k h.value j h.pair);
 }
   where
-    free_all : AllFree out
-    free_all = All-same (λ place. is_taken place ≡ false) out (replicate n (key, free_mark)) cleared
-        (All-replicate (λ place. is_taken place ≡ false) n (key, free_mark) refl)
-
     no_pair : (k : K) (v j : ℕ) → HasPairAt out k v j → ⊥
     no_pair k v j h =
         let d : K × ℕ = (k, v) in
@@ -228,25 +217,25 @@ IsPlaced paging log2 linear pair before after next =
     × (after ≡ set before i pair)
     × IsTakenBefore linear next after
 
-pub laid_more : {K : Type 0} (paging : Paging K) (log2 : ℕ) (linear : Bool) (old : List (K × ℕ)) (key : K)
-    (i next result : ℕ) (out after : List (K × ℕ)) (place : K × ℕ)
-    → IsLaidSoFar paging log2 linear old key i next out → length out ≡ 4 * 2 ^ log2 → i < length old
+pub laid_more : {K : Type 0} (paging : Paging K) (log2 : ℕ) (linear : Bool) (old : List (K × ℕ))
+    (i next result : ℕ) (start out after : List (K × ℕ)) (place : K × ℕ)
+    → IsLaidSoFar paging log2 linear old i next out → length out ≡ 4 * 2 ^ log2 → i < length old
     → place ≡ get_or old i place → place.1 ≢ free_mark
     → (place.1 ≢ free_mark → IsTakenBefore linear next out → (IsCrowded linear (page_of paging log2 place.0) out → ⊥)
     → IsPlaced paging log2 linear place out after result)
-    → IsNamed paging old key (record { log2 = log2; linear = linear }) → IsLaidSoFar paging log2 linear old key (i + 1) result after
-laid_more {K} paging log2 linear old key i next result out after place so_far sized inside is taken placed named =
+    → MayBeLaid paging log2 linear old start → IsLaidSoFar paging log2 linear old (i + 1) result after
+laid_more {K} paging log2 linear old i next result start out after place so_far sized inside is taken placed may =
     let done : List (K × ℕ) = pairs (take i old) in
     let more : pairs (take (i + 1) old) ≡ done ++ place ∷ [] = pairs_more old i place inside is taken in
     let suits : Suits paging log2 linear (done ++ place ∷ []) = subst (Suits paging log2 linear) more
-    (suits_so_far paging log2 linear old (i + 1) (key, 0) (named_suits 0 named)) in
+    (suits_so_far paging log2 linear old (i + 1) may.suits) in
     let there = placed taken so_far.before
     (not_crowded paging log2 linear done out place so_far.laid sized suits) in
     let stands : HasKey old place.0 i = has_key_read old place.0 i place inside is taken refl in
     let new : IsNew out place.0 = λ j h. let was = so_far.from_old place.0 j h in absurd (omega (
       arith,
       was.1,
-      named.lawful.rule.once place.0 was.2.value stands.value was.0 i was.2.pair stands.pair,
+      may.lawful.rule.once place.0 was.2.value stands.value was.0 i was.2.pair stands.pair,
     )) in
     let laid : IsLaid paging log2 linear (done ++ place ∷ [])
     (set out there.0 place) = put_laid paging log2 linear done out place there.0 so_far.laid there.1 new taken (filter_passes is_taken (take i old)) in
@@ -267,7 +256,7 @@ laid_more {K} paging log2 linear old key i next result out after place so_far si
 
 pub laid_last : {K : Type 0} (paging : Paging K) (log2 : ℕ) (linear : Bool) (old : List (K × ℕ)) (key : K)
     (value i next result : ℕ) (out after : List (K × ℕ))
-    → IsLaidSoFar paging log2 linear old key i next out → length out ≡ 4 * 2 ^ log2 → length old ≤ i
+    → IsLaidSoFar paging log2 linear old i next out → length out ≡ 4 * 2 ^ log2 → length old ≤ i
     → value ≢ free_mark
     → (value ≢ free_mark → IsTakenBefore linear next out → (IsCrowded linear (page_of paging log2 key) out → ⊥)
     → IsPlaced paging log2 linear (key, value) out after result)
@@ -286,12 +275,49 @@ laid_last {K} paging log2 linear old key value i next result out after so_far si
     record { lawful = laid.lawful; same_pairs = laid.same_pairs; in_order = laid.in_order }
 
 -- a free place has no pair to lay out
-pub laid_same : {K : Type 0} (paging : Paging K) (log2 : ℕ) (linear : Bool) (old : List (K × ℕ)) (key : K)
+pub laid_same : {K : Type 0} (paging : Paging K) (log2 : ℕ) (linear : Bool) (old : List (K × ℕ))
     (i next : ℕ) (out : List (K × ℕ)) (place : K × ℕ)
-    → IsLaidSoFar paging log2 linear old key i next out → i < length old → place ≡ get_or old i place
-    → place.1 ≡ free_mark → IsLaidSoFar paging log2 linear old key (i + 1) next out
-laid_same paging log2 linear old key i next out place so_far inside is vacant = record {
+    → IsLaidSoFar paging log2 linear old i next out → i < length old → place ≡ get_or old i place
+    → place.1 ≡ free_mark → IsLaidSoFar paging log2 linear old (i + 1) next out
+laid_same paging log2 linear old i next out place so_far inside is vacant = record {
   laid = rw (pairs_same old i place inside is vacant) so_far.laid;
   before = so_far.before;
   from_old = λ k j h. let was = so_far.from_old k j h in (was.0, omega (arith, was.1), was.2);
 }
+
+-- ---- What may be laid out
+
+-- the pairs beside which a larger block takes a new one
+pub named_may : {K : Type 0} {paging : Paging K} {size : BlockSize} {old : List (K × ℕ)} {key : K} (out : List (K × ℕ)) (n : ℕ)
+    → out ≡ replicate n (key, free_mark) → IsNamed paging old key size → MayBeLaid paging size.log2 size.linear old out
+named_may {paging = paging} {size = size} {old = old} {key = key} out n cleared named = record {
+  was = named.was;
+  lawful = named.lawful;
+  suits = suits_without paging size.log2 size.linear (pairs old) (key, 0) (named_suits 0 named);
+  free = cleared_free out n key cleared;
+}
+
+-- the pairs that fit a smaller block
+pub kept_may : {K : Type 0} {paging : Paging K} {log2 : ℕ} {old : List (K × ℕ)} (key : K) (out : List (K × ℕ)) (n : ℕ)
+    → out ≡ replicate n (key, free_mark) → (was : BlockSize) → IsLawfulBlock paging was.log2 was.linear old
+    → Fits paging log2 (keys_of old) → MayBeLaid paging log2 false old out
+kept_may {paging = paging} {log2 = log2} {old = old} key out n cleared was lawful fits = record {
+  was = was;
+  lawful = lawful;
+  suits = record {
+    in_pages = λ plain page. omega (
+      arith,
+      fits.few page,
+      count_by-map (λ (pair : _ × ℕ). pair.0) (λ k. page_of paging log2 k == page) (pairs old),
+    );
+    in_all = λ e. absurd (false≢true e);
+  };
+  free = cleared_free out n key cleared;
+}
+
+-- all pairs were laid out
+pub laid_whole : {K : Type 0} (paging : Paging K) (log2 next : ℕ) (linear : Bool) (old out : List (K × ℕ))
+    → IsLaidSoFar paging log2 linear old (length old) next out → IsLaid paging log2 linear (pairs old) out
+laid_whole {K} paging log2 next linear old out so_far = subst
+    (λ (some : List (K × ℕ)). IsLaid paging log2 linear (pairs some) out)
+    (take_all (length old) old (omega arith)) so_far.laid

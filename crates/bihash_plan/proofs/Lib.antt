@@ -1,4 +1,5 @@
 pub mod Counts
+pub mod FirstPairs
 pub mod LeastPairLemmas
 pub mod LayoutLemmas
 pub mod OpenPlaces

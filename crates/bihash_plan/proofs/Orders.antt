@@ -10,6 +10,7 @@ use Rattle.bihash_words.specs.Patches.{free_mark}
 use Rattle.bihash_words.specs.Pages.{Paging, page_of}
 use Rattle.bihash_plan.specs.Blocks.{IsFirstFree, IsFree, is_taken, pairs}
 use Rattle.bihash_plan.specs.Layouts.{AreInOrder, AreLaidOut}
+use Rattle.bihash_plan.specs.inner.LaidPairs.{AllFree}
 use Rattle.bihash_plan.proofs.Pairs.{is_taken-free}
 use Rattle.bihash_plan.proofs.Places.{free_at, free_inside, free_value_at}
 
@@ -182,10 +183,6 @@ laid_out_put paging log2 true ps places i pair taken laid first =
     in_order_put ps places i pair taken laid first.vacant (λ j less h. first.first j less tt h)
 laid_out_put paging log2 false ps places i pair taken laid first =
     page_put paging log2 ps places i pair taken laid first
-
--- each place is free
-abbrev pub AllFree : {K : Type 0} → List (K × ℕ) → Type 0
-AllFree places = All (λ place. is_taken place ≡ false) places
 
 pub none_taken : {K : Type 0} (places : List (K × ℕ)) → AllFree places → pairs places ≡ []
 none_taken {K} [] all_free = refl

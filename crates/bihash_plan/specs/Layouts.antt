@@ -27,6 +27,13 @@ AreLaidOut paging log2 false ps places =
     (page : ℕ) → page < 2 ^ log2
     → AreInOrder (filter (λ pair. page_of paging log2 pair.0 == page) ps) (take 4 (drop (4 * page) places))
 
+-- a block that has just these pairs: it is lawful, and each page has its pairs in their order
+pub record IsLaid {K : Type 0} (paging : Paging K) (log2 : ℕ) (linear : Bool)
+    (ps places : List (K × ℕ)) : Type 0 where
+  pub lawful : IsLawfulBlock paging log2 linear places
+  pub same_pairs : IsPermutation ps (pairs places)
+  pub in_order : AreLaidOut paging log2 linear ps places
+
 -- a block that takes the pairs of the old places and one more: it is lawful and has these pairs
 -- and nothing else, in the order of the old places with the new pair last
 pub record IsRehash {K : Type 0} (paging : Paging K) (log2 : ℕ) (linear : Bool) (old : List (K × ℕ)) (key : K)

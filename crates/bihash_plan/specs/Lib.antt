@@ -3,5 +3,6 @@ pub mod Layouts
 pub mod Plans
 pub mod Recycles
 pub mod Searches
+pub mod SmallerBlocks
 pub mod Wants
 pub mod inner

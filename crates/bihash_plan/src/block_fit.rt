@@ -39,8 +39,8 @@ pub(crate) fn has_room<S: Shape>(
     has_other_page::<S>(places, from, to, key, log2)
 }
 
-// Whether no page of a block of `2^log2` pages is named by more than four of the pairs and the new key.
-fn fits<S: Shape>(places: &[(S::Key, u64)], key: &S::Key, log2: u64) -> bool
+/// Whether no page of a block of `2^log2` pages is named by more than four of the pairs and the key.
+pub(crate) fn fits<S: Shape>(places: &[(S::Key, u64)], key: &S::Key, log2: u64) -> bool
     requires { MayLookAt ⟦<S as Shape>⟧ log2 places.now }
     ensures { IsTrue result ↔ Fits (paging_of ⟦<S as Shape>⟧) log2 (key.now ∷ keys_of places.now) }
 {

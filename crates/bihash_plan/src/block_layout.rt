@@ -1,10 +1,13 @@
-//! Laying the pairs of a bucket and a new one out in a larger block.
+//! Laying the pairs of a bucket out in another block: with a new one in a larger block, or alone in a smaller one.
 
-ghost use Rattle.std.specs.Prelude.{◌≡◌, ◌≢◌, ◌≤◌, ◌<◌, ℕ, length, replicate, slice_set, IfSome};
+ghost use Rattle.std.specs.Prelude.{◌≡◌, ◌≢◌, ◌≤◌, ◌<◌, ℕ, false, length, replicate, slice_set, IfSome};
 ghost use Rattle.bihash_words.specs.Patches.{free_mark};
 ghost use Rattle.bihash_words.specs.Pages.{page_of, paging_of};
-ghost use Rattle.bihash_plan.specs.Blocks.{IsCrowded, IsFirstFree};
-ghost use Rattle.bihash_plan.specs.Layouts.{HasPlacesTo, IsFirstFreeOrNone, IsNamed, IsRehash, IsTakenBefore};
+ghost use Rattle.bihash_words.specs.declared.block_size.BlockSize.{BlockSize};
+ghost use Rattle.bihash_plan.specs.Blocks.{IsCrowded, IsFirstFree, IsLawfulBlock, pairs};
+ghost use Rattle.bihash_plan.specs.Layouts.{HasPlacesTo, IsFirstFreeOrNone, IsLaid, IsNamed, IsRehash, IsTakenBefore};
+ghost use Rattle.bihash_plan.specs.Plans.{Fits, keys_of};
+ghost use Rattle.bihash_plan.specs.inner.LaidPairs.{IsLaidSoFar, MayBeLaid};
 ghost use Rattle.bihash_plan.specs.Searches.{HasPlaces};
 
 use crate::block_pages::places_open_to;
@@ -26,6 +29,41 @@ pub fn lay<S: Shape>(
         → IsRehash (paging_of ⟦<S as Shape>⟧) size.log2 size.linear places.now key.now value out.new }
 {
     clear(*key, out);
+    let next = lay_pairs::<S>(places, size, out);
+    put::<S>((*key, value), size, next, out);
+}
+
+/// Lays pairs out in `out`, a block of `2^log2` pages that isn't linear: those that stand in `places` in their order, each
+/// at the first free place open to its key. They have to fit that block; else some are left out. The key is shown at the
+/// free places.
+pub fn lay_kept<S: Shape>(
+    places: &[(S::Key, u64)],
+    key: &S::Key,
+    log2: u64,
+    out: &mut [(S::Key, u64)],
+)
+    requires { HasPlaces ⟦<S as Shape>⟧ log2 (length out.old) }
+    ensures { (was : BlockSize) → IsLawfulBlock (paging_of ⟦<S as Shape>⟧) was.log2 was.linear places.now
+        → Fits (paging_of ⟦<S as Shape>⟧) log2 (keys_of places.now)
+        → IsLaid (paging_of ⟦<S as Shape>⟧) log2 false (pairs places.now) out.new }
+{
+    clear(*key, out);
+    let linear = false;
+    lay_pairs::<S>(places, BlockSize { log2, linear }, out);
+}
+
+/// Lays the pairs that stand in `places` out in their order in a block without a pair, and says before which place that
+/// has no free one then, if it is linear.
+fn lay_pairs<S: Shape>(
+    places: &[(S::Key, u64)],
+    size: BlockSize,
+    out: &mut [(S::Key, u64)],
+) -> usize
+    requires { HasPlaces ⟦<S as Shape>⟧ size.log2 (length out.old) }
+    ensures within { result ≤ length out.new }
+    ensures laid { MayBeLaid (paging_of ⟦<S as Shape>⟧) size.log2 size.linear places.now out.old
+        → IsLaidSoFar (paging_of ⟦<S as Shape>⟧) size.log2 size.linear places.now (length places.now) result out.new }
+{
     let mut next = 0;
     for pair in places {
         if pair.1 == FREE {
@@ -33,7 +71,7 @@ pub fn lay<S: Shape>(
         }
         next = put::<S>(*pair, size, next, out);
     }
-    put::<S>((*key, value), size, next, out);
+    next
 }
 
 /// Makes each place of the block free, before pairs are laid out in it.

@@ -73,7 +73,7 @@ fn has_key<S: Shape>(places: &[(S::Key, u64)], i: usize, key: &S::Key) -> bool
 }
 
 /// Whether the place that a search looks at is free.
-fn is_free<K: Copy>(places: &[(K, u64)], i: usize) -> bool
+pub(crate) fn is_free<K: Copy>(places: &[(K, u64)], i: usize) -> bool
     requires place { IsPlace places.now i }
     ensures { IsTrue result ↔ IsFree places.now i }
 {

@@ -10,11 +10,13 @@ mod key_plan;
 mod least_expired_pair;
 mod plan_answer;
 mod recycled_place;
+mod smaller_block;
 
-pub use block_layout::lay;
+pub use block_layout::{lay, lay_kept};
 pub use block_pages::page_count;
 pub use block_search::find;
 pub use key_plan::{larger, plan};
 pub use least_expired_pair::recycle;
 pub use plan_answer::Plan;
 pub use recycled_place::Recycle;
+pub use smaller_block::smaller;

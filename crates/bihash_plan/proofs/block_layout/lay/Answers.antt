@@ -1,27 +1,7 @@
 use Rattle.std.proofs.Common.{arith}
-use Rattle.bihash_plan.proofs.LayoutLemmas.{laid_last, laid_more, laid_none, laid_same}
+use Rattle.bihash_plan.proofs.LayoutLemmas.{laid_last, named_may}
 use Rattle.bihash_plan.proofs.block_layout.lay.Goals as goal
 
-pub loop-pair-init : goal.loop-pair-init
-loop-pair-init g c = record {
-  within = omega arith;
-  laid = λ _. laid_none _ _ _ _ _ _ _ c.requires.pages.small (omega arith) c.clear.ensures;
-}
-
-pub loop-pair-preserved-then-pair : goal.loop-pair-preserved-then-pair
-loop-pair-preserved-then-pair g c = record {
-  within = c.loop-pair.invariant.within;
-  laid = λ named. laid_same _ _ _ _ _ _ _ _ _
-      (c.loop-pair.invariant.laid named) c.loop-pair-test.true c.pair-item.is c.if-pair.true;
-}
-
-pub loop-pair-preserved : goal.loop-pair-preserved
-loop-pair-preserved g c = record {
-  within = c.put-next.ensures.within;
-  laid = λ named. laid_more _ _ _ _ _ _ _ _ _ _ _ (c.loop-pair.invariant.laid named)
-      (omega arith) c.loop-pair-test.true c.pair-item.is c.if-pair.false c.put-next.ensures.placed named;
-}
-
 pub returns : goal.returns
-returns g c = λ named taken. laid_last _ _ _ _ _ _ _ _ _ _ _ (c.loop-pair.invariant.laid named)
-    (omega arith) c.loop-pair-test.false taken c.put.ensures.placed named
+returns g c = λ named taken. laid_last _ _ _ _ _ _ _ _ _ _ _ (c.lay_pairs-next.ensures.laid (named_may _ _ c.clear.ensures named))
+    (omega arith) (omega arith) taken c.put.ensures.placed named
