@@ -1,4 +1,4 @@
-use Rattle.std.proofs.Common.{◌++◌, arith, length}
+use Rattle.std.proofs.Common.{arith}
 use Rattle.std.proofs.lemmas.List.{length-append}
 use Rattle.flow_workers.specs.inner.Merges.{placed_behind, said_in_shares}
 use Rattle.flow_workers.proofs.MergeLemmas.{all_placed}
