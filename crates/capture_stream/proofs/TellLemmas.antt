@@ -1,20 +1,18 @@
 -- A capture whose packets are told while they come: what is told of it at each step, at its end and at a fault.
 use Rattle.std.proofs.Common.{◌≡◌, ◌∙◌, Err, Ok, Result, ◌≤◌, ◌<◌, ◌+◌, ◌^◌, ℕ, Bool, List, [], ◌∷◌, ◌++◌, None, Option, ap, append-nil, append_assoc, arith, inl, inr, length, refl, subst, sym, take, true, false}
 use Rattle.std.specs.Prelude.{⊤}
-use Rattle.std.proofs.lemmas.List.{length-append, length-map, map-append, take_all}
+use Rattle.std.proofs.lemmas.List.{length-append, length-map, take_all}
+use Rattle.std.proofs.lemmas.List.Sums.{count_by-le-length}
 use Rattle.std.proofs.KnownBytes.{Appends-nil, Appends-trans, Consumes-kept, Consumes-nil, Consumes-trans}
 use Rattle.std.specs.Io.KnownBytes.{Appends, Consumes}
-use Rattle.packet_view.specs.Captures.{AreRecords, PacketFacts, RecordFacts, packet_at, packets_at}
-use Rattle.packet_view.specs.CheckedCaptures.{records_of}
+use Rattle.packet_view.specs.Captures.{AreRecords, PacketFacts, packet_at, packets_at}
 use Rattle.packet_view.specs.Fronts.{Stops}
-use Rattle.packet_view.specs.RecordLists.{records_from}
 use Rattle.packet_view.specs.declared.capture.Order.{Order}
 use Rattle.packet_view.specs.declared.records_at_front.Stop.{Stop}
 use Rattle.packet_view.specs.declared.records_at_front.Stop.TheVariants.{TooLong}
-use Rattle.packet_view.specs.declared.packets.Packets.TheVariants as kind
-use Rattle.packet_view.specs.declared.packets_of_records.Records.{Records}
 use Rattle.packet_view.proofs.FrontLemmas.{records_appended, records_joined}
-use Rattle.packet_view.proofs.RecordListLemmas.{packets_count, records_within}
+use Rattle.packet_view.proofs.RecordListLemmas.{records_within}
+use Rattle.session_state.specs.Passes.{passes}
 use Rattle.session_state.specs.declared.verdict.Verdict.{Verdict}
 use Rattle.racl_io.specs.declared.fault.Fault.{Fault}
 use Rattle.racl_io.specs.declared.fault.Fault.TheVariants as fault
@@ -22,58 +20,28 @@ use Rattle.racl_io.specs.declared.totals_and_truncation.Totals.{Totals}
 use Rattle.racl_io.specs.Reports.{is_truncated, lines_from, passed, report_of, totals_line, totals_of, truncation_line, without_pages}
 use Rattle.racl_io.specs.Sinks.{GotFront, HasPutFront}
 use Rattle.racl_io.proofs.ReportLemmas.{cut_at, lines_of_both, passed_of_both, totals_counted, without_pages_of_both}
-use Rattle.capture_stream.specs.Lives.{HasToldAll, HasToldPart, HasToldSome, IsLiveFault, most_live, told_alone}
-use Rattle.capture_stream.specs.Telling.{AreTold, CanTell, HaveTold}
+use Rattle.capture_stream.specs.Lives.{AreCounted, HasToldAll, HasToldPart, HasToldSome, IsLiveFault, most_live, told_alone}
+use Rattle.capture_stream.specs.Feeding.{HasSettled, MayFeed, rest_in}
+use Rattle.capture_stream.specs.declared.engine.Engine.{Engine}
 use Rattle.capture_stream.specs.declared.live_telling.Live.{Live}
-use Rattle.capture_stream.specs.declared.windows_of_records.Found.{Found}
-use Rattle.capture_stream.specs.Found.{HaveFound, behind_of}
-use Rattle.capture_stream.specs.inner.Tellings.{HasCutWindow, HasGot, HasJudgedWindow, HasToldWindow, IsCutAt, IsLive, IsPartFault, IsTold, IsWindowFault, MayTell, end_text, totals_with}
+use Rattle.capture_stream.specs.inner.Feedings.{HasGot, IsBegun, IsCutAt, IsUnread}
+use Rattle.capture_stream.specs.inner.Tellings.{HasCutWaiting, HasToldWaiting, IsLive, IsTold, IsWaitingFault, MayTell, end_text, totals_with}
+use Rattle.capture_stream.proofs.FeedLemmas.{packets_both}
 
--- ---- The records in a window
+-- ---- What waits
 
-module _ {J : Type 0} (Became : J → List PacketFacts → List Verdict → J → Type 0) (live : Live J) (may : MayTell Became live) where
-  -- no more packets than bytes
-  pub window_few : (more : List RecordFacts) (rest : List ℕ) → AreRecords live.order live.window.items more rest
-      → live.packets + length more < 2 ^ 63
-  window_few more rest records =
-      let within = records_within live.order live.window.items more rest records in
-      let few = may.few in
-      let bound = may.bound in
-      omega arith
-
-  pub found_few : (found : Found) → HaveFound live.order live.window.items found → live.packets + found.count < 2 ^ 63
-  found_few found have =
-      let count = packets_count live.order found.count live.window.items in
-      let few = window_few (records_from live.order found.count live.window.items) _ have.records in
-      omega arith
-
-  pub window_follow : (found : Found) (records : Records) → HaveFound live.order live.window.items found
-      → records_of records ≡ records_from live.order found.count live.window.items → CanTell Became live.judges (kind.Records records)
-  window_follow found records have same =
-      let size = ap length same in
-      let few = window_few (records_from live.order found.count live.window.items) _ have.records in
-      let before = may.count in
-      let earlier = length-map may.packets (packet_at 0) in
-      let later = length-map (records_of records) (packet_at records.interface) in
-      record { begun = may.begun; packets = packets_at 0 may.packets; said = may.said; stand = may.stand; fits = omega arith }
-
-  pub window_judged : (Judged : J → List PacketFacts → List Verdict → Type 0) (found : Found) (new : Live J) (verdicts : List Verdict)
-      → HaveFound live.order live.window.items found → new.window.items ≡ behind_of live.window.items found
-      → HaveTold Became Judged live.judges (packets_at 0 (records_from live.order found.count live.window.items)) verdicts new.judges
-      → new.packets ≡ live.packets + found.count → new.passed ≡ live.passed → new.without_pages ≡ live.without_pages
-      → new.read ≡ live.read → new.order ≡ live.order
-      → HasJudgedWindow Became Judged live new verdicts found.stop
-  window_judged Judged found new verdicts have behind judged count passing lacking read same = record {
-    more = records_from live.order found.count live.window.items;
-    records = subst (AreRecords live.order live.window.items (records_from live.order found.count live.window.items)) (sym behind) have.records;
-    stops = subst (λ (b : List ℕ). Stops live.order b found.stop) (sym behind) have.stop;
-    judged = judged;
-    count = let many = packets_count live.order found.count live.window.items in omega arith;
-    passed = passing;
-    lacking = lacking;
-    read = read;
-    order = same;
-  }
+-- it may be judged
+pub live_feed : {J : Type 0} (Became : J → List PacketFacts → List Verdict → J → Type 0) (live : Live J) → MayTell Became live → MayFeed Became live.engine 0
+live_feed Became live may =
+    let few = may.few in
+    let bound = may.bound in
+    let count = may.count in
+    let earlier = length-map may.packets (packet_at 0) in
+    record {
+      judge = record { begun = may.begun; packets = packets_at 0 may.packets; said = may.said; stand = may.stand; fits = omega arith };
+      found = may.found;
+      few = omega arith;
+    }
 
 -- ---- The report
 
@@ -122,36 +90,43 @@ put_more bytes failures a b c text more (Ok x) wrote same put =
 put_more bytes failures a b c text more (Err e) wrote same put =
     (tt, tt, put.2 ∙ ap (λ n. n + 1) same, put.3, front_on (bytes a) (bytes b) (bytes c) text more wrote put.4)
 
+-- the totals where more bytes wait
+pub longer_totals : (old new : ℕ) (totals : Totals) {passing lacking : ℕ} (truncated : Bool) → new ≡ old → totals ≡ totals_with new passing lacking truncated
+    → totals ≡ totals_with old passing lacking truncated
+longer_totals old new totals {passing} {lacking} truncated same are = are ∙ ap (λ n. totals_with n passing lacking truncated) same
+
 -- ---- From one read to the next
 
 module _ {J : Type 0} (Became : J → List PacketFacts → List Verdict → J → Type 0) (Judged : J → List PacketFacts → List Verdict → Type 0)
     (begun : J) (order : Order) (before old : Option (List ℕ)) where
-  pub live_begun : (live : Live J) → Became begun [] [] live.judges → live.window.items ≡ [] → live.packets ≡ 0 → live.passed ≡ 0
-      → live.without_pages ≡ 0 → live.read ≡ 0 → live.order ≡ order → IsLive Became Judged begun order before before old old live
-  live_begun live stand empty none passing lacking size same = record {
+  pub live_begun : (live : Live J) → Became begun [] [] begun → IsBegun begun order 0 live.engine → live.passed ≡ 0
+      → live.without_pages ≡ 0 → live.read ≡ 0 → IsLive Became Judged begun order before before old old live
+  live_begun live stand is passing lacking size = record {
     told = record {
       read = [];
       consumed = Consumes-nil before;
       packets = [];
-      records = sym empty;
+      records = sym is.waits;
       verdicts = [];
       judged = λ some. absurd (some refl);
       count = refl;
       text = Appends-nil old;
     };
-    stand = stand;
-    count = none;
+    stand = subst (Became begun [] []) (sym is.judges_are) stand;
+    count = is.packets;
     passing = passing;
     lacking = lacking;
     size = size;
     bound = omega arith;
-    same = same;
+    same = is.order_is;
+    unnamed = is.interface_is;
+    found = is.found;
   }
 
   pub live_may : (now after : Option (List ℕ)) (live : Live J) → IsLive Became Judged begun order before now old after live → live.read < most_live
       → MayTell Became live
   live_may now after live is below =
-      let within = records_within order is.told.read is.told.packets live.window.items is.told.records in
+      let within = records_within order is.told.read is.told.packets (rest_in live.engine) is.told.records in
       let count = is.count in
       let size = is.size in
       record {
@@ -165,60 +140,74 @@ module _ {J : Type 0} (Became : J → List PacketFacts → List Verdict → J �
         lacking = is.lacking;
         few = omega arith;
         bound = omega arith;
+        unnamed = is.unnamed;
+        found = is.found;
       }
 
-  packets_both : (xs ys : List RecordFacts) → packets_at 0 (xs ++ ys) ≡ packets_at 0 xs ++ packets_at 0 ys
-  packets_both xs ys = map-append (packet_at 0) xs ys
+  -- what was judged of all packets after what waited was
+  module _ (counts : AreCounted Judged) (now after : Option (List ℕ)) (live : Live J) (is : IsLive Became Judged begun order before now old after live)
+      (engine : Engine J) (verdicts : List Verdict) (stop : Stop) (settled : HasSettled Became Judged live.engine engine verdicts stop) where
+    more_packets : packets_at 0 is.told.packets ++ packets_at live.engine.interface settled.fed.more ≡ packets_at 0 (is.told.packets ++ settled.fed.more)
+    more_packets =
+        ap (λ n. packets_at 0 is.told.packets ++ packets_at n settled.fed.more) is.unnamed ∙ sym (packets_both 0 is.told.packets settled.fed.more)
 
-  -- what those who judge are told of all packets after one window more
-  told_more : (now after : Option (List ℕ)) (live : Live J) (is : IsLive Became Judged begun order before now old after live) (more : List RecordFacts)
-      (verdicts : List Verdict) (judges : J)
-      → AreTold Became Judged begun (packets_at 0 is.told.packets ++ packets_at 0 more) (is.told.verdicts ++ verdicts) judges
-      → AreTold Became Judged begun (packets_at 0 (is.told.packets ++ more)) (is.told.verdicts ++ verdicts) judges
-  told_more now after live is more verdicts judges are =
-      subst (λ ps. AreTold Became Judged begun ps (is.told.verdicts ++ verdicts) judges) (sym (packets_both is.told.packets more)) are
+    more_stand : Became begun (packets_at 0 (is.told.packets ++ settled.fed.more)) (is.told.verdicts ++ verdicts) engine.judges
+    more_stand = subst (λ ps. Became begun ps (is.told.verdicts ++ verdicts) engine.judges) more_packets
+        (settled.fed.follows begun (packets_at 0 is.told.packets) is.told.verdicts is.stand)
 
-  pub live_told : (now mid after : Option (List ℕ)) (live new : Live J) (stop : Stop) → IsLive Became Judged begun order before now old mid live
-      → live.read < most_live → HasToldWindow Became Judged live mid after new stop → IsTold Became Judged begun order before now old after new stop
-  live_told now mid after live new stop is below window =
+    more_judged : Judged begun (packets_at 0 (is.told.packets ++ settled.fed.more)) (is.told.verdicts ++ verdicts)
+    more_judged = subst (λ ps. Judged begun ps (is.told.verdicts ++ verdicts)) more_packets
+        (settled.judged begun (packets_at 0 is.told.packets) is.told.verdicts is.stand)
+
+    more_count : length (is.told.verdicts ++ verdicts) ≡ length (is.told.packets ++ settled.fed.more)
+    more_count = counts begun _ _ more_judged ∙ length-map (is.told.packets ++ settled.fed.more) (packet_at 0)
+
+    more_records : AreRecords order is.told.read (is.told.packets ++ settled.fed.more) (rest_in engine)
+    more_records = records_joined order is.told.read is.told.packets settled.fed.more (rest_in live.engine) (rest_in engine) is.told.records
+        (subst (λ (o : Order). AreRecords o (rest_in live.engine) settled.fed.more (rest_in engine)) is.same
+        (subst (λ (b : List ℕ). AreRecords live.engine.order b settled.fed.more (rest_in engine)) (append-nil (rest_in live.engine)) settled.fed.records))
+
+  pub live_told : AreCounted Judged → (now mid after : Option (List ℕ)) (live new : Live J) (stop : Stop)
+      → IsLive Became Judged begun order before now old mid live
+      → live.read < most_live → HasToldWaiting Became Judged live mid after new stop → IsTold Became Judged begun order before now old after new stop
+  live_told counts now mid after live new stop is below waiting =
       let t = is.told in
-      let are =
-      told_more now mid live is window.more window.verdicts new.judges (window.judged begun (packets_at 0 t.packets) t.verdicts is.stand) in
-      let both = length-append t.packets window.more in
-      let count : length (t.verdicts ++ window.verdicts) ≡ length (t.packets ++ window.more) =
-      are.count ∙ length-map (t.packets ++ window.more) (packet_at 0) in
+      let fed = waiting.settled.fed in
+      let judged = more_judged counts now mid live is new.engine waiting.verdicts stop waiting.settled in
+      let both = length-append t.packets fed.more in
       record {
         is = record {
           told = record {
             read = t.read;
             consumed = t.consumed;
-            packets = t.packets ++ window.more;
-            records = records_joined order t.read t.packets window.more live.window.items new.window.items t.records
-                (subst (λ (o : Order). AreRecords o live.window.items window.more new.window.items) is.same window.records);
-            verdicts = t.verdicts ++ window.verdicts;
-            judged = λ some. are.judged;
-            count = count;
+            packets = t.packets ++ fed.more;
+            records = more_records counts now mid live is new.engine waiting.verdicts stop waiting.settled;
+            verdicts = t.verdicts ++ waiting.verdicts;
+            judged = λ some. judged;
+            count = more_count counts now mid live is new.engine waiting.verdicts stop waiting.settled;
             text = subst (λ (b : List ℕ). Appends old after b)
-                (lines_on t.verdicts window.verdicts live.packets (let e = is.count in let f = t.count in omega arith))
-                (Appends-trans old mid after (lines_from None 1 t.verdicts) (lines_from None (live.packets + 1) window.verdicts) t.text window.text);
+                (lines_on t.verdicts waiting.verdicts live.engine.packets (let e = is.count in let f = t.count in omega arith))
+                (Appends-trans old mid after (lines_from None 1 t.verdicts) (lines_from None (live.engine.packets + 1) waiting.verdicts) t.text waiting.text);
           };
-          stand = are.stand;
-          count = let e = is.count in let f = window.count in omega arith;
-          passing = let e = is.passing in let f = window.passing in let g = passed_of_both t.verdicts window.verdicts in omega arith;
-          lacking = let e = is.lacking in let f = window.lacking in let g = without_pages_of_both t.verdicts window.verdicts in omega arith;
-          size = window.read ∙ is.size;
-          bound = let e = window.read in omega arith;
-          same = window.order ∙ is.same;
+          stand = more_stand counts now mid live is new.engine waiting.verdicts stop waiting.settled;
+          count = let e = is.count in let f = fed.packets in omega arith;
+          passing = let e = is.passing in let f = waiting.passing in let g = passed_of_both t.verdicts waiting.verdicts in omega arith;
+          lacking = let e = is.lacking in let f = waiting.lacking in let g = without_pages_of_both t.verdicts waiting.verdicts in omega arith;
+          size = waiting.read ∙ is.size;
+          bound = let e = waiting.read in omega arith;
+          same = fed.order ∙ is.same;
+          unnamed = fed.interface ∙ is.unnamed;
+          found = fed.found;
         };
-        judged = are.judged;
-        stops = subst (λ (o : Order). Stops o new.window.items stop) is.same window.stops;
-        below = let e = window.read in omega arith;
+        judged = judged;
+        stops = subst (λ (o : Order). Stops o (rest_in new.engine) stop) (fed.order ∙ is.same) waiting.settled.stops;
+        below = let e = waiting.read in omega arith;
       }
 
   -- where none was got, none was consumed
-  got_none : (now then : Option (List ℕ)) (window longer read : List ℕ) → Consumes before now read → HasGot now then window longer 0
+  got_none : (now then : Option (List ℕ)) (at longer : Engine J) (most : ℕ) (read : List ℕ) → Consumes before now read → HasGot now then at longer most 0
       → Consumes before then read
-  got_none now then window longer read consumed got =
+  got_none now then at longer most read consumed got =
       subst (λ (b : List ℕ). Consumes before then b) (ap (λ b. read ++ b) (empty got.read (sym got.size)) ∙ append-nil read)
       (Consumes-trans before now then read got.read consumed got.consumed)
     where
@@ -227,98 +216,97 @@ module _ {J : Type 0} (Became : J → List PacketFacts → List Verdict → J �
       empty (x ∷ xs) none = absurd (omega arith)
 
   module _ (now after : Option (List ℕ)) (live : Live J) (stop : Stop) (is : IsTold Became Judged begun order before now old after live stop) where
-    pub told_few : live.packets < 2 ^ 63
+    pub told_few : live.engine.packets < 2 ^ 63
     told_few =
-        let within = records_within order is.is.told.read is.is.told.packets live.window.items is.is.told.records in
+        let within = records_within order is.is.told.read is.is.told.packets (rest_in live.engine) is.is.told.records in
         let count = is.is.count in let size = is.is.size in let below = is.below in omega arith
 
+    pub told_short : length (rest_in live.engine) + 65536 < 2 ^ 63
+    told_short =
+        let within = records_within order is.is.told.read is.is.told.packets (rest_in live.engine) is.is.told.records in
+        let size = is.is.size in let below = is.below in omega arith
+
+    pub told_passing : live.passed ≤ live.engine.packets
+    told_passing =
+        let few = count_by-le-length passes is.is.told.verdicts in
+        let passing = is.is.passing in let each = is.is.told.count in let count = is.is.count in omega arith
+
     -- a record is too long
-    pub told_long : (found : Fault) → (stop ≡ TooLong) × (found ≡ fault.LongRecord (live.packets + 1))
+    pub told_long : (found : Fault) → (stop ≡ TooLong) × (found ≡ fault.LongRecord (live.engine.packets + 1))
         → IsLiveFault Judged begun order before now old after found
     told_long found (long, same) =
         subst (IsLiveFault Judged begun order before now old after) (sym same)
-        (live.window.items, is.is.told, subst (Stops order live.window.items) long is.stops, ap (λ n. n + 1) is.is.count)
-
-    -- bytes that follow are behind the window
-    more_told : (then : Option (List ℕ)) (more : List ℕ) → Consumes now then more
-        → HasToldSome Judged begun order before then old after (live.window.items ++ more)
-    more_told then more consumed = let t = is.is.told in record {
-      read = t.read ++ more;
-      consumed = Consumes-trans before now then t.read more t.consumed consumed;
-      packets = t.packets;
-      records = records_appended order t.read more t.packets live.window.items t.records;
-      verdicts = t.verdicts;
-      judged = t.judged;
-      count = t.count;
-      text = t.text;
-    }
+        (rest_in live.engine, is.is.told, subst (Stops order (rest_in live.engine)) long is.stops, ap (λ n. n + 1) is.is.count)
 
     -- nothing more could be read
-    pub part_fault : (then : Option (List ℕ)) (truncated : Bool) (found : Fault) → IsCutAt stop truncated → IsPartFault now then found
+    pub part_fault : (then : Option (List ℕ)) (truncated : Bool) (found : Fault) → IsCutAt stop truncated → IsUnread now then found
         → IsLiveFault Judged begun order before then old after found
-    part_fault then truncated fault.Memory ends (more, consumed) = (live.window.items ++ more, more_told then more consumed)
-    part_fault then truncated fault.Read ends kept =
-        let t = is.is.told in (
-          live.window.items,
-          record {
-            read = t.read;
-            consumed = Consumes-kept before now then t.read t.consumed kept;
-            packets = t.packets;
-            records = t.records;
-            verdicts = t.verdicts;
-            judged = t.judged;
-            count = t.count;
-            text = t.text;
-          },
-          truncated,
-          ends order live.window.items is.stops,
-        )
-    part_fault then truncated found ends wrong = absurd wrong
+    part_fault then truncated found ends (kept, which) =
+        let t = is.is.told in
+        let told : HasToldSome Judged begun order before then old after (rest_in live.engine) = record {
+          read = t.read;
+          consumed = Consumes-kept before now then t.read t.consumed kept;
+          packets = t.packets;
+          records = t.records;
+          verdicts = t.verdicts;
+          judged = t.judged;
+          count = t.count;
+          text = t.text;
+        } in
+        elim which [
+          | inl memory ↦ subst (IsLiveFault Judged begun order before then old after) (sym memory) (rest_in live.engine, told)
+          | inr read ↦ subst (IsLiveFault Judged begun order before then old after) (sym read)
+              (rest_in live.engine, told, truncated, ends order (rest_in live.engine) is.stops)
+        ]
 
     -- more was read
-    pub live_more : (then : Option (List ℕ)) (new : Live J) (count : ℕ) → HasGot now then live.window.items new.window.items count
-        → new.judges ≡ live.judges → new.packets ≡ live.packets → new.passed ≡ live.passed
-        → new.without_pages ≡ live.without_pages → new.order ≡ live.order → new.read ≡ live.read + count → IsLive Became Judged begun order before then old after new
-    live_more then new count got judges packets passing lacking same size =
-        let t = is.is.told in record {
+    pub live_more : (then : Option (List ℕ)) (new : Live J) (count : ℕ) → HasGot now then live.engine new.engine 65536 count
+        → new.passed ≡ live.passed → new.without_pages ≡ live.without_pages → new.read ≡ live.read + count
+        → IsLive Became Judged begun order before then old after new
+    live_more then new count got passing lacking size =
+        let t = is.is.told in
+        let longer = got.longer in
+        record {
           told = record {
             read = t.read ++ got.read;
             consumed = Consumes-trans before now then t.read got.read t.consumed got.consumed;
             packets = t.packets;
-            records = subst (λ (b : List ℕ). AreRecords order (t.read ++ got.read) t.packets b) (sym got.appended)
-                (records_appended order t.read got.read t.packets live.window.items t.records);
+            records = subst (λ (b : List ℕ). AreRecords order (t.read ++ got.read) t.packets b) (sym longer.waits)
+                (records_appended order t.read got.read t.packets (rest_in live.engine) t.records);
             verdicts = t.verdicts;
             judged = t.judged;
             count = t.count;
             text = t.text;
           };
-          stand = subst (Became begun (packets_at 0 t.packets) t.verdicts) (sym judges) is.is.stand;
-          count = packets ∙ is.is.count;
+          stand = subst (Became begun (packets_at 0 t.packets) t.verdicts) (sym longer.judges) is.is.stand;
+          count = longer.packets ∙ is.is.count;
           passing = passing ∙ is.is.passing;
           lacking = lacking ∙ is.is.lacking;
           size = let both = length-append t.read got.read in let more = got.size in let before = is.is.size in omega arith;
           bound = let few = got.few in let below = is.below in omega arith;
-          same = same ∙ is.is.same;
+          same = longer.order ∙ is.is.same;
+          unnamed = longer.interface ∙ is.is.unnamed;
+          found = longer.found;
         }
 
     -- no more is there
-    pub told_all : (then last : Option (List ℕ)) (window : List ℕ) (truncated : Bool) (totals : Totals) → IsCutAt stop truncated
-        → HasGot now then live.window.items window 0 → totals ≡ totals_with live.packets live.passed live.without_pages truncated → Appends after last (end_text totals)
+    pub told_all : (then last : Option (List ℕ)) (engine : Engine J) (truncated : Bool) (totals : Totals) → IsCutAt stop truncated
+        → HasGot now then live.engine engine 65536 0 → totals ≡ totals_with live.engine.packets live.passed live.without_pages truncated → Appends after last (end_text totals)
         → HasToldAll Judged begun order before then old last totals
-    told_all then last window truncated totals ends got same written =
+    told_all then last engine truncated totals ends got same written =
         let t = is.is.told in
-        let count : length t.verdicts ≡ live.packets = t.count ∙ sym is.is.count in
-        let told = totals_alone t.verdicts live.packets live.passed live.without_pages truncated count is.is.passing is.is.lacking in
-        let report = report_alone t.verdicts live.packets live.passed live.without_pages truncated count is.is.passing is.is.lacking in
+        let count : length t.verdicts ≡ live.engine.packets = t.count ∙ sym is.is.count in
+        let told = totals_alone t.verdicts live.engine.packets live.passed live.without_pages truncated count is.is.passing is.is.lacking in
+        let report = report_alone t.verdicts live.engine.packets live.passed live.without_pages truncated count is.is.passing is.is.lacking in
         record {
           read = t.read;
-          consumed = got_none now then (live.window.items) window t.read t.consumed got;
+          consumed = got_none now then live.engine engine 65536 t.read t.consumed got;
           ended = got.ended refl;
           packets = t.packets;
-          rest = live.window.items;
+          rest = rest_in live.engine;
           records = t.records;
           truncated = truncated;
-          end = ends order live.window.items is.stops;
+          end = ends order (rest_in live.engine) is.stops;
           verdicts = t.verdicts;
           judged = is.judged;
           count = t.count;
@@ -329,18 +317,18 @@ module _ {J : Type 0} (Became : J → List PacketFacts → List Verdict → J �
         }
 
     -- no more is there, and a front of what stands at the end was written
-    pub end_fault : (then last : Option (List ℕ)) (window : List ℕ) (truncated : Bool) (totals : Totals) → IsCutAt stop truncated
-        → HasGot now then live.window.items window 0 → totals ≡ totals_with live.packets live.passed live.without_pages truncated → GotFront after last (end_text totals)
+    pub end_fault : (then last : Option (List ℕ)) (engine : Engine J) (truncated : Bool) (totals : Totals) → IsCutAt stop truncated
+        → HasGot now then live.engine engine 65536 0 → totals ≡ totals_with live.engine.packets live.passed live.without_pages truncated → GotFront after last (end_text totals)
         → IsLiveFault Judged begun order before then old last fault.Write
-    end_fault then last window truncated totals ends got same written =
+    end_fault then last engine truncated totals ends got same written =
         let t = is.is.told in
-        let count : length t.verdicts ≡ live.packets = t.count ∙ sym is.is.count in
-        let report = report_alone t.verdicts live.packets live.passed live.without_pages truncated count is.is.passing is.is.lacking in
+        let count : length t.verdicts ≡ live.engine.packets = t.count ∙ sym is.is.count in
+        let report = report_alone t.verdicts live.engine.packets live.passed live.without_pages truncated count is.is.passing is.is.lacking in
         record {
           read = t.read;
-          consumed = got_none now then (live.window.items) window t.read t.consumed got;
+          consumed = got_none now then live.engine engine 65536 t.read t.consumed got;
           packets = t.packets;
-          rest = live.window.items;
+          rest = rest_in live.engine;
           records = t.records;
           verdicts = t.verdicts;
           judged = is.judged;
@@ -348,47 +336,44 @@ module _ {J : Type 0} (Became : J → List PacketFacts → List Verdict → J �
           front = inr (
             truncated,
             got.ended refl,
-            ends order live.window.items is.stops,
+            ends order (rest_in live.engine) is.stops,
             subst (λ n. GotFront old last (report_of t.verdicts (told_alone n truncated))) is.is.count
                 (subst (λ (b : List ℕ). GotFront old last b) (ap (λ u. lines_from None 1 t.verdicts ++ end_text u) same ∙ report)
                 (front_on old after last (lines_from None 1 t.verdicts) (end_text totals) t.text written)),
           );
         }
 
-  -- what is told of all packets where a front of a window's lines was written
-  window_cut : (now mid after : Option (List ℕ)) (live : Live J) → IsLive Became Judged begun order before now old mid live
-      → HasCutWindow Became Judged live mid after → HasToldPart Judged begun order before now old after
-  window_cut now mid after live is window =
+  -- what is told of all packets where a front of the lines was written
+  window_cut : AreCounted Judged → (now mid after : Option (List ℕ)) (live : Live J) → IsLive Became Judged begun order before now old mid live
+      → HasCutWaiting Became Judged live mid after → HasToldPart Judged begun order before now old after
+  window_cut counts now mid after live is cut =
       let t = is.told in
-      let are =
-      told_more now mid live is window.more window.verdicts window.judges (window.judged begun (packets_at 0 t.packets) t.verdicts is.stand) in
       record {
         read = t.read;
         consumed = t.consumed;
-        packets = t.packets ++ window.more;
-        rest = window.rest;
-        records = records_joined order t.read t.packets window.more live.window.items window.rest t.records
-            (subst (λ (o : Order). AreRecords o live.window.items window.more window.rest) is.same window.records);
-        verdicts = t.verdicts ++ window.verdicts;
-        judged = are.judged;
-        count = are.count ∙ length-map (t.packets ++ window.more) (packet_at 0);
+        packets = t.packets ++ cut.settled.fed.more;
+        rest = rest_in cut.engine;
+        records = more_records counts now mid live is cut.engine cut.verdicts cut.stop cut.settled;
+        verdicts = t.verdicts ++ cut.verdicts;
+        judged = more_judged counts now mid live is cut.engine cut.verdicts cut.stop cut.settled;
+        count = more_count counts now mid live is cut.engine cut.verdicts cut.stop cut.settled;
         front = inl (subst (λ (b : List ℕ). GotFront old after b)
-            (lines_on t.verdicts window.verdicts live.packets (let e = is.count in let f = t.count in omega arith))
-            (front_on old mid after (lines_from None 1 t.verdicts) (lines_from None (live.packets + 1) window.verdicts) t.text window.front));
+            (lines_on t.verdicts cut.verdicts live.engine.packets (let e = is.count in let f = t.count in omega arith))
+            (front_on old mid after (lines_from None 1 t.verdicts) (lines_from None (live.engine.packets + 1) cut.verdicts) t.text cut.front));
       }
 
   -- memory ran out before a line was written, or a write failed
-  pub window_fault : (now mid after : Option (List ℕ)) (live : Live J) (found : Fault) → IsLive Became Judged begun order before now old mid live
-      → IsWindowFault Became Judged live mid after found → IsLiveFault Judged begun order before now old after found
-  window_fault now mid after live fault.Memory is same =
-      (live.window.items, subst (λ w. HasToldSome Judged begun order before now old w live.window.items) (sym same) is.told)
-  window_fault now mid after live fault.Write is cut = window_cut now mid after live is cut
-  window_fault now mid after live found is wrong = absurd wrong
+  pub window_fault : AreCounted Judged → (now mid after : Option (List ℕ)) (live : Live J) (found : Fault) → IsLive Became Judged begun order before now old mid live
+      → IsWaitingFault Became Judged live mid after found → IsLiveFault Judged begun order before now old after found
+  window_fault counts now mid after live fault.Memory is same =
+      (rest_in live.engine, subst (λ w. HasToldSome Judged begun order before now old w (rest_in live.engine)) (sym same) is.told)
+  window_fault counts now mid after live fault.Write is cut = window_cut counts now mid after live is cut
+  window_fault counts now mid after live found is wrong = absurd wrong
 
   -- so many bytes were read
   pub live_large : (now after : Option (List ℕ)) (live : Live J) → IsLive Became Judged begun order before now old after live → most_live ≤ live.read
       → IsLiveFault Judged begun order before now old after fault.TooLarge
-  live_large now after live is many = (live.window.items, is.told, let size = is.size in omega arith)
+  live_large now after live is many = (rest_in live.engine, is.told, let size = is.size in omega arith)
 
 -- ---- The same by what else is known of verdicts
 

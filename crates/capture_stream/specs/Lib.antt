@@ -1,7 +1,7 @@
+pub mod Feeding
 pub mod Found
 pub mod HexDigits
-pub mod Judging
+pub mod Histories
 pub mod Lives
 pub mod Streams
-pub mod Telling
 pub mod inner

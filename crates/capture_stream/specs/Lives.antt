@@ -29,6 +29,10 @@ with_write failures fault = failures
 abbrev pub told_alone : ℕ → Bool → List Captured
 told_alone packets truncated = record { named = None; packets = packets; truncated = truncated } ∷ []
 
+-- where what was said is known to be right, it is as much as there are packets
+abbrev pub AreCounted : {J : Type 0} → (J → List PacketFacts → List Verdict → Type 0) → Type 0
+AreCounted {J} Judged = (begun : J) (packets : List PacketFacts) (said : List Verdict) → Judged begun packets said → length said ≡ length packets
+
 -- Of the bytes that the source gave these are whole records at the front, before the rest, and the lines of their
 -- packets were written, and no others.
 pub record HasToldSome {J : Type 0} (Judged : J → List PacketFacts → List Verdict → Type 0) (begun : J) (order : Order)

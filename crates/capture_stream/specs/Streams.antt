@@ -2,11 +2,12 @@
 use Rattle.std.specs.Prelude.{◌≡◌, ◌+◌, ◌<◌, ◌≤◌, ◌++◌, ◌^◌, ℕ, true, false, List, [], Option, drop, length, ⊤}
 use Rattle.std.specs.Io.KnownBytes.{Consumes, IsAtEnd}
 use Rattle.packet_view.specs.Captures.{AreRecords, IsEnd, IsTooLong, PacketFacts, RecordFacts, end_of, packets_at}
+use Rattle.session_state.specs.declared.verdict.Verdict.{Verdict}
 use Rattle.racl_io.specs.declared.fault.Fault.{Fault}
 use Rattle.racl_io.specs.declared.fault.Fault.TheVariants.{LongRecord, Memory, Read, TooLarge}
 use Rattle.racl_io.specs.Inputs.{most_bytes}
 use Rattle.capture_stream.specs.Found.{HaveFound}
-use Rattle.capture_stream.specs.Judging.{HaveFollowed}
+use Rattle.capture_stream.specs.Histories.{Follows}
 use Rattle.capture_stream.specs.declared.stream_judging.Opening.{Opening}
 use Rattle.capture_stream.specs.declared.stream_judging.Streamed.{Streamed}
 use Rattle.capture_stream.specs.declared.windows_of_records.WindowSize.{WindowSize}
@@ -23,7 +24,7 @@ pub record AreAllRead (before after : Option (List ℕ)) (opening : Opening) (re
   pub all : opening.ended ≡ true → read ≡ []
 
 -- the source gave all its bytes, and those who judge judged the packets of all records after those so far
-pub record HasStreamed {J : Type 0} (Became : J → List PacketFacts → J → Type 0) (judges : J) (opening : Opening) (before after : Option (List ℕ))
+pub record HasStreamed {J : Type 0} (Became : J → List PacketFacts → List Verdict → J → Type 0) (judges : J) (opening : Opening) (before after : Option (List ℕ))
     (streamed : Streamed J) : Type 0 where
   pub read : List ℕ
   pub whole : AreAllRead before after opening read
@@ -31,7 +32,8 @@ pub record HasStreamed {J : Type 0} (Became : J → List PacketFacts → J → T
   pub rest : List ℕ
   pub records : AreRecords opening.order (records_in opening read) packets rest
   pub end : IsEnd opening.order rest (end_of streamed.truncated)
-  pub judged : HaveFollowed Became judges (packets_at opening.interface packets) streamed.judges
+  pub said : List Verdict
+  pub judged : Follows Became judges (packets_at opening.interface packets) said streamed.judges
   pub count : streamed.packets ≡ length packets
 
 -- the source gave all its bytes, and the record of this number, counted from 1, is the first that is too long
@@ -55,10 +57,11 @@ IsStreamFault opening before after fault = ⊥
 
 -- where a capture may be judged from: as whom those who judge began, and whatever packets they judged so far, there is room for those of an input; its records
 -- begin within what was read, which isn't too much, and is all where the source has no more, and those among it are found
-pub record MayStream {J : Type 0} (Became : J → List PacketFacts → J → Type 0) (judges : J) (opening : Opening) (before : Option (List ℕ)) : Type 0 where
+pub record MayStream {J : Type 0} (Became : J → List PacketFacts → List Verdict → J → Type 0) (judges : J) (opening : Opening) (before : Option (List ℕ)) : Type 0 where
   pub begun : J
   pub others : List PacketFacts
-  pub stand : Became begun others judges
+  pub said : List Verdict
+  pub stand : Became begun others said judges
   pub room : length others + most_bytes < 2 ^ 64
   pub within : opening.from ≤ length opening.bytes.items
   pub few : length opening.bytes.items ≤ most_bytes

@@ -1,4 +1,5 @@
 pub mod Digits
+pub mod Feedings
 pub mod Tellings
 pub mod Walks
 pub mod Windows

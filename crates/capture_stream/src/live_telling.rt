@@ -1,18 +1,17 @@
 //! A capture whose packets are told while they come.
-ghost use Rattle.std.specs.Prelude.{◌≡◌, ◌-◌, ◌<◌, ◌≤◌, ◌^◌, [], IfOk, MatchResult};
+ghost use Rattle.std.specs.Prelude.{◌≡◌, ◌-◌, ◌<◌, ◌≤◌, ◌^◌, [], MatchResult};
 ghost use Rattle.racl_io.specs.Sinks.{HasPutFront};
-ghost use Rattle.capture_stream.specs.Lives.{HasToldAll, IsLiveFault, with_read, with_write};
-ghost use Rattle.capture_stream.specs.inner.Tellings.{HasGot, HasJudgedWindow, HasToldWindow, IsCutAt, IsLongAt, IsPartFault, IsWindowFault, MayTell, end_text, totals_with};
+ghost use Rattle.capture_stream.specs.Lives.{AreCounted, HasToldAll, IsLiveFault, with_read, with_write};
+ghost use Rattle.capture_stream.specs.inner.Tellings.{HasToldWaiting, IsWaitingFault, MayTell, end_text, totals_with};
 
-use crate::telling_judges::Tellers;
-use crate::windows_of_records::{Found, find_records};
-use packet_view::{Order, Packets, Records, Stop};
+use crate::engine::{Engine, is_cut};
+use crate::judge::Judge;
+use packet_view::{Order, Stop};
 use racl_io::{
     Captured, Fault, Piece, Place, Sink, Source, Totals, without_pages, write_lines_whole,
     write_totals, write_truncation,
 };
-use session_state::Verdict;
-use std::alloc::{AllocError, Global};
+use std::alloc::Global;
 
 /// How many bytes are read at once, at most: what a pipe holds.
 const PART_BYTES: usize = 65_536;
@@ -23,15 +22,8 @@ const MOST_LIVE: usize = 4_611_686_018_427_387_904;
 /// A capture of which the first packets were told.
 #[derive(Drop)]
 pub struct Live<J> {
-    /// Those who judged them.
-    pub judges: J,
-    pub order: Order,
-    /// The bytes behind their records that were read.
-    pub window: Vec<u8>,
-    /// Room for the next window.
-    pub spare: Vec<u8>,
-    /// How many packets were told.
-    pub packets: usize,
+    /// What judged them.
+    pub engine: Engine<J>,
     /// How many of them pass.
     pub passed: u64,
     /// How many found no pages for their sessions.
@@ -40,118 +32,41 @@ pub struct Live<J> {
     pub read: usize,
 }
 
-// Of a live capture the packets of whole records in the window are judged. What is behind them is the next window.
-fn judge_window<J: Tellers + Drop>(
-    live: Live<J>,
-) -> Result<(Live<J>, Vec<Verdict>, Stop), AllocError>
-    requires { MayTell J.became live }
-    ensures { IfOk result (λ r. HasJudgedWindow J.became J.judged live r.0 r.1.items r.2) }
-{
-    let Live {
-        judges,
-        order,
-        window,
-        mut spare,
-        packets,
-        passed,
-        without_pages,
-        read,
-    } = live;
-    let Found {
-        count,
-        behind,
-        stop,
-        ..
-    } = find_records(&window, order);
-    spare.clear();
-    spare.extend_from_slice(&window[window.len() - behind..])?;
-    let records = Records {
-        bytes: &window,
-        order,
-        interface: 0,
-        count,
-    };
-    match judges.judge(Packets::Records(records)) {
-        Ok((judges, verdicts)) => {
-            let next = Live {
-                judges,
-                order,
-                window: spare,
-                spare: window,
-                packets: packets + count,
-                passed,
-                without_pages,
-                read,
-            };
-            Ok((next, verdicts, stop))
-        }
-        Err(error) => Err(error),
-    }
-}
-
-// Of a live capture the packets of whole records in the window are judged, and their lines written.
-fn tell_window<J: Tellers + Drop, W: Sink>(
+// Of a live capture the packets of whole records that wait are judged, and their lines written.
+fn tell_waiting<J: Judge, W: Sink>(
     writer: &mut W,
     piece: &mut Piece,
-    live: Live<J>,
-) -> Result<(Live<J>, Stop), Fault>
-    requires may { MayTell J.became live }
+    live: &mut Live<J>,
+) -> Result<Stop, Fault>
+    requires may { MayTell J.became live.old }
+    requires counts { AreCounted J.judged }
     requires sound { W.failures writer.old < 2 ^ 64 - 1 }
-    ensures told { MatchResult result (λ r. HasToldWindow J.became J.judged live (W.bytes writer.old) (W.bytes writer.new) r.0 r.1) (IsWindowFault J.became J.judged live (W.bytes writer.old) (W.bytes writer.new)) }
+    ensures told { MatchResult result (HasToldWaiting J.became J.judged live.old (W.bytes writer.old) (W.bytes writer.new) live.new) (IsWaitingFault J.became J.judged live.old (W.bytes writer.old) (W.bytes writer.new)) }
     ensures failures { MatchResult result (λ _. W.failures writer.new ≡ W.failures writer.old) (λ fault. W.failures writer.new ≡ with_write (W.failures writer.old) fault) }
 {
     let place = Place {
         named: None,
-        others: live.packets,
+        others: live.engine.packets,
     };
-    let (mut next, verdicts, stop) = match judge_window(live) {
-        Ok(judged) => judged,
+    let (verdicts, stop) = match live.engine.settle() {
+        Ok(settled) => settled,
         Err(_) => return Err(Fault::Memory),
     };
-    match write_lines_whole(writer, piece, place, &verdicts) {
-        Ok(more) => {
-            next.passed += more;
-            next.without_pages += without_pages(&verdicts);
-            Ok((next, stop))
-        }
-        Err(fault) => Err(fault),
-    }
-}
-
-// Whether a live capture that ends here, where its records stop after so many packets, ends within one.
-fn is_live_cut(stop: Stop, packets: usize) -> Result<bool, Fault>
-    requires { packets < 2 ^ 63 }
-    ensures { MatchResult result (IsCutAt stop) (IsLongAt stop packets) }
-{
-    match stop {
-        Stop::End => Ok(false),
-        Stop::Truncated => Ok(true),
-        Stop::TooLong => Err(Fault::LongRecord(packets as u64 + 1)),
-    }
-}
-
-// Some bytes of a live capture that are there are read behind the window, and none only at its end: how many they are.
-fn read_live_part<R: Source>(reader: &mut R, window: &mut Vec<u8>) -> Result<usize, Fault>
-    requires { R.failures reader.old < 2 ^ 64 - 1 }
-    ensures got { MatchResult result (HasGot (R.bytes reader.old) (R.bytes reader.new) window.old.items window.new.items) (IsPartFault (R.bytes reader.old) (R.bytes reader.new)) }
-    ensures failures { MatchResult result (λ _. R.failures reader.new ≡ R.failures reader.old) (λ fault. R.failures reader.new ≡ with_read (R.failures reader.old) fault) }
-{
-    let mut room = [0u8; PART_BYTES];
-    let Ok(n) = reader.read(&mut room) else {
-        return Err(Fault::Read);
+    let more = match write_lines_whole(writer, piece, place, &verdicts) {
+        Ok(more) => more,
+        Err(fault) => return Err(fault),
     };
-    let Ok(()) = window.extend_from_slice(&room[..n]) else {
-        return Err(Fault::Memory);
-    };
-    Ok(n)
+    live.passed += more;
+    live.without_pages += without_pages(&verdicts);
+    Ok(stop)
 }
 
 // The totals over the packets of a live capture that were told.
 fn totals_at<J>(live: &Live<J>, truncated: bool) -> Totals
-    requires { live.now.passed ≤ live.now.packets }
-    ensures { result ≡ totals_with live.now.packets live.now.passed live.now.without_pages truncated }
+    requires { live.now.passed ≤ live.now.engine.packets }
+    ensures { result ≡ totals_with live.now.engine.packets live.now.passed live.now.without_pages truncated }
 {
-    let packets = live.packets as u64;
+    let packets = live.engine.packets as u64;
     Totals {
         packets,
         passed: live.passed,
@@ -181,7 +96,7 @@ fn write_live_end<W: Sink>(writer: &mut W, piece: &mut Piece, totals: &Totals) -
 /// of all packets whose records were read whole are written, and at the end what stands behind them in a report. A fault
 /// leaves what was written. No verdict is kept, and of the bytes only those that belong to no whole record. TooLarge:
 /// 2^62 bytes were read.
-pub fn tell_live<J: Tellers + Drop, R: Source, W: Sink>(
+pub fn tell_live<J: Judge + Drop, R: Source, W: Sink>(
     alloc: Global,
     reader: &mut R,
     writer: &mut W,
@@ -189,6 +104,7 @@ pub fn tell_live<J: Tellers + Drop, R: Source, W: Sink>(
     order: Order,
 ) -> Result<Totals, Fault>
     requires begun { J.became judges [] [] judges }
+    requires counts { AreCounted J.judged }
     requires reader { R.failures reader.old < 2 ^ 64 - 1 }
     requires writer { W.failures writer.old < 2 ^ 64 - 1 }
     ensures told { MatchResult result (HasToldAll J.judged judges order (R.bytes reader.old) (R.bytes reader.new) (W.bytes writer.old) (W.bytes writer.new)) (IsLiveFault J.judged judges order (R.bytes reader.old) (R.bytes reader.new) (W.bytes writer.old) (W.bytes writer.new)) }
@@ -200,37 +116,32 @@ pub fn tell_live<J: Tellers + Drop, R: Source, W: Sink>(
         Err(_) => return Err(Fault::Memory),
     };
     let mut live = Live {
-        judges,
-        order,
-        window: Vec::new(alloc),
-        spare: Vec::new(alloc),
-        packets: 0,
+        engine: Engine::new(alloc, judges, order, 0),
         passed: 0,
         without_pages: 0,
         read: 0,
     };
     'reads: while live.read < MOST_LIVE {
-        let (mut next, stop) = match tell_window(writer, &mut piece, live) {
-            Ok(told) => told,
+        let stop = match tell_waiting(writer, &mut piece, &mut live) {
+            Ok(stop) => stop,
             Err(fault) => return Err(fault),
         };
-        let truncated = match is_live_cut(stop, next.packets) {
+        let truncated = match is_cut(stop, live.engine.packets) {
             Ok(truncated) => truncated,
             Err(fault) => return Err(fault),
         };
-        let n = match read_live_part(reader, &mut next.window) {
+        let n = match live.engine.read_some(reader, PART_BYTES) {
             Ok(n) => n,
             Err(fault) => return Err(fault),
         };
         if n == 0 {
-            let totals = totals_at(&next, truncated);
-            return match write_live_end(writer, &mut piece, &totals) {
-                Ok(()) => Ok(totals),
-                Err(fault) => Err(fault),
-            };
+            let totals = totals_at(&live, truncated);
+            match write_live_end(writer, &mut piece, &totals) {
+                Ok(()) => return Ok(totals),
+                Err(fault) => return Err(fault),
+            }
         }
-        next.read += n;
-        live = next;
+        live.read += n;
     }
     Err(Fault::TooLarge)
 }

@@ -1,17 +1,16 @@
 //! A capture from what was read of it to its end.
-ghost use Rattle.std.specs.Prelude.{◌+◌, ◌-◌, ◌<◌, ◌^◌, MatchResult, length};
+ghost use Rattle.std.specs.Prelude.{◌+◌, ◌-◌, ◌<◌, ◌≤◌, ◌^◌, IfOk, MatchResult, length};
 ghost use Rattle.racl_io.specs.Inputs.{most_bytes};
 ghost use Rattle.racl_io.specs.Transfers.{HasReadWithin};
 ghost use Rattle.capture_stream.specs.Streams.{HasStreamed, IsSize, IsStreamFault, MayStream};
-ghost use Rattle.capture_stream.specs.inner.Walks.{HasAdvanced, HasEnded, IsLastFault, IsWindowFault, MayAdvance};
+ghost use Rattle.capture_stream.specs.inner.Walks.{HasAdvanced, HasEnded, IsBeginOf, IsLastFault, IsWindowFault, MayAdvance};
 
-use crate::packet_judges::Judges;
-use crate::windows_of_records::{
-    Found, NextWindow, WindowSize, find_records, found_records, judge_and_read,
-};
-use packet_view::{Order, Packets, Stop};
+use crate::engine::{Engine, is_cut};
+use crate::judge::Judge;
+use crate::windows_of_records::{Found, WindowSize, find_records};
+use packet_view::{Order, Stop};
 use racl_io::{Fault, MOST_BYTES, ReadBuffer, Source, drain};
-use std::alloc::Global;
+use std::alloc::{AllocError, Global};
 use std::thread::Threads;
 
 /// What was read of an input so far.
@@ -66,26 +65,47 @@ pub struct Streamed<J> {
 /// A capture of which some windows were judged.
 #[derive(Drop)]
 struct Walk<J> {
-    judges: J,
-    order: Order,
-    interface: u8,
-    /// The bytes that were read and not judged, from place `from` on.
-    window: ReadBuffer,
-    from: usize,
-    /// The records among them.
-    found: Found,
-    /// Room for the next window.
-    spare: ReadBuffer,
-    /// How many packets were judged.
-    packets: usize,
+    engine: Engine<J>,
     /// How many bytes of the input were read.
     read: usize,
-    /// Whether the input ends with this window.
+    /// Whether the source has no more.
     ended: bool,
 }
 
+// A walk over a capture begins with what was read of it.
+fn begin<J: Judge + Drop>(alloc: Global, judges: J, opening: Opening) -> Result<Walk<J>, AllocError>
+    requires { opening.from ≤ length opening.bytes.items }
+    ensures { IfOk result (IsBeginOf judges opening) }
+{
+    let Opening {
+        bytes,
+        from,
+        order,
+        interface,
+        ended,
+        found,
+    } = opening;
+    let read = bytes.len();
+    let mut window = ReadBuffer::new(Vec::new(alloc));
+    window.hold(&bytes[from..])?;
+    let engine = Engine {
+        judges,
+        order,
+        interface,
+        window,
+        found,
+        spare: ReadBuffer::new(Vec::new(alloc)),
+        packets: 0,
+    };
+    Ok(Walk {
+        engine,
+        read,
+        ended,
+    })
+}
+
 // A window of a capture's stream is judged, and the next one is read.
-fn next_window<J: Judges + Drop, T: Threads, R: Source + Send>(
+fn next_window<J: Judge + Drop, T: Threads, R: Source + Send>(
     beside: Option<&T>,
     reader: &mut R,
     size: WindowSize,
@@ -98,14 +118,7 @@ fn next_window<J: Judges + Drop, T: Threads, R: Source + Send>(
     ensures within { HasReadWithin R.bytes R.failures (most_bytes + 1 - walk.read) reader.old reader.new result }
 {
     let Walk {
-        judges,
-        order,
-        interface,
-        window,
-        from,
-        found,
-        mut spare,
-        packets,
+        mut engine,
         read,
         ..
     } = walk;
@@ -114,71 +127,50 @@ fn next_window<J: Judges + Drop, T: Threads, R: Source + Send>(
         behind,
         stop,
         ..
-    } = found;
+    } = engine.found;
     if matches!(stop, Stop::TooLong) {
         match drain(reader, read) {
-            Ok(()) => return Err(Fault::LongRecord((packets + count) as u64 + 1)),
+            Ok(()) => return Err(Fault::LongRecord((engine.packets + count) as u64 + 1)),
             Err(fault) => return Err(fault),
         }
     }
-    let bytes = window.bytes();
-    let Ok(()) = spare.hold(&bytes[bytes.len() - behind..]) else {
-        return Err(Fault::Memory);
-    };
-    let marked = found_records(&bytes[from..], order, interface, &found);
     let more = size.beside(read, behind).min(MOST_BYTES + 1 - read);
-    let least = behind + more;
-    let (judged, next) = judge_and_read(beside, judges, marked, reader, &mut spare, least);
-    let NextWindow { found, ended } = match next {
-        Ok(next) => next,
+    let n = match engine.advance(beside, reader, more) {
+        Ok((_, n)) => n,
         Err(fault) => return Err(fault),
     };
-    let Ok(judges) = judged else {
-        return Err(Fault::Memory);
-    };
-    let read = read + (spare.bytes().len() - behind);
+    let read = read + n;
     if read > MOST_BYTES {
         return Err(Fault::TooLarge);
     }
     Ok(Walk {
-        judges,
-        order,
-        interface,
-        window: spare,
-        from: 0,
-        found,
-        spare: window,
-        packets: packets + count,
+        engine,
         read,
-        ended,
+        ended: n < more,
     })
 }
 
 // The last window of a capture's stream is judged.
-fn last_window<J: Judges + Drop>(walk: Walk<J>) -> Result<Streamed<J>, Fault>
+fn last_window<J: Judge + Drop>(walk: Walk<J>) -> Result<Streamed<J>, Fault>
     requires may { MayAdvance J.became walk }
     ensures { MatchResult result (HasEnded J.became walk) (IsLastFault walk) }
 {
-    let Walk {
+    let Walk { mut engine, .. } = walk;
+    let Ok((_, stop)) = engine.settle() else {
+        return Err(Fault::Memory);
+    };
+    let truncated = match is_cut(stop, engine.packets) {
+        Ok(truncated) => truncated,
+        Err(fault) => return Err(fault),
+    };
+    let Engine {
         judges,
-        order,
-        interface,
-        window,
-        from,
-        found,
         packets,
         ..
-    } = walk;
-    let truncated = match found.stop {
-        Stop::End => false,
-        Stop::Truncated => true,
-        Stop::TooLong => return Err(Fault::LongRecord((packets + found.count) as u64 + 1)),
-    };
-    let marked = found_records(&window.bytes()[from..], order, interface, &found);
-    let judges = judges.judge(Packets::Marked(marked))?;
+    } = engine;
     Ok(Streamed {
         judges,
-        packets: packets + found.count,
+        packets,
         truncated,
     })
 }
@@ -186,7 +178,7 @@ fn last_window<J: Judges + Drop>(walk: Walk<J>) -> Result<Streamed<J>, Fault>
 /// Those who judge packets judge all of a capture after those so far, a window of this size at a time, to the end of the source,
 /// or until an input would be too long. Nothing is read where the opening is all. Where there is a runtime for threads, each
 /// next window is read beside. A fault of the capture is answered when all was read.
-pub fn judge_stream<J: Judges + Drop, T: Threads, R: Source + Send>(
+pub fn judge_stream<J: Judge + Drop, T: Threads, R: Source + Send>(
     beside: Option<&T>,
     alloc: Global,
     reader: &mut R,
@@ -200,26 +192,8 @@ pub fn judge_stream<J: Judges + Drop, T: Threads, R: Source + Send>(
     ensures streamed { let old = R.bytes reader.old in let new = R.bytes reader.new in MatchResult result (HasStreamed J.became judges opening old new) (IsStreamFault opening old new) }
     ensures within { HasReadWithin R.bytes R.failures (most_bytes + 1 - length opening.bytes.items) reader.old reader.new result }
 {
-    let Opening {
-        bytes,
-        from,
-        order,
-        interface,
-        ended,
-        found,
-    } = opening;
-    let read = bytes.len();
-    let mut walk = Walk {
-        judges,
-        order,
-        interface,
-        window: ReadBuffer::new(bytes),
-        from,
-        found,
-        spare: ReadBuffer::new(Vec::new(alloc)),
-        packets: 0,
-        read,
-        ended,
+    let Ok(mut walk) = begin(alloc, judges, opening) else {
+        return Err(Fault::Memory);
     };
     'windows: while !walk.ended {
         walk = next_window(beside, reader, size, walk)?;

@@ -1,41 +1,21 @@
 //! One window of a capture, and the next one.
-ghost use Rattle.std.specs.Prelude.{◌≡◌, ◌≤◌, IfOk};
+ghost use Rattle.std.specs.Prelude.{◌≡◌, ◌≤◌, IfOk, length};
 ghost use Rattle.packet_view.specs.Captures.{packets_at};
 ghost use Rattle.packet_view.specs.CheckedCaptures.{packets_of};
 ghost use Rattle.packet_view.specs.RecordLists.{records_from};
-ghost use Rattle.packet_view.specs.declared.packets.Packets.TheVariants as kind;
 ghost use Rattle.racl_io.specs.Buffers.{held_by};
-ghost use Rattle.capture_stream.specs.Judging.{CanFollow, HaveFollowed};
 ghost use Rattle.capture_stream.specs.Found.{HaveFound};
-ghost use Rattle.capture_stream.specs.inner.Windows.{CanJudge, HasReadMore, HaveJudged, MayRead};
+ghost use Rattle.capture_stream.specs.Histories.{Follows, MayFollow};
+ghost use Rattle.capture_stream.specs.inner.Windows.{HasReadMore, MayRead};
 
-use crate::packet_judges::Judges;
+use crate::judge::Judge;
 use packet_view::{
     Front, MARKS, Mark, MarkedRecords, Order, Packets, Records, Stop, front_records,
 };
 use racl_io::{Fault, ReadBuffer, Source};
+use session_state::Verdict;
 use std::alloc::AllocError;
-use std::mem;
 use std::thread::{Threads, join_mut};
-
-// Those who are to judge packets, or what they answered.
-#[derive(Drop)]
-enum WindowJudges<J> {
-    Ahead(J),
-    Under,
-    Over(Result<J, AllocError>),
-}
-
-// Those who are ahead of a window's packets judge them.
-fn judge_window_records<J: Judges + Drop>(judging: &mut WindowJudges<J>, marked: MarkedRecords<'_>)
-    requires { CanJudge J.became judging.old (kind.Marked marked) }
-    ensures { HaveJudged J.became judging.old (packets_of marked.entry.records) judging.new }
-{
-    let WindowJudges::Ahead(judges) = mem::replace(judging, WindowJudges::Under) else {
-        unreachable!()
-    };
-    *judging = WindowJudges::Over(judges.judge(Packets::Marked(marked)));
-}
 
 /// How many bytes a window has, at least and at most, while the input has more. One that begins with more than half as many
 /// gets as many again.
@@ -143,17 +123,17 @@ fn read_and_find<R: Source>(
 
 /// The packets of one window are judged, and then the next window is read until it has so many bytes, and its records
 /// are found: beside the judging in a thread of its own where there is a runtime for threads.
-pub fn judge_and_read<J: Judges + Drop, T: Threads, R: Source + Send>(
+pub fn judge_and_read<J: Judge, T: Threads, R: Source + Send>(
     beside: Option<&T>,
-    judges: J,
+    judges: &mut J,
     marked: MarkedRecords<'_>,
     reader: &mut R,
     next: &mut ReadBuffer,
     least: usize,
-) -> (Result<J, AllocError>, Result<NextWindow, Fault>)
-    requires can { CanFollow J.became judges (kind.Marked marked) }
+) -> (Result<Vec<Verdict>, AllocError>, Result<NextWindow, Fault>)
+    requires judge { MayFollow J.became judges.old (length (packets_of marked.records)) }
     requires may { MayRead (R.failures reader.old) least }
-    ensures judged { IfOk result.0 (HaveFollowed J.became judges (packets_of marked.entry.records)) }
+    ensures follows { IfOk result.0 (λ verdicts. Follows J.became judges.old (packets_of marked.entry.records) verdicts.items judges.new) }
     ensures read { HasReadMore R.bytes R.failures reader.old reader.new (held_by next.old) (held_by next.new) least marked.entry.records.order result.1 }
 {
     let order = marked.records.order;
@@ -161,23 +141,16 @@ pub fn judge_and_read<J: Judges + Drop, T: Threads, R: Source + Send>(
         let judged = judges.judge(Packets::Marked(marked));
         return (judged, read_and_find(reader, next, least, order));
     };
-    let mut judging = WindowJudges::Ahead(judges);
-    let (read, ()) = join_mut(
+    let (read, judged) = join_mut(
         rt,
         &mut ||
             requires { MayRead (R.failures reader.now) least }
             ensures { HasReadMore R.bytes R.failures reader.entry.now reader.exit.now (held_by next.entry.now) (held_by next.exit.now) least order result }
         { read_and_find(reader, next, least, order) },
         &mut ||
-            requires { CanJudge J.became judging (kind.Marked marked) }
-            ensures { HaveJudged J.became judging.entry (packets_of marked.entry.records) judging.exit }
-        {
-            judge_window_records(&mut judging, marked);
-        },
+            requires { MayFollow J.became judges.now (length (packets_of marked.records)) }
+            ensures { IfOk result (λ verdicts. Follows J.became judges.entry.now (packets_of marked.entry.records) verdicts.items judges.exit.now) }
+        { judges.judge(Packets::Marked(marked)) },
     );
-    match judging {
-        WindowJudges::Over(judged) => (judged, read),
-        WindowJudges::Ahead(_judges) => unreachable!(),
-        WindowJudges::Under => unreachable!(),
-    }
+    (judged, read)
 }

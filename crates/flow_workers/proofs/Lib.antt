@@ -1,8 +1,8 @@
 pub mod AgeingSteps
-pub mod AloneLemmas
 pub mod AnsweredUpdates
 pub mod BatchMerges
 pub mod DealtLemmas
+pub mod HandedOver
 pub mod JudgedPackets
 pub mod MergeLemmas
 pub mod OwnLemmas

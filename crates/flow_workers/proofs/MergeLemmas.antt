@@ -26,9 +26,8 @@ use Rattle.packet_dealing.specs.Dealings.{Deal, flow_of_frame, worker_of}
 use Rattle.flow_dealing.specs.Traces.{AreFrames, ArePlaced, IsTrace, Item, numbers_from}
 use Rattle.flow_dealing.proofs.DealtEvents.{all_views, worker_few}
 use Rattle.flow_dealing.proofs.Places.{after_map, at_front, before_map, zip_count}
-use Rattle.flow_workers.specs.declared.verdict_merge.VerdictMerge.{VerdictMerge}
 use Rattle.flow_workers.specs.inner.Work.{AreSaid, RunFacts, numbers_of, verdict_in}
-use Rattle.flow_workers.specs.inner.Merges.{AreAllVerdicts, AreInPlace, AreJudges, ArePlacedBefore, AreTold, IsNext, LetGo, MayPlace, before_batch, numbers_behind, said_in_shares}
+use Rattle.flow_workers.specs.inner.Merges.{AreAllVerdicts, AreInPlace, AreJudges, ArePlacedBefore, AreTold, IsNext, LetGo, MayPlace, PlacedFacts, before_batch, numbers_behind, said_in_shares}
 use Rattle.flow_workers.specs.declared.worker_share.Share.{Share}
 use Rattle.flow_workers.proofs.WorkSteps.{IsAt, no_numbers, numbers_at, numbers_cons}
 
@@ -111,7 +110,7 @@ one_placed run trace verdicts alone is said =
 
 -- the share of the next packet's worker is there
 pub next_inside : {A B K L : Type 0} {ga : Ghosts A K} {gb : Ghosts B L} (run : RunFacts) (traces : List (List Item)) (gone : LetGo)
-    (shares : List (Share A B K L ga gb)) (placed : VerdictMerge) (w : ℕ) → IsNext run traces gone (said_in_shares shares) placed w
+    (shares : List (Share A B K L ga gb)) (placed : PlacedFacts) (w : ℕ) → IsNext run traces gone (said_in_shares shares) placed w
     → w < length shares
 next_inside {A} {B} {K} {L} {ga} {gb} run traces gone shares placed w is =
     let inside = within (said_in_shares shares) w is.said is.here in
@@ -125,12 +124,12 @@ said_of {A} {B} {K} {L} {ga} {gb} shares w d inside =
 
 module _ (run : RunFacts) (traces : List (List Item)) (gone : LetGo) (all : List (Vec Verdict)) where
   -- what the next packet's worker said stands at its place
-  pub said_is : (placed : VerdictMerge) (w : ℕ) (is : IsNext run traces gone all placed w) (said : Vec Verdict) → said ≡ get_or all w said
+  pub said_is : (placed : PlacedFacts) (w : ℕ) (is : IsNext run traces gone all placed w) (said : Vec Verdict) → said ≡ get_or all w said
       → is.said ≡ said
   said_is placed w is said at = some-injective is.said said
       (sym is.here ∙ (at_or all w said (within all w is.said is.here) ∙ ap some (sym at)))
 
-  pub told_next : (placed : VerdictMerge) (w : ℕ) (is : IsNext run traces gone all placed w) (said : Vec Verdict) (x : Verdict)
+  pub told_next : (placed : PlacedFacts) (w : ℕ) (is : IsNext run traces gone all placed w) (said : Vec Verdict) (x : Verdict)
       → said ≡ get_or all w said → x ≡ get_or said.items (slice_index placed.next w) x
       → get_elem? is.said.items (slice_index placed.next w) ≡ some x
   told_next placed w is said x at told =
@@ -139,9 +138,9 @@ module _ (run : RunFacts) (traces : List (List Item)) (gone : LetGo) (all : List
       let inside = within said.items n _ (subst (λ s. get_elem? s.items n ≡ some (verdict_in is.item)) same is.verdict) in
       ap (λ s. get_elem? s.items n) same ∙ (at_or said.items n x inside ∙ ap some (sym told))
 
-  pub placed_more : (placed new : VerdictMerge) (w : ℕ) (x : Verdict) → ArePlacedBefore run traces gone placed
+  pub placed_more : (placed new : PlacedFacts) (w : ℕ) (x : Verdict) → ArePlacedBefore run traces gone placed
       → (is : IsNext run traces gone all placed w) → get_elem? is.said.items (slice_index placed.next w) ≡ some x
-      → new.verdicts.items ≡ placed.verdicts.items ++ x ∷ []
+      → new.verdicts ≡ placed.verdicts ++ x ∷ []
       → new.next ≡ set placed.next w (slice_index placed.next w + 1) → ArePlacedBefore run traces gone new
   placed_more placed new w x before is said verdicts next = record {
     room = ap length next ∙ (length-set placed.next w (n + 1) ∙ before.room);
@@ -172,8 +171,8 @@ module _ (run : RunFacts) (traces : List (List Item)) (gone : LetGo) (all : List
             some-injective x (verdict_in i)
             (sym said ∙ (is.verdict ∙ ap (λ (j : Item). some (verdict_in j)) (sym this))) in
             let place : i.packet ≡ at + 0 = let p = ap (λ (j : Item). j.packet) this ∙ is.number in omega arith in
-            ap (get_elem? new.verdicts.items) place ∙ (ap (λ vs. get_elem? vs (at + 0)) verdicts
-            ∙ (at_after placed.verdicts.items (x ∷ []) 0 x refl ∙ ap some right))
+            ap (get_elem? new.verdicts) place ∙ (ap (λ vs. get_elem? vs (at + 0)) verdicts
+            ∙ (at_after placed.verdicts (x ∷ []) 0 x refl ∙ ap some right))
         | inr (first, earlier) ↦
             let less : k < m =
             let grown = ap (λ u. length (gone u) + slice_index new.next u) (sym same) ∙ one_more in omega arith in
@@ -186,7 +185,7 @@ module _ (run : RunFacts) (traces : List (List Item)) (gone : LetGo) (all : List
   }
     where
       at : ℕ
-      at = length placed.verdicts.items
+      at = length placed.verdicts
 
       n : ℕ
       n = slice_index placed.next w
@@ -204,13 +203,13 @@ module _ (run : RunFacts) (traces : List (List Item)) (gone : LetGo) (all : List
       the_same v other = ap (λ ns. slice_index ns v) next
           ∙ get_or-set_other placed.next w v (n + 1) 0 (λ same. other (sym same))
 
-      longer : length new.verdicts.items ≡ at + 1
-      longer = ap length verdicts ∙ (let e = length-append placed.verdicts.items (x ∷ []) in omega arith)
+      longer : length new.verdicts ≡ at + 1
+      longer = ap length verdicts ∙ (let e = length-append placed.verdicts (x ∷ []) in omega arith)
 
-      kept : (i : Item) → get_elem? placed.verdicts.items i.packet ≡ some (verdict_in i)
-          → get_elem? new.verdicts.items i.packet ≡ some (verdict_in i)
+      kept : (i : Item) → get_elem? placed.verdicts i.packet ≡ some (verdict_in i)
+          → get_elem? new.verdicts i.packet ≡ some (verdict_in i)
       kept i old = ap (λ vs. get_elem? vs i.packet) verdicts
-          ∙ at_front placed.verdicts.items (x ∷ []) i.packet (verdict_in i) old
+          ∙ at_front placed.verdicts (x ∷ []) i.packet (verdict_in i) old
 
 -- what stands behind the first of two lists
 behind_front : {X : Type 0} (xs ys : List X) (k : ℕ) → get_elem? (xs ++ ys) (length xs + k) ≡ get_elem? ys k
@@ -260,9 +259,9 @@ module _ (run : RunFacts) (traces : List (List Item)) (gone : LetGo) (all : List
     (are : AreTold run traces gone all) where
   -- ---- The verdict that is placed next
 
-  pub next_is : (placed : VerdictMerge) → ArePlacedBefore run traces gone placed → (w : ℕ) (packet : PacketFacts)
-      (view : frames.FrameFacts) → IsAt run (length placed.verdicts.items) packet view
-      → w ≡ worker_of run.deal (length placed.verdicts.items) (flow_of_frame view) → IsNext run traces gone all placed w
+  pub next_is : (placed : PlacedFacts) → ArePlacedBefore run traces gone placed → (w : ℕ) (packet : PacketFacts)
+      (view : frames.FrameFacts) → IsAt run (length placed.verdicts) packet view
+      → w ≡ worker_of run.deal (length placed.verdicts) (flow_of_frame view) → IsNext run traces gone all placed w
   next_is placed before w packet view is mine = record {
     trace = t.0;
     traced = t.1;
@@ -278,7 +277,7 @@ module _ (run : RunFacts) (traces : List (List Item)) (gone : LetGo) (all : List
   }
     where
       at : ℕ
-      at = length placed.verdicts.items
+      at = length placed.verdicts
 
       n : ℕ
       n = slice_index placed.next w
@@ -313,15 +312,15 @@ module _ (run : RunFacts) (traces : List (List Item)) (gone : LetGo) (all : List
 
   -- ---- All verdicts
 
-  pub all_placed : (placed : VerdictMerge) → ArePlacedBefore run traces gone placed
-      → length placed.verdicts.items ≡ length run.packets
-      → ArePlaced run.packets traces placed.verdicts.items
+  pub all_placed : (placed : PlacedFacts) → ArePlacedBefore run traces gone placed
+      → length placed.verdicts ≡ length run.packets
+      → ArePlaced run.packets traces placed.verdicts
   all_placed placed before count = record {
     count = count;
     each = λ w trace traced k i stands.
         let vs = all_views run.policy run.packets in
         let views = zip_count _ run.packets vs.0 vs.1 in
-        let at = length placed.verdicts.items in
+        let at = length placed.verdicts in
         let none : drop (length (gone w) + slice_index placed.next w) (numbers_of trace) ≡ [] =
         before.left w trace traced vs.0 vs.1
         ∙ (ap (numbers_from run.deal w at) (drop_all at vs.0 (omega arith)) ∙ no_numbers run.deal w at) in
@@ -356,8 +355,8 @@ record SplitNumbers (run : RunFacts) (gone : LetGo) (verdicts : List Verdict) (w
 
 -- Verdicts that are in place for the first packets of a run are placed, and no other is.
 pub in_place_before : (run : RunFacts) (more : List PacketFacts) (traces : List (List Item)) (gone : LetGo)
-    (all : List (Vec Verdict)) (verdicts : Vec Verdict)
-    → AreTold (record run { packets = run.packets ++ more }) traces gone all → AreInPlace run gone verdicts.items
+    (all : List (Vec Verdict)) (verdicts : List Verdict)
+    → AreTold (record run { packets = run.packets ++ more }) traces gone all → AreInPlace run gone verdicts
     → ArePlacedBefore (record run { packets = run.packets ++ more }) traces gone (before_batch verdicts)
 in_place_before run more traces gone all verdicts are place = record {
   room = refl;
@@ -368,7 +367,7 @@ in_place_before run more traces gone all verdicts are place = record {
       ∙ (ap (λ k. drop k (numbers_from run.deal w 0 s.front ++ numbers_from run.deal w (length s.front) s.back)) s.many
       ∙ (drop-append_seam (numbers_from run.deal w 0 s.front) (numbers_from run.deal w (length s.front) s.back)
       ∙ (ap (λ k. numbers_from run.deal w k s.back) s.count
-      ∙ ap (numbers_from run.deal w (length verdicts.items)) s.behind))));
+      ∙ ap (numbers_from run.deal w (length verdicts)) s.behind))));
   each = λ w trace traced k i stands below.
       let vs = all_views run.policy (run.packets ++ more) in
       let s = split w trace traced vs.0 vs.1 in
@@ -379,21 +378,21 @@ in_place_before run more traces gone all verdicts are place = record {
       let this = there (numbers_from run.deal w 0 s.front) k (let many = s.many in omega arith) in
       let same : this.0 ≡ i.packet = some-injective this.0 i.packet
       (sym (at_front (numbers_from run.deal w 0 s.front) (numbers_from run.deal w (length s.front) s.back) k this.0 this.1) ∙ number) in
-      let found : get_elem? verdicts.items this.0 ≡ some said.0 = some-injective _ _
-      (sym (after_map (λ n. get_elem? verdicts.items n) (numbers_from run.deal w 0 s.front) k this.0 this.1)
+      let found : get_elem? verdicts this.0 ≡ some said.0 = some-injective _ _
+      (sym (after_map (λ n. get_elem? verdicts n) (numbers_from run.deal w 0 s.front) k this.0 this.1)
       ∙ (ap (λ ns. get_elem? ns k) s.each ∙ after_map (λ v. some v) (gone w) k said.0 said.1)) in
       let share = there all w (let few = within traces w trace traced in let count = are.traced.count in let many = are.count in omega arith) in
       let right : said.0 ≡ verdict_in i = some-injective said.0 (verdict_in i)
       (sym (at_front (gone w) share.0.items k said.0 said.1)
       ∙ (ap (λ vs. get_elem? vs k) (are.said w trace share.0 traced share.1) ∙ after_map verdict_in trace k i stands)) in
-      ap (get_elem? verdicts.items) (sym same) ∙ (found ∙ ap some right);
+      ap (get_elem? verdicts) (sym same) ∙ (found ∙ ap some right);
 }
   where
     split : (w : ℕ) (trace : List Item) → get_elem? traces w ≡ some trace → (views : List frames.FrameFacts)
-        → AreFrames run.policy (run.packets ++ more) views → SplitNumbers run gone verdicts.items w trace views
+        → AreFrames run.policy (run.packets ++ more) views → SplitNumbers run gone verdicts w trace views
     split w trace traced views these =
         let s = views_split run.policy run.packets more views these in
-        let count : length s.0 ≡ length verdicts.items = sym (zip_count _ run.packets s.0 s.3) ∙ sym place.count in
+        let count : length s.0 ≡ length verdicts = sym (zip_count _ run.packets s.0 s.3) ∙ sym place.count in
         let each = place.each w s.0 (let few = within traces w trace traced in let counted = are.traced.count in omega arith) s.3 in
         record {
           front = s.0;
@@ -406,13 +405,13 @@ in_place_before run more traces gone all verdicts are place = record {
               (let e : 0 + length s.0 ≡ length s.0 = omega arith in e)));
           each = each;
           many =
-              let long = sym (length-map (numbers_from run.deal w 0 s.0) (λ n. get_elem? verdicts.items n))
+              let long = sym (length-map (numbers_from run.deal w 0 s.0) (λ n. get_elem? verdicts n))
               ∙ (ap length each ∙ length-map (gone w) (λ v. some v)) in omega arith;
         }
 
 -- all verdicts that are in place, after all packets
-pub all_in_place : (run : RunFacts) (traces : List (List Item)) (gone : LetGo) (all : List (Vec Verdict)) (verdicts : Vec Verdict)
-    → AreTold run traces gone all → AreInPlace run gone verdicts.items → ArePlaced run.packets traces verdicts.items
+pub all_in_place : (run : RunFacts) (traces : List (List Item)) (gone : LetGo) (all : List (Vec Verdict)) (verdicts : List Verdict)
+    → AreTold run traces gone all → AreInPlace run gone verdicts → ArePlaced run.packets traces verdicts
 all_in_place run traces gone all verdicts are place =
     let same = append-nil run.packets in
     all_placed run traces gone all are (before_batch verdicts)
@@ -427,34 +426,34 @@ more_than_one (suc zero) some_worker other = absurd (other refl)
 more_than_one (suc (suc n)) some_worker other = omega arith
 
 -- the verdicts of several workers are in place, and those of the only one are in order already
-pub all_verdicts_placed : (run : RunFacts) (traces : List (List Item)) (gone : LetGo) (all : List (Vec Verdict)) (merged : Vec Verdict)
-    → AreTold run traces gone all → (1 < run.deal.workers → AreInPlace run gone merged.items)
-    → (run.deal.workers ≡ 1 → gone 0 ≡ []) → (verdicts : List Verdict) → AreAllVerdicts merged.items all verdicts
-    → ArePlaced run.packets traces verdicts
-all_verdicts_placed run traces gone all merged are place none verdicts is = elim (eqb_tells run.deal.workers 1) [
+pub all_verdicts_placed : (run : RunFacts) (traces : List (List Item)) (gone : LetGo) (all : List (Vec Verdict)) (before : List Verdict)
+    (merged : Vec Verdict) → AreTold run traces gone all → (1 < run.deal.workers → AreInPlace run gone (before ++ merged.items))
+    → (run.deal.workers ≡ 1 → gone 0 ≡ before) → (verdicts : List Verdict) → AreAllVerdicts merged.items all verdicts
+    → ArePlaced run.packets traces (before ++ verdicts)
+all_verdicts_placed run traces gone all before merged are place none verdicts is = elim (eqb_tells run.deal.workers 1) [
   | inl (test, alone) ↦
       let t = there traces 0 (let count = are.traced.count in omega arith) in
       let s = there all 0 (let count = are.count in omega arith) in
-      subst (λ vs. ArePlaced run.packets traces vs)
+      subst (λ vs. ArePlaced run.packets traces (before ++ vs))
       (sym (is.one s.0 (all_first all s.0 (are.count ∙ alone) s.1)))
-      (subst (λ ts. ArePlaced run.packets ts s.0.items)
+      (subst (λ ts. ArePlaced run.packets ts (before ++ s.0.items))
       (sym (all_first traces t.0 (are.traced.count ∙ alone) t.1))
-      (one_placed run t.0 s.0.items alone (are.traced.each 0 t.0 t.1)
+      (one_placed run t.0 (before ++ s.0.items) alone (are.traced.each 0 t.0 t.1)
       (subst (λ vs. AreSaid t.0 (vs ++ s.0.items)) (none alone) (are.said 0 t.0 s.0 t.1 s.1))))
   | inr (test, other) ↦
       let many = more_than_one run.deal.workers are.some_worker other in
-      subst (λ vs. ArePlaced run.packets traces vs)
+      subst (λ vs. ArePlaced run.packets traces (before ++ vs))
       (sym (is.several (let count = are.count in omega arith)))
-      (all_in_place run traces gone all merged are (place many))
+      (all_in_place run traces gone all (before ++ merged.items) are (place many))
 ]
 
 -- the next of packets whose workers are known
 pub may_place_next : (run : RunFacts) (traces : List (List Item)) (gone : LetGo) (all : List (Vec Verdict)) (workers : List ℕ)
-    (old placed : VerdictMerge) (k w : ℕ) (may : MayPlace run traces gone all workers old)
-    → length placed.verdicts.items ≡ length old.verdicts.items + k → k < length workers → w ≡ slice_index workers k
+    (old placed : PlacedFacts) (k w : ℕ) (may : MayPlace run traces gone all workers old)
+    → length placed.verdicts ≡ length old.verdicts + k → k < length workers → w ≡ slice_index workers k
     → ArePlacedBefore run traces gone placed → IsNext run traces gone all placed w
 may_place_next run traces gone all workers old placed k w may count below this before =
-    let at = length old.verdicts.items + k in
+    let at = length old.verdicts + k in
     let inside : at < length run.packets = let i = may.judges.inside in omega arith in
     let packet : PacketFacts = get_or run.packets at (record { interface = 0; moment = 0; frame = [] }) in
     let stands = slice_get-get_or run.packets at (record { interface = 0; moment = 0; frame = [] }) inside in

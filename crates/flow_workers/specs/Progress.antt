@@ -1,5 +1,5 @@
 -- What workers begin with, what they have after the packets that they judged so far, and what they say in the end.
-use Rattle.std.specs.Prelude.{◌≡◌, ◌≤◌, ◌<◌, ◌+◌, ◌++◌, ◌^◌, ℕ, List, [], ◌∷◌, length, slice_index_or}
+use Rattle.std.specs.Prelude.{◌≡◌, ◌≤◌, ◌<◌, ◌+◌, ◌++◌, ◌^◌, ℕ, List, [], length, slice_index_or}
 use Rattle.packet_view.specs.Captures.{PacketFacts}
 use Rattle.packet_view.specs.CheckedCaptures.{remaining}
 use Rattle.packet_view.specs.declared.packets.Packets.{Packets}
@@ -42,9 +42,9 @@ pub record IsAtRestAfter {A B R G K L : Type 0} (ga : Ghosts A K) (gb : Ghosts B
   pub work : (more : List PacketFacts)
       → HasDoneAfter ga gb said setup (packets ++ more) worker (length packets) began share
 
--- All workers after these packets. Where they are several, what they said is merged, and they let it go; what the only one
--- said is in its share.
-pub record AreAtRest {A B R G K L : Type 0} {ga : Ghosts A K} {gb : Ghosts B L} (packets : List PacketFacts)
+-- All workers after these packets, of which they said this before and handed it over. Where they are several, what they said
+-- then is merged, and they let it go; what the only one said is in its share.
+pub record AreRestingBehind {A B R G K L : Type 0} {ga : Ghosts A K} {gb : Ghosts B L} (said : List Verdict) (packets : List PacketFacts)
     (all : Workers A B R G K L ga gb) : Type 0 where
   pub sound : IsSoundSetup ga gb all.setup
   pub count : all.count ≡ length packets
@@ -52,8 +52,12 @@ pub record AreAtRest {A B R G K L : Type 0} {ga : Ghosts A K} {gb : Ghosts B L} 
   pub gone : LetGo
   pub each : (i : ℕ) (d : Share A B K L ga gb) → i < all.setup.workers
       → IsAtRestAfter ga gb (gone i) all.setup packets i (slice_index_or all.shares.items i d)
-  pub merged : 1 < all.setup.workers → AreInPlace (run_facts ga gb all.setup packets) gone all.verdicts.items
-  pub kept : all.setup.workers ≡ 1 → gone 0 ≡ []
+  pub merged : 1 < all.setup.workers → AreInPlace (run_facts ga gb all.setup packets) gone (said ++ all.verdicts.items)
+  pub kept : all.setup.workers ≡ 1 → gone 0 ≡ said
+
+-- all workers after these packets, of which they handed over no verdict
+abbrev pub AreAtRest : {A B R G K L : Type 0} {ga : Ghosts A K} {gb : Ghosts B L} → List PacketFacts → Workers A B R G K L ga gb → Type 0
+AreAtRest packets all = AreRestingBehind [] packets all
 
 -- workers of this setup that judged no packet
 pub record AreBegun {A B R G K L : Type 0} {ga : Ghosts A K} {gb : Ghosts B L} (setup : Setup A B R G K L)
@@ -65,18 +69,20 @@ pub record AreBegun {A B R G K L : Type 0} {ga : Ghosts A K} {gb : Ghosts B L} (
 pub record CanJudge {A B R G K L : Type 0} {ga : Ghosts A K} {gb : Ghosts B L} (all : Workers A B R G K L ga gb)
     (more : Packets) : Type 0 where
   pub packets : List PacketFacts
-  pub rest : AreAtRest packets all
+  pub said : List Verdict
+  pub rest : AreRestingBehind said packets all
   pub fits : length packets + length (remaining more) < 2 ^ 64
 
 -- they judged these packets too
 pub record HaveJudged {A B R G K L : Type 0} {ga : Ghosts A K} {gb : Ghosts B L} (old : Workers A B R G K L ga gb)
     (more : Packets) (new : Workers A B R G K L ga gb) : Type 0 where
   pub by : new.setup ≡ old.setup
-  pub rest : (packets : List PacketFacts) → AreAtRest packets old → AreAtRest (packets ++ remaining more) new
+  pub rest : {said : List Verdict} (packets : List PacketFacts) → AreRestingBehind said packets old
+      → AreRestingBehind said (packets ++ remaining more) new
 
 -- they judged some packets
 abbrev pub CanEnd : {A B R G K L : Type 0} {ga : Ghosts A K} {gb : Ghosts B L} → Workers A B R G K L ga gb → Type 0
-CanEnd all = (packets : List PacketFacts) × AreAtRest packets all
+CanEnd all = (packets : List PacketFacts) × (said : List Verdict) × AreRestingBehind said packets all
 
 -- what packets are dealt by, to workers of this setup
 abbrev pub deal_in : {A B R G K L : Type 0} (ga : Ghosts A K) (gb : Ghosts B L) → Setup A B R G K L → Deal
@@ -93,39 +99,33 @@ abbrev pub HaveAllSaid : {A B R G K L : Type 0} (ga : Ghosts A K) (gb : Ghosts B
     → List Verdict → Type 0
 HaveAllSaid ga gb setup packets verdicts = (known : Views) × HaveSaidKnowing ga gb setup packets verdicts known
 
+-- They hand over what they said of the packets that they judged, and keep it no longer. What the only one said so far are the
+-- verdicts on all packets.
+pub record HaveHandedOver {A B R G K L : Type 0} {ga : Ghosts A K} {gb : Ghosts B L} (old new : Workers A B R G K L ga gb)
+    (verdicts : List Verdict) : Type 0 where
+  pub by : new.setup ≡ old.setup
+  pub rest : {said : List Verdict} (packets : List PacketFacts) → AreRestingBehind said packets old
+      → AreRestingBehind (said ++ verdicts) packets new
+  pub count : {said : List Verdict} (packets : List PacketFacts) → AreRestingBehind said packets old → length (said ++ verdicts) ≡ length packets
+  pub judged : {said : List Verdict} (packets : List PacketFacts) → AreRestingBehind said packets old → old.setup.workers ≡ 1
+      → HaveAllSaid ga gb old.setup packets (said ++ verdicts)
+
+-- They judged these packets too, and hand over what they said of all packets so far that they hadn't. What the only one said so
+-- far are the verdicts on all of them.
+pub record HaveJudgedOn {A B R G K L : Type 0} {ga : Ghosts A K} {gb : Ghosts B L} (old : Workers A B R G K L ga gb) (more : Packets)
+    (new : Workers A B R G K L ga gb) (verdicts : List Verdict) : Type 0 where
+  pub by : new.setup ≡ old.setup
+  pub rest : {said : List Verdict} (packets : List PacketFacts) → AreRestingBehind said packets old
+      → AreRestingBehind (said ++ verdicts) (packets ++ remaining more) new
+  pub count : {said : List Verdict} (packets : List PacketFacts) → AreRestingBehind said packets old
+      → length (said ++ verdicts) ≡ length (packets ++ remaining more)
+  pub judged : {said : List Verdict} (packets : List PacketFacts) → AreRestingBehind said packets old → old.setup.workers ≡ 1
+      → HaveAllSaid ga gb old.setup (packets ++ remaining more) (said ++ verdicts)
+
 -- These are the verdicts on the packets that they judged, and callers that are all of theirs, joined: they hold nothing, and
 -- know what the workers knew.
 pub record HaveEnded {A B R G K L : Type 0} {ga : Ghosts A K} {gb : Ghosts B L} (all : Workers A B R G K L ga gb)
     (verdicts : List Verdict) (callers : Callers A B K L ga gb) : Type 0 where
   pub idle : AreIdle ga gb all.setup.tables.now callers
-  pub said : (packets : List PacketFacts) → AreAtRest packets all → HaveSaidKnowing ga gb all.setup packets verdicts (views_of ga gb callers)
-
--- ---- One worker that keeps no verdict
-
--- the only worker after these packets: it said this of them and keeps it no longer, and then what is in its share
-pub record IsAlone {A B R G K L : Type 0} {ga : Ghosts A K} {gb : Ghosts B L} (packets : List PacketFacts)
-    (said : List Verdict) (all : Workers A B R G K L ga gb) : Type 0 where
-  pub sound : IsSoundSetup ga gb all.setup
-  pub one : all.setup.workers ≡ 1
-  pub count : all.count ≡ length packets
-  pub share : Share A B K L ga gb
-  pub only : all.shares.items ≡ share ∷ []
-  pub rest : IsAtRestAfter ga gb said all.setup packets 0 share
-
--- whatever packets it judged so far, these may follow
-pub record CanGoOn {A B R G K L : Type 0} {ga : Ghosts A K} {gb : Ghosts B L} (all : Workers A B R G K L ga gb)
-    (more : Packets) : Type 0 where
-  pub packets : List PacketFacts
-  pub said : List Verdict
-  pub alone : IsAlone packets said all
-  pub fits : length packets + length (remaining more) < 2 ^ 64
-
--- It judged these packets too. What it says of them follows what it said before, and all of it are the verdicts on all
--- packets.
-pub record HasGoneOn {A B R G K L : Type 0} {ga : Ghosts A K} {gb : Ghosts B L} (old : Workers A B R G K L ga gb)
-    (more : Packets) (new : Workers A B R G K L ga gb) (verdicts : List Verdict) : Type 0 where
-  pub by : new.setup ≡ old.setup
-  pub alone : (packets : List PacketFacts) (said : List Verdict) → IsAlone packets said old
-      → IsAlone (packets ++ remaining more) (said ++ verdicts) new
-  pub judged : (packets : List PacketFacts) (said : List Verdict) → IsAlone packets said old
-      → HaveAllSaid ga gb old.setup (packets ++ remaining more) (said ++ verdicts)
+  pub said : {before : List Verdict} (packets : List PacketFacts) → AreRestingBehind before packets all
+      → HaveSaidKnowing ga gb all.setup packets (before ++ verdicts) (views_of ga gb callers)

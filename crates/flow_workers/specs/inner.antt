@@ -1,9 +1,9 @@
 -- Definitions that go as the code goes. No promise is said by them.
 pub mod Ageing
-pub mod Alone
 pub mod CallerSplits
 pub mod Fresh
 pub mod Jobs
+pub mod LettingGo
 pub mod Merges
 pub mod PacketPlans
 pub mod Shares

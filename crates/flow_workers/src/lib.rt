@@ -3,7 +3,7 @@
 
 mod ageing_clock;
 mod gate;
-mod judge_alone;
+mod handing_over;
 mod judge_dealt_packets;
 mod judge_in_one_thread;
 mod judge_in_threads;

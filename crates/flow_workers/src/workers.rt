@@ -15,6 +15,7 @@ use packet_dealing::DealtRoom;
 use packet_view::Packets;
 use session_state::Verdict;
 use std::alloc::Global;
+use std::mem::replace;
 use std::sync::Wait;
 use std::thread::Threads;
 
@@ -24,8 +25,8 @@ pub struct Workers<'t, 'f, A: Shape, B: Shape, R: Wait, G: Gate> {
     pub setup: Setup<'t, 'f, A, B, R, G>,
     /// What each worker has, in their order.
     pub shares: Vec<Share<A, B>>,
-    /// The verdicts on the packets that they judged, in the packets' order, where there are several workers. Those of one
-    /// are in its share, but for those that `judge_alone` gave out.
+    /// The verdicts on the packets that they judged and didn't hand over, in the packets' order, where there are several
+    /// workers. Those of one are in its share.
     pub verdicts: Vec<Verdict>,
     /// How many packets they judged.
     pub count: usize,
@@ -97,7 +98,7 @@ where
     B::Key: Send + Sync,
 {
     ghost use Rattle.std.specs.Prelude.{IfOk};
-    ghost use Rattle.flow_workers.specs.Progress.{CanJudge, HaveJudged};
+    ghost use Rattle.flow_workers.specs.Progress.{CanJudge, HaveJudged, HaveJudgedOn};
 
     /// The workers after they judged these packets too, which follow those so far: each in a thread of its own where that
     /// pays. A worker whose thread can't be made is run by the calling thread. `Memory`: memory was refused.
@@ -139,5 +140,43 @@ where
             count: next,
             rooms,
         })
+    }
+
+    /// They judge these packets too, which follow those so far, as `judge` says. `Memory`: memory was refused, and they judge
+    /// no more.
+    pub fn judge_more(&mut self, alloc: Global, packets: Packets<'_>) -> Result<(), RunFault>
+        requires { CanJudge self.old packets }
+        ensures { IfOk result (λ _. HaveJudged self.old packets.entry self.new) }
+    {
+        let workers = Workers {
+            setup: self.setup.again(),
+            shares: replace(&mut self.shares, Vec::new(alloc)),
+            verdicts: replace(&mut self.verdicts, Vec::new(alloc)),
+            count: self.count,
+            rooms: replace(&mut self.rooms, Vec::new(alloc)),
+        };
+        match workers.judge(alloc, packets) {
+            Ok(judged) => {
+                *self = judged;
+                Ok(())
+            }
+            Err(fault) => Err(fault),
+        }
+    }
+
+    /// They judge these packets too, which follow those so far, and hand over what they say. `Memory`: memory was refused,
+    /// and they judge no more.
+    pub fn judge_on(
+        &mut self,
+        alloc: Global,
+        packets: Packets<'_>,
+    ) -> Result<Vec<Verdict>, RunFault>
+        requires { CanJudge self.old packets }
+        ensures { IfOk result (λ verdicts. HaveJudgedOn self.old packets.entry self.new verdicts.items) }
+    {
+        match self.judge_more(alloc, packets) {
+            Ok(()) => Ok(self.hand_over(alloc)),
+            Err(fault) => Err(fault),
+        }
     }
 }

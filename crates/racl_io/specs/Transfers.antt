@@ -27,6 +27,15 @@ pub record HasRead (before after : Option (List ℕ)) (old new : List ℕ) (leas
   pub ended : at_end ≡ true → IsAtEnd after × (length new < least)
   pub enough : at_end ≡ false → length new ≡ max (length old) least
 
+-- a buffer got so many bytes by one read, which the source lost, and then had no more than `most`; or none, only at the source's end
+pub record HasGained (before after : Option (List ℕ)) (old new : List ℕ) (most count : ℕ) : Type 0 where
+  pub read : List ℕ
+  pub consumed : Consumes before after read
+  pub appended : new ≡ old ++ read
+  pub size : count ≡ length read
+  pub few : length new ≤ most
+  pub ended : count ≡ 0 → IsAtEnd after
+
 -- the source is at its end after `count` bytes and those that it lost, or these are too many
 abbrev pub HasDrained : Option (List ℕ) → Option (List ℕ) → ℕ → Result ⊤ Fault → Type 0
 HasDrained before after count (Ok x) = (gone : List ℕ) × Consumes before after gone × IsAtEnd after × (count + length gone ≤ most_bytes)

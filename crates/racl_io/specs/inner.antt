@@ -1,3 +1,2 @@
-pub mod Gains
 pub mod Lines
 pub mod Names

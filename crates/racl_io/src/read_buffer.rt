@@ -20,11 +20,11 @@ pub struct ReadBuffer {
 
 impl ReadBuffer {
     ghost use Rattle.std.specs.Prelude.{◌≡◌, ◌+◌, ◌-◌, ◌<◌, ◌≤◌, ◌^◌, ◌⊎◌, IfOk, IfErr, IsErrOf, OnOk, OnErr, length, vec_len};
+    ghost use Rattle.std.specs.Io.KnownBytes.{Keeps};
     ghost use Rattle.racl_io.specs.Buffers.{held_by, room_in};
     ghost use Rattle.racl_io.specs.Inputs.{most_bytes};
-    ghost use Rattle.racl_io.specs.Transfers.{HasRead, HasReadWithin};
+    ghost use Rattle.racl_io.specs.Transfers.{HasGained, HasRead, HasReadWithin};
     ghost use Rattle.racl_io.specs.declared.fault.Fault.TheVariants.{Memory, Read};
-    ghost use Rattle.racl_io.specs.inner.Gains.{HasGained};
 
     /// Holds these bytes, and has no room for more yet.
     pub fn new(bytes: Vec<u8>) -> ReadBuffer
@@ -82,12 +82,13 @@ impl ReadBuffer {
         self.grow(self.count + more)
     }
 
-    // Reads some bytes behind those that it holds, so many in all at most, and none only at the end: how many they are.
-    fn read_some<R: Source>(&mut self, reader: &mut R, most: usize) -> Result<usize, Fault>
+    /// Reads some bytes behind those that it holds, so many in all at most, and none only at the end: how many they are.
+    pub fn read_some<R: Source>(&mut self, reader: &mut R, most: usize) -> Result<usize, Fault>
         requires some { length (held_by self.old) < most }
         requires sound { R.failures reader.old < 2 ^ 64 - 1 }
         ensures gained { IfOk result (HasGained (R.bytes reader.old) (R.bytes reader.new) (held_by self.old) (held_by self.new) most) }
         ensures within { HasReadWithin R.bytes R.failures (most - length (held_by self.old)) reader.old reader.new result }
+        ensures kept { IfErr result (λ _. Keeps (R.bytes reader.old) (R.bytes reader.new)) }
         ensures faults { IfErr result (λ e. (e ≡ Memory) ⊎ (e ≡ Read)) }
         ensures memory { IsErrOf result Fault.Memory → room_in self.old < most }
         ensures room { room_in self.old ≤ room_in self.new }

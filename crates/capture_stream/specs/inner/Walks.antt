@@ -1,78 +1,51 @@
 -- A capture of which some windows were judged.
-use Rattle.std.specs.Prelude.{◌≡◌, ◌+◌, ◌<◌, ◌≤◌, ◌++◌, ◌^◌, ℕ, true, false, List, [], Option, drop, length, ⊤}
+use Rattle.std.specs.Prelude.{◌≡◌, ◌+◌, ◌<◌, ◌≤◌, ℕ, true, false, List, [], Option, drop, length, ⊤}
 use Rattle.std.specs.Io.KnownBytes.{Consumes, IsAtEnd}
-use Rattle.packet_view.specs.Captures.{AreRecords, IsEnd, IsTooLong, PacketFacts, RecordFacts, end_of, packets_at}
-use Rattle.packet_view.specs.RecordLists.{records_from}
+use Rattle.packet_view.specs.Captures.{AreRecords, IsEnd, IsTooLong, PacketFacts, RecordFacts, end_of}
+use Rattle.session_state.specs.declared.verdict.Verdict.{Verdict}
 use Rattle.racl_io.specs.declared.fault.Fault.{Fault}
 use Rattle.racl_io.specs.declared.fault.Fault.TheVariants.{LongRecord, Memory, Read, TooLarge}
-use Rattle.racl_io.specs.Buffers.{held_by}
 use Rattle.racl_io.specs.Inputs.{most_bytes}
-use Rattle.capture_stream.specs.Judging.{HaveFollowed}
-use Rattle.capture_stream.specs.Streams.{records_in}
-use Rattle.capture_stream.specs.Found.{HaveFound, behind_of}
+use Rattle.capture_stream.specs.Feeding.{Fed, MayFeed, rest_in}
+use Rattle.capture_stream.specs.declared.engine.Engine.{Engine}
 use Rattle.capture_stream.specs.declared.stream_judging.Opening.{Opening}
 use Rattle.capture_stream.specs.declared.stream_judging.Streamed.{Streamed}
 use Rattle.capture_stream.specs.declared.stream_judging.Walk.{Walk}
 
--- the bytes that are not judged
-abbrev pub ahead_of : {J : Type 0} → Walk J → List ℕ
-ahead_of walk = drop walk.from (held_by walk.window)
-
--- the whole records there, and the bytes behind them
-abbrev pub records_ahead : {J : Type 0} → Walk J → List RecordFacts
-records_ahead walk = records_from walk.order walk.found.count (ahead_of walk)
-
-abbrev pub rest_of : {J : Type 0} → Walk J → List ℕ
-rest_of walk = behind_of (ahead_of walk) walk.found
-
--- where a walk may go on from: whatever packets those who judge judged so far, those of the records ahead may follow, which are found; and no more of the capture
--- were judged than bytes were read before those ahead
-pub record MayAdvance {J : Type 0} (Became : J → List PacketFacts → J → Type 0) (walk : Walk J) : Type 0 where
-  pub begun : J
-  pub packets : List PacketFacts
-  pub stand : Became begun packets walk.judges
-  pub room : length packets + length (ahead_of walk) < 2 ^ 64
-  pub within : walk.from ≤ length (held_by walk.window)
-  pub found : HaveFound walk.order (ahead_of walk) walk.found
-  pub few : walk.packets + length (ahead_of walk) ≤ walk.read
+-- where a walk may go on from: the packets that wait may be judged, and no more were than bytes were read before those that wait
+pub record MayAdvance {J : Type 0} (Became : J → List PacketFacts → List Verdict → J → Type 0) (walk : Walk J) : Type 0 where
+  pub may : MayFeed Became walk.engine 0
+  pub few : walk.engine.packets + length (rest_in walk.engine) ≤ walk.read
   pub bound : walk.read ≤ most_bytes
 
--- the packets of the whole records ahead were judged, and what was read stands behind the rest
-pub record HasAdvanced {J : Type 0} (Became : J → List PacketFacts → J → Type 0) (old : Walk J) (before after : Option (List ℕ))
+-- what was read behind what waited was fed
+pub record HasAdvanced {J : Type 0} (Became : J → List PacketFacts → List Verdict → J → Type 0) (old : Walk J) (before after : Option (List ℕ))
     (new : Walk J) : Type 0 where
-  pub more : List RecordFacts
-  pub rest : List ℕ
   pub read : List ℕ
-  pub records : AreRecords old.order (ahead_of old) more rest
-  pub judged : HaveFollowed Became old.judges (packets_at old.interface more) new.judges
-  pub count : new.packets ≡ old.packets + length more
   pub consumed : Consumes before after read
-  pub ahead : ahead_of new ≡ rest ++ read
+  pub said : List Verdict
+  pub fed : Fed Became old.engine new.engine read said
   pub size : new.read ≡ old.read + length read
   pub bound : new.read ≤ most_bytes
-  pub order : new.order ≡ old.order
-  pub interface : new.interface ≡ old.interface
-  pub within : new.from ≤ length (held_by new.window)
-  pub found : HaveFound new.order (ahead_of new) new.found
   pub ended : new.ended ≡ true → IsAtEnd after
   pub goes_on : new.ended ≡ false → old.read < new.read
 
--- the packets of all records ahead were judged
-pub record HasEnded {J : Type 0} (Became : J → List PacketFacts → J → Type 0) (walk : Walk J) (streamed : Streamed J) : Type 0 where
-  pub more : List RecordFacts
-  pub rest : List ℕ
-  pub records : AreRecords walk.order (ahead_of walk) more rest
-  pub end : IsEnd walk.order rest (end_of streamed.truncated)
-  pub judged : HaveFollowed Became walk.judges (packets_at walk.interface more) streamed.judges
-  pub count : streamed.packets ≡ walk.packets + length more
+-- the packets of all records that waited were judged
+pub record HasEnded {J : Type 0} (Became : J → List PacketFacts → List Verdict → J → Type 0) (walk : Walk J) (streamed : Streamed J) : Type 0 where
+  pub engine : Engine J
+  pub said : List Verdict
+  pub fed : Fed Became walk.engine engine [] said
+  pub end : IsEnd engine.order (rest_in engine) (end_of streamed.truncated)
+  pub judges : streamed.judges ≡ engine.judges
+  pub packets : streamed.packets ≡ engine.packets
 
--- ahead the record of this number, counted from the capture's first, is the first that is too long
+-- of what waits the record of this number, counted from the capture's first, is the first that is too long
 pub record HasLongAhead {J : Type 0} (walk : Walk J) (number : ℕ) : Type 0 where
   pub more : List RecordFacts
   pub rest : List ℕ
-  pub records : AreRecords walk.order (ahead_of walk) more rest
-  pub long : IsTooLong walk.order rest
-  pub counted : number ≡ walk.packets + length more + 1
+  pub records : AreRecords walk.engine.order (rest_in walk.engine) more rest
+  pub long : IsTooLong walk.engine.order rest
+  pub counted : number ≡ walk.engine.packets + length more + 1
 
 -- the source gave all its bytes, and they aren't too many
 abbrev pub IsDrained : {J : Type 0} → Walk J → Option (List ℕ) → Option (List ℕ) → Type 0
@@ -92,25 +65,36 @@ IsLastFault walk Memory = ⊤
 IsLastFault walk (LongRecord number) = HasLongAhead walk number
 IsLastFault walk fault = ⊥
 
+-- nothing was judged, and what was read from the first record on waits
+pub record IsOver {J : Type 0} (judges : J) (opening : Opening) (engine : Engine J) : Type 0 where
+  pub judges_are : engine.judges ≡ judges
+  pub waits : rest_in engine ≡ drop opening.from opening.bytes.items
+  pub order_is : engine.order ≡ opening.order
+  pub interface_is : engine.interface ≡ opening.interface
+  pub found_is : engine.found ≡ opening.found
+  pub packets : engine.packets ≡ 0
+
+-- a walk begins
+pub record IsBeginOf {J : Type 0} (judges : J) (opening : Opening) (walk : Walk J) : Type 0 where
+  pub over : IsOver judges opening walk.engine
+  pub read : walk.read ≡ length opening.bytes.items
+  pub ended : walk.ended ≡ opening.ended
+
 -- nothing was read, and nothing will be
 pub record IsAllOf {J : Type 0} (walk : Walk J) (gone : List ℕ) : Type 0 where
   pub none : gone ≡ []
   pub ended : walk.ended ≡ true
 
--- all that was read after the opening is records that were judged and the bytes ahead
-pub record IsAmid {J : Type 0} (Became : J → List PacketFacts → J → Type 0) (judges : J) (opening : Opening) (before now : Option (List ℕ))
+-- all that was read after the opening was fed
+pub record IsAmid {J : Type 0} (Became : J → List PacketFacts → List Verdict → J → Type 0) (judges : J) (opening : Opening) (before now : Option (List ℕ))
     (walk : Walk J) : Type 0 where
+  pub first : Engine J
+  pub over : IsOver judges opening first
   pub gone : List ℕ
   pub consumed : Consumes before now gone
-  pub packets : List RecordFacts
-  pub records : AreRecords opening.order (records_in opening gone) packets (ahead_of walk)
-  pub judged : HaveFollowed Became judges (packets_at opening.interface packets) walk.judges
-  pub count : walk.packets ≡ length packets
+  pub said : List Verdict
+  pub fed : Fed Became first walk.engine gone said
   pub size : walk.read ≡ length opening.bytes.items + length gone
   pub bound : walk.read ≤ most_bytes
-  pub order : walk.order ≡ opening.order
-  pub interface : walk.interface ≡ opening.interface
-  pub within : walk.from ≤ length (held_by walk.window)
-  pub found : HaveFound walk.order (ahead_of walk) walk.found
   pub ended : walk.ended ≡ true → IsAtEnd now
   pub all : opening.ended ≡ true → IsAllOf walk gone

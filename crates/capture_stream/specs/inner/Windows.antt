@@ -1,28 +1,12 @@
--- Those who judge packets in one thread, and what another one reads: before and after.
+-- A window that is read.
 use Rattle.std.specs.Prelude.{◌≡◌, ◌+◌, ◌-◌, ◌<◌, ◌≤◌, ◌^◌, ◌⊎◌, ℕ, IfErr, IfOk, List, Option, Result, length}
-use Rattle.packet_view.specs.Captures.{PacketFacts}
 use Rattle.packet_view.specs.declared.capture.Order.{Order}
-use Rattle.packet_view.specs.declared.packets.Packets.{Packets}
 use Rattle.racl_io.specs.declared.fault.Fault.{Fault}
 use Rattle.racl_io.specs.declared.fault.Fault.TheVariants.{Memory, Read}
 use Rattle.racl_io.specs.Inputs.{most_bytes}
 use Rattle.racl_io.specs.Transfers.{HasRead, HasReadWithin}
-use Rattle.capture_stream.specs.Judging.{CanFollow, HaveFollowed}
 use Rattle.capture_stream.specs.Found.{HaveFound}
 use Rattle.capture_stream.specs.declared.windows_of_records.NextWindow.{NextWindow}
-use Rattle.capture_stream.specs.declared.windows_of_records.WindowJudges.{WindowJudges}
-use Rattle.capture_stream.specs.declared.windows_of_records.WindowJudges.TheVariants.{Ahead, Over, Under}
-
--- they are ahead of these packets
-abbrev pub CanJudge : {J : Type 0} → (J → List PacketFacts → J → Type 0) → WindowJudges J → Packets → Type 0
-CanJudge Became (Ahead judges) more = CanFollow Became judges more
-CanJudge Became Under more = ⊥
-CanJudge Became (Over result) more = ⊥
-
--- they were ahead of these packets, and judged them or had no memory
-abbrev pub HaveJudged : {J : Type 0} → (J → List PacketFacts → J → Type 0) → WindowJudges J → List PacketFacts → WindowJudges J → Type 0
-HaveJudged Became (Ahead judges) more (Over result) = IfOk result (HaveFollowed Became judges more)
-HaveJudged Became old more new = ⊥
 
 -- so many bytes may be read
 abbrev pub MayRead : ℕ → ℕ → Type 0

@@ -150,8 +150,8 @@ struct Asked<'t> {
     ages: bool,
 }
 
-// The verdicts of a test's workers on two parts, one after the other; then the pairs of the table of IPv4 flows,
-// and how many the other one has.
+// The verdicts of a test's workers on two parts, one after the other, of which they hand over the first's; then the pairs
+// of the table of IPv4 flows, and how many the other one has.
 fn verdicts_on_parts<R: Threads + Wait + Sync, G: Gate + Sync>(
     rt: &R,
     alloc: Global,
@@ -185,16 +185,19 @@ fn verdicts_on_parts<R: Threads + Wait + Sync, G: Gate + Sync>(
         many: 0,
         ages: asked.ages,
     };
-    let Ok(begun) = Workers::new(alloc, setup, callers) else {
+    let Ok(mut begun) = Workers::new(alloc, setup, callers) else {
         return Err(RunFault::Memory);
     };
-    let Ok(once) = begun.judge(alloc, Packets::Slice(first)) else {
+    let Ok(mut verdicts) = begun.judge_on(alloc, Packets::Slice(first)) else {
         return Err(RunFault::Memory);
     };
-    let Ok(twice) = once.judge(alloc, Packets::Slice(second)) else {
+    let Ok(twice) = begun.judge(alloc, Packets::Slice(second)) else {
         return Err(RunFault::Memory);
     };
-    let Ok((verdicts, callers)) = twice.end(alloc) else {
+    let Ok((last, callers)) = twice.end(alloc) else {
+        return Err(RunFault::Memory);
+    };
+    let Ok(()) = verdicts.extend_from_slice(&last) else {
         return Err(RunFault::Memory);
     };
     let Ok((four, six)) = close_tables(rt, alloc, tables, callers) else {

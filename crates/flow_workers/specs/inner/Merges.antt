@@ -14,6 +14,16 @@ use Rattle.flow_workers.specs.declared.verdict_merge.VerdictMerge.{VerdictMerge}
 use Rattle.flow_workers.specs.declared.worker_share.Share.{Share}
 use Rattle.flow_workers.specs.inner.Work.{AreSaid, RunFacts, numbers_of, verdict_in}
 
+-- the verdicts on the first packets, of which some may be kept no longer, and how many of those in each worker's share are
+-- among them
+pub record PlacedFacts : Type 0 where
+  pub verdicts : List Verdict
+  pub next : List ℕ
+
+-- those that are placed behind these, which are kept no longer
+abbrev pub placed_behind : List Verdict → VerdictMerge → PlacedFacts
+placed_behind said placed = record { verdicts = said ++ placed.verdicts.items; next = placed.next }
+
 -- what each worker said before and its share keeps no longer, by the worker's number
 abbrev pub LetGo : Type 0
 LetGo = ℕ → List Verdict
@@ -46,54 +56,54 @@ pub record AreInPlace (run : RunFacts) (gone : LetGo) (verdicts : List Verdict) 
 
 -- The verdicts on the first packets are at their places, and none of the others: each worker's are those that it let go, and
 -- so many of those in its share.
-pub record ArePlacedBefore (run : RunFacts) (traces : List (List Item)) (gone : LetGo) (placed : VerdictMerge) : Type 0 where
+pub record ArePlacedBefore (run : RunFacts) (traces : List (List Item)) (gone : LetGo) (placed : PlacedFacts) : Type 0 where
   pub room : length placed.next ≡ 16
   pub left : (w : ℕ) (trace : List Item) → get_elem? traces w ≡ some trace
       → (views : List frames.FrameFacts) → AreFrames run.policy run.packets views
       → drop (length (gone w) + slice_index placed.next w) (numbers_of trace)
-      ≡ numbers_from run.deal w (length placed.verdicts.items) (drop (length placed.verdicts.items) views)
+      ≡ numbers_from run.deal w (length placed.verdicts) (drop (length placed.verdicts) views)
   pub each : (w : ℕ) (trace : List Item) → get_elem? traces w ≡ some trace → (k : ℕ) (i : Item)
       → get_elem? trace k ≡ some i → k < length (gone w) + slice_index placed.next w
-      → get_elem? placed.verdicts.items i.packet ≡ some (verdict_in i)
+      → get_elem? placed.verdicts i.packet ≡ some (verdict_in i)
 
 -- the verdicts on the packets before these workers' are placed
 pub record MayPlace (run : RunFacts) (traces : List (List Item)) (gone : LetGo) (all : List (Vec Verdict))
-    (workers : List ℕ) (placed : VerdictMerge) : Type 0 where
+    (workers : List ℕ) (placed : PlacedFacts) : Type 0 where
   pub told : AreTold run traces gone all
-  pub judges : AreJudges run (length placed.verdicts.items) workers
+  pub judges : AreJudges run (length placed.verdicts) workers
   pub before : ArePlacedBefore run traces gone placed
 
 -- so they are for some run
 abbrev pub CanPlace : List (Vec Verdict) → List ℕ → VerdictMerge → Type 0
-CanPlace all workers placed = (run : RunFacts) × (traces : List (List Item)) × (gone : LetGo)
-    × MayPlace run traces gone all workers placed
+CanPlace all workers placed = (run : RunFacts) × (traces : List (List Item)) × (gone : LetGo) × (said : List Verdict)
+    × MayPlace run traces gone all workers (placed_behind said placed)
 
 -- the verdicts on the packets of these workers were placed after those that were
 pub record HasPlaced (all : List (Vec Verdict)) (workers : List ℕ) (old new : VerdictMerge) : Type 0 where
   pub count : length new.verdicts.items ≡ length old.verdicts.items + length workers
-  pub placed : (run : RunFacts) (traces : List (List Item)) (gone : LetGo) → MayPlace run traces gone all workers old
-      → ArePlacedBefore run traces gone new
+  pub placed : (run : RunFacts) (traces : List (List Item)) (gone : LetGo) (said : List Verdict)
+      → MayPlace run traces gone all workers (placed_behind said old) → ArePlacedBefore run traces gone (placed_behind said new)
 
 -- the verdicts on the packets before a batch, and none on the batch's
-abbrev pub before_batch : Vec Verdict → VerdictMerge
+abbrev pub before_batch : List Verdict → PlacedFacts
 before_batch verdicts = record { verdicts = verdicts; next = replicate 16 0 }
 
 -- these are the workers of the packets of a batch, the last of the run, and the verdicts on those before it are placed
 pub record MayMerge (run : RunFacts) (traces : List (List Item)) (gone : LetGo) (all : List (Vec Verdict))
-    (workers : List ℕ) (verdicts : Vec Verdict) : Type 0 where
+    (workers : List ℕ) (verdicts : List Verdict) : Type 0 where
   pub may : MayPlace run traces gone all workers (before_batch verdicts)
-  pub last : length verdicts.items + length workers ≡ length run.packets
+  pub last : length verdicts + length workers ≡ length run.packets
 
 -- so they are for some run
 abbrev pub CanMerge : List (Vec Verdict) → List ℕ → Vec Verdict → Type 0
-CanMerge all workers verdicts = (run : RunFacts) × (traces : List (List Item)) × (gone : LetGo)
-    × MayMerge run traces gone all workers verdicts
+CanMerge all workers verdicts = (run : RunFacts) × (traces : List (List Item)) × (gone : LetGo) × (said : List Verdict)
+    × MayMerge run traces gone all workers (said ++ verdicts.items)
 
 -- These verdicts are what was said, in the order of the packets, whatever the run and its traces were, and whatever the
 -- workers let go before.
 abbrev pub AreMerged : List (Vec Verdict) → List ℕ → Vec Verdict → List Verdict → Type 0
-AreMerged all workers before verdicts = (run : RunFacts) (traces : List (List Item)) (gone : LetGo)
-    → MayMerge run traces gone all workers before → ArePlaced run.packets traces verdicts
+AreMerged all workers before verdicts = (run : RunFacts) (traces : List (List Item)) (gone : LetGo) (said : List Verdict)
+    → MayMerge run traces gone all workers (said ++ before.items) → ArePlaced run.packets traces (said ++ verdicts)
 
 -- the shares have their callers, and nothing that was said
 pub record HaveLetGo {A B K L : Type 0} {ga : Ghosts A K} {gb : Ghosts B L} (old new : List (Share A B K L ga gb))
@@ -115,7 +125,7 @@ numbers_behind run w v at views = if w == v then at ∷ numbers_from run.deal v 
 
 -- the next packet is this worker's, which said this of it
 pub record IsNext (run : RunFacts) (traces : List (List Item)) (gone : LetGo) (all : List (Vec Verdict))
-    (placed : VerdictMerge) (w : ℕ) : Type 0 where
+    (placed : PlacedFacts) (w : ℕ) : Type 0 where
   pub trace : List Item
   pub traced : get_elem? traces w ≡ some trace
   pub said : Vec Verdict
@@ -124,24 +134,24 @@ pub record IsNext (run : RunFacts) (traces : List (List Item)) (gone : LetGo) (a
   pub item : Item
   pub at : get_elem? trace (length (gone w) + slice_index placed.next w) ≡ some item
   pub verdict : get_elem? said.items (slice_index placed.next w) ≡ some (verdict_in item)
-  pub number : item.packet ≡ length placed.verdicts.items
+  pub number : item.packet ≡ length placed.verdicts
   pub behind : (v : ℕ) (views : List frames.FrameFacts) → AreFrames run.policy run.packets views
-      → numbers_from run.deal v (length placed.verdicts.items) (drop (length placed.verdicts.items) views)
-      ≡ numbers_behind run w v (length placed.verdicts.items) views
+      → numbers_from run.deal v (length placed.verdicts) (drop (length placed.verdicts) views)
+      ≡ numbers_behind run w v (length placed.verdicts) views
 
 -- this worker's next verdict is that on the next packet
 pub record MayPlaceNext (run : RunFacts) (traces : List (List Item)) (gone : LetGo) (all : List (Vec Verdict))
-    (placed : VerdictMerge) (w : ℕ) : Type 0 where
+    (placed : PlacedFacts) (w : ℕ) : Type 0 where
   pub before : ArePlacedBefore run traces gone placed
   pub next : IsNext run traces gone all placed w
 
 -- so it is for some run
 abbrev pub CanPlaceNext : List (Vec Verdict) → VerdictMerge → ℕ → Type 0
-CanPlaceNext all placed w = (run : RunFacts) × (traces : List (List Item)) × (gone : LetGo)
-    × MayPlaceNext run traces gone all placed w
+CanPlaceNext all placed w = (run : RunFacts) × (traces : List (List Item)) × (gone : LetGo) × (said : List Verdict)
+    × MayPlaceNext run traces gone all (placed_behind said placed) w
 
 -- this worker's next verdict was placed
 pub record HasPlacedNext (all : List (Vec Verdict)) (old : VerdictMerge) (w : ℕ) (new : VerdictMerge) : Type 0 where
   pub count : length new.verdicts.items ≡ length old.verdicts.items + 1
-  pub placed : (run : RunFacts) (traces : List (List Item)) (gone : LetGo) → MayPlaceNext run traces gone all old w
-      → ArePlacedBefore run traces gone new
+  pub placed : (run : RunFacts) (traces : List (List Item)) (gone : LetGo) (said : List Verdict)
+      → MayPlaceNext run traces gone all (placed_behind said old) w → ArePlacedBefore run traces gone (placed_behind said new)

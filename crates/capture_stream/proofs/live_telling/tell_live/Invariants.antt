@@ -3,10 +3,10 @@ use Rattle.capture_stream.specs.Lives.{most_live}
 use Rattle.capture_stream.specs.inner.Tellings.{IsLive}
 use Rattle.capture_stream.proofs.live_telling.tell_live.Given as goal
 
--- all that was read is records that were told and the window, and no device failed
+-- all that was read is records that were told and what waits, and no device failed
 abbrev pub invariant-reads : goal.invariant-reads
 invariant-reads g l = record {
-  live : IsLive g.J.Tellers.became g.J.Tellers.judged l.fn.judges l.fn.order (g.R.Source.bytes l.fn.reader) (g.R.Source.bytes l.reader)
+  live : IsLive g.J.Judge.became g.J.Judge.judged l.fn.judges l.fn.order (g.R.Source.bytes l.fn.reader) (g.R.Source.bytes l.reader)
       (g.W.Sink.bytes l.fn.writer) (g.W.Sink.bytes l.writer) l.live;
   reads : g.R.Source.failures l.reader ≡ g.R.Source.failures l.fn.reader;
   writes : g.W.Sink.failures l.writer ≡ g.W.Sink.failures l.fn.writer;

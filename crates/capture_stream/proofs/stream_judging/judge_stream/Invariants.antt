@@ -6,7 +6,7 @@ use Rattle.capture_stream.proofs.stream_judging.judge_stream.Given as goal
 -- the walk is amid the capture, and no read failed
 abbrev pub invariant-windows : goal.invariant-windows
 invariant-windows g l = record {
-  amid : IsAmid g.J.Judges.became l.fn.judges l.fn.opening (g.R.Source.bytes l.fn.reader) (g.R.Source.bytes l.reader) l.walk;
+  amid : IsAmid g.J.Judge.became l.fn.judges l.fn.opening (g.R.Source.bytes l.fn.reader) (g.R.Source.bytes l.reader) l.walk;
   sound : g.R.Source.failures l.reader ≡ g.R.Source.failures l.fn.reader;
 }
 

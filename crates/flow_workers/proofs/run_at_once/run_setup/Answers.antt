@@ -4,7 +4,7 @@ use Rattle.flow_workers.proofs.RestLemmas.{said_by}
 use Rattle.flow_workers.proofs.run_at_once.run_setup.Goals as goal
 
 pub end-requires : goal.end-requires
-end-requires g c = (remaining c.args.packets, c.in-Ok-judge.ensures.rest [] c.in-Ok.ensures.rest)
+end-requires g c = (remaining c.args.packets, [], c.in-Ok-judge.ensures.rest [] c.in-Ok.ensures.rest)
 
 pub returns-in-Ok-end : goal.returns-in-Ok-end
 returns-in-Ok-end g c =

@@ -1,6 +1,6 @@
 use Rattle.std.proofs.Common.{subst}
 use Rattle.capture_stream.specs.Found.{HaveFound}
-use Rattle.capture_stream.proofs.WalkLemmas.{part_from}
+use Rattle.capture_stream.proofs.FeedLemmas.{part_from}
 use Rattle.capture_stream.proofs.stream_judging.Opening.new.Goals as goal
 
 pub returns-clause-found : goal.returns-clause-found

@@ -1,4 +1,4 @@
-use Rattle.std.proofs.Common.{arith, map}
+use Rattle.std.proofs.Common.{◌++◌, arith, map}
 use Rattle.flow_dealing.specs.AgeingTraces.{items_in}
 use Rattle.packet_view.specs.declared.tuple.Family.TheVariants.{V4, V6}
 use Rattle.flow_workers.proofs.MergeLemmas.{all_verdicts_placed}
@@ -7,7 +7,7 @@ use Rattle.flow_workers.proofs.workers.Workers.end.Goals as goal
 
 pub join_worker_callers-requires : goal.join_worker_callers-requires
 join_worker_callers-requires g c =
-    let rest = c.requires.1 in
+    let rest = c.requires.2 in
     let p =
     results_are g.A.Shape g.B.Shape c.args.self.setup c.requires.0 rest.gone rest.sound c.args.self.shares.items rest.shares
     rest.each c.in_ok-four.field-0 c.in_ok-four.ensures in
@@ -17,7 +17,7 @@ join_worker_callers-requires g c =
 
 pub join_worker_callers-requires-2 : goal.join_worker_callers-requires-2
 join_worker_callers-requires-2 g c =
-    let rest = c.requires.1 in
+    let rest = c.requires.2 in
     let p =
     results_are g.A.Shape g.B.Shape c.args.self.setup c.requires.0 rest.gone rest.sound c.args.self.shares.items rest.shares
     rest.each c.in_ok-four.field-0 c.in_ok-four.ensures in
@@ -32,7 +32,7 @@ returns g c = record {
     free = (c.join_worker_callers.ensures.free, c.join_worker_callers-2.ensures.free);
     lawful = (c.join_worker_callers.ensures.lawful, c.join_worker_callers-2.ensures.lawful);
   };
-  said = λ packets rest.
+  said = λ {before} packets rest.
       let p =
       results_are g.A.Shape g.B.Shape c.args.self.setup packets rest.gone rest.sound c.args.self.shares.items rest.shares
       rest.each c.in_ok-four.field-0 c.in_ok-four.ensures in
@@ -41,7 +41,7 @@ returns g c = record {
       (c.join_worker_callers.ensures.lawful, c.join_worker_callers-2.ensures.lawful)
       (c.join_worker_callers.ensures.whole, c.join_worker_callers-2.ensures.whole)
       (c.join_worker_callers.ensures.deeds _ V4 p.all p.four) (c.join_worker_callers-2.ensures.deeds _ V6 p.all p.six)
-      c.all_verdicts.result.items
-      (all_verdicts_placed _ (map items_in p.all) rest.gone c.in_ok-four.field-0.said.items c.args.self.verdicts p.told rest.merged rest.kept
+      (before ++ c.all_verdicts.result.items)
+      (all_verdicts_placed _ (map items_in p.all) rest.gone c.in_ok-four.field-0.said.items before c.args.self.verdicts p.told rest.merged rest.kept
       c.all_verdicts.result.items c.all_verdicts.ensures);
 }

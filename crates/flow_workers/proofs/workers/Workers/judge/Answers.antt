@@ -1,4 +1,4 @@
-use Rattle.std.proofs.Common.{arith, refl, subst, sym}
+use Rattle.std.proofs.Common.{◌++◌, arith, refl, subst, sym}
 use Rattle.std.proofs.lemmas.Bool.{eqb-true}
 use Rattle.std.specs.Prelude.{IfOk}
 use Rattle.flow_workers.specs.inner.Merges.{AreMerged, MayMerge, said_in_shares}
@@ -24,10 +24,11 @@ place_verdicts-requires g c =
       may.0,
       may.1,
       may.2,
-      subst (λ ss. MayMerge may.0 may.1 may.2 (said_in_shares ss) c.as_slice.result.now c.args.self.verdicts)
+      may.3,
+      subst (λ ss. MayMerge may.0 may.1 may.2 (said_in_shares ss) c.as_slice.result.now (may.3 ++ c.args.self.verdicts.items))
           (sym c.as_slice-then-not-is_alone.ensures.value)
-          (subst (λ ws. MayMerge may.0 may.1 may.2 (said_in_shares judged.shares.items) ws c.args.self.verdicts)
-          (sym c.as_slice.ensures.value) may.3),
+          (subst (λ ws. MayMerge may.0 may.1 may.2 (said_in_shares judged.shares.items) ws (may.3 ++ c.args.self.verdicts.items))
+          (sym c.as_slice.ensures.value) may.4),
     )
 
 pub returns : goal.returns

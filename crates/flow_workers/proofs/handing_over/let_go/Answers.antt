@@ -1,5 +1,5 @@
-use Rattle.flow_workers.proofs.AloneLemmas.{whole_idle}
-use Rattle.flow_workers.proofs.judge_alone.let_go.Goals as goal
+use Rattle.flow_workers.proofs.HandedOver.{whole_idle}
+use Rattle.flow_workers.proofs.handing_over.let_go.Goals as goal
 
 pub returns : goal.returns
 returns g c = record {
