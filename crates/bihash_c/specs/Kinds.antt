@@ -1,5 +1,5 @@
 -- The kinds of tables: keys of two words or of five, of the usual size or large.
-use Rattle.std.specs.Prelude.{ℕ, List}
+use Rattle.std.specs.Prelude.{ℕ, List, take}
 use Rattle.bihash_words.specs.Sizes.{Sizes, sizes_of}
 use Rattle.bihash_words.specs.contracts.flow_shapes.ShapeV4Shape.TheImpl as shape_v4
 use Rattle.bihash_words.specs.contracts.flow_shapes.ShapeV6Shape.TheImpl as shape_v6
@@ -10,7 +10,6 @@ use Rattle.large_shapes.specs.contracts.large_flow_shapes.LargeV4Shape.TheImpl a
 use Rattle.large_shapes.specs.contracts.large_flow_shapes.LargeV6Shape.TheImpl as large_v6
 use Rattle.large_shapes.specs.declared.large_flow_shapes.LargeV4.{LargeV4}
 use Rattle.large_shapes.specs.declared.large_flow_shapes.LargeV6.{LargeV6}
-use Rattle.bihash_c.specs.Keys.{first_two}
 use Rattle.bihash_c.specs.declared.key.Key.{Key}
 use Rattle.bihash_c.specs.declared.table_kind.Kind.{Kind}
 use Rattle.bihash_c.specs.declared.table_kind.Kind.TheVariants.{Two, LargeTwo, Five, LargeFive}
@@ -35,7 +34,7 @@ sizes_in kind = sizes_of (shape_of kind)
 
 -- the words of a key that a kind's tables see
 abbrev pub words_in : Kind → Key → List ℕ
-words_in Two key = first_two key.words
-words_in LargeTwo key = first_two key.words
+words_in Two key = take 2 key.words
+words_in LargeTwo key = take 2 key.words
 words_in Five key = key.words
 words_in LargeFive key = key.words

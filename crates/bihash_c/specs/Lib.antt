@@ -5,7 +5,6 @@ pub mod Contents
 pub mod EndFaults
 pub mod Expiries
 pub mod Handles
-pub mod Keys
 pub mod Kinds
 pub mod Options
 pub mod Pairs

@@ -1,7 +1,10 @@
 -- The pairs of a table that was closed, for C.
-use Rattle.std.specs.Prelude.{◌≡◌, ℕ, Bool, true, false, List, Option, None, Some}
-use Rattle.bihash_c.specs.Keys.{padded}
+use Rattle.std.specs.Prelude.{◌≡◌, ℕ, Bool, true, false, List, [], ◌∷◌, slice_index, Option, None, Some}
 use Rattle.bihash_c.specs.declared.pair.Pair.{Pair}
+
+-- two words, and three that are 0
+abbrev pub padded : List ℕ → List ℕ
+padded words = slice_index words 0 ∷ slice_index words 1 ∷ 0 ∷ 0 ∷ 0 ∷ []
 
 -- a pair whose key has two words
 abbrev pub of_two : Option (List ℕ × ℕ) → Option Pair

@@ -17,8 +17,8 @@ impl AnyContent {
         ensures { Calls self.old self.new (λ kind. SearchTold (shape_of kind) (words_in kind key.now) result) }
     {
         match self {
-            AnyContent::Two(content) => content.search(&key.two()),
-            AnyContent::LargeTwo(content) => content.search(&key.two()),
+            AnyContent::Two(content) => content.search(key.two()),
+            AnyContent::LargeTwo(content) => content.search(key.two()),
             AnyContent::Five(content) => content.search(&key.words),
             AnyContent::LargeFive(content) => content.search(&key.words),
         }
@@ -32,8 +32,8 @@ impl AnyContent {
             (λ kind. UpdateTold (shape_of kind) (words_in kind key.now) (P.decision patch.now) result) }
     {
         match self {
-            AnyContent::Two(content) => content.update(&key.two(), patch),
-            AnyContent::LargeTwo(content) => content.update(&key.two(), patch),
+            AnyContent::Two(content) => content.update(key.two(), patch),
+            AnyContent::LargeTwo(content) => content.update(key.two(), patch),
             AnyContent::Five(content) => content.update(&key.words, patch),
             AnyContent::LargeFive(content) => content.update(&key.words, patch),
         }
@@ -52,8 +52,8 @@ impl AnyContent {
             (P.decision patch.now) (E.is_expired expiry.now) result) }
     {
         match self {
-            AnyContent::Two(content) => content.add_or_recycle(&key.two(), patch, expiry),
-            AnyContent::LargeTwo(content) => content.add_or_recycle(&key.two(), patch, expiry),
+            AnyContent::Two(content) => content.add_or_recycle(key.two(), patch, expiry),
+            AnyContent::LargeTwo(content) => content.add_or_recycle(key.two(), patch, expiry),
             AnyContent::Five(content) => content.add_or_recycle(&key.words, patch, expiry),
             AnyContent::LargeFive(content) => content.add_or_recycle(&key.words, patch, expiry),
         }

@@ -20,8 +20,8 @@ fn bucket_in(kind: Kind, key: &Key) -> u64
     flow_shapes_are_sound();
     large_shapes_are_sound();
     match kind {
-        Kind::Two => bucket_of::<ShapeV4>(&key.two()),
-        Kind::LargeTwo => bucket_of::<LargeV4>(&key.two()),
+        Kind::Two => bucket_of::<ShapeV4>(key.two()),
+        Kind::LargeTwo => bucket_of::<LargeV4>(key.two()),
         Kind::Five => bucket_of::<ShapeV6>(&key.words),
         Kind::LargeFive => bucket_of::<LargeV6>(&key.words),
     }

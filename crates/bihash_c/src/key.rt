@@ -1,6 +1,5 @@
 //! A key, for C.
-ghost use Rattle.std.specs.Prelude.{◌≡◌};
-ghost use Rattle.bihash_c.specs.Keys.{first_two};
+ghost use Rattle.std.specs.Prelude.{◌≡◌, take};
 
 /// The words of a key. A table whose keys have two words sees the first two alone.
 #[repr(C)]
@@ -12,9 +11,12 @@ pub struct Key {
 impl Key {
     /// The words that a table sees whose keys have two.
     #[inline(always)]
-    pub fn two(&self) -> [u64; 2]
-        ensures { result ≡ first_two self.now.words }
+    pub fn two(&self) -> &[u64; 2]
+        ensures { result.now ≡ take 2 self.now.words }
     {
-        [self.words[0], self.words[1]]
+        let Some((two, _)) = self.words.split_first_chunk() else {
+            unreachable!();
+        };
+        two
     }
 }

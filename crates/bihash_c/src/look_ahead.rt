@@ -17,7 +17,7 @@ const BURST: usize = 32;
 fn hashes_of_two(keys: &[Key]) -> [u64; BURST] {
     let mut hashes = [0; BURST];
     for i in 0..keys.len().min(BURST) {
-        hashes[i] = ShapeV4::hash(&keys[i].two());
+        hashes[i] = ShapeV4::hash(keys[i].two());
     }
     hashes
 }
