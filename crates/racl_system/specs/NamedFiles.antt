@@ -1,7 +1,10 @@
 -- The names of an input's files, and the interfaces of its captures (this project's profile).
-use Rattle.std.specs.Prelude.{ℕ, List, [], ◌∷◌, Option, codes, option_map, slice_get}
+use Rattle.std.specs.Prelude.{◌≡◌, ℕ, List, [], ◌∷◌, Option, codes, map, option_map, slice_get}
 use Rattle.clap.specs.Words.{Text}
+use Rattle.racl_io.specs.Joined.{marked_bytes}
+use Rattle.racl_io.specs.declared.marker_line.Form.TheVariants.{Binary, Numbered}
 use Rattle.racl_options.specs.Origins.{CaptureFacts, OriginFacts, FromStandard, FromFiles, FromInterfaces}
+use Rattle.racl_system.specs.Readers.{IsHeld}
 
 -- what the policy comes from
 abbrev pub policy_of : OriginFacts → Text
@@ -24,3 +27,18 @@ name_at origin place = option_map (λ c. c.name) (capture_at origin place)
 
 abbrev pub interface_at : OriginFacts → ℕ → Option ℕ
 interface_at origin place = option_map (λ c. c.interface) (capture_at origin place)
+
+-- the bytes of the captures of interfaces, each behind its marker line, where they are known of names; and of all captures
+abbrev pub interfaces_marked : (Text → Option (List ℕ)) → List CaptureFacts → List (Option (List ℕ))
+interfaces_marked named captures = map (λ c. marked_bytes (Numbered c.interface) (named c.name)) captures
+
+abbrev pub marked_captures : (Text → Option (List ℕ)) → OriginFacts → List (Option (List ℕ))
+marked_captures named FromStandard = []
+marked_captures named (FromFiles policy capture) = marked_bytes Binary (named capture) ∷ []
+marked_captures named (FromInterfaces policy captures) = interfaces_marked named captures
+
+-- what the policy's reader has left: all that standard input has, or what is held of the policy's file
+abbrev pub IsPolicyOf : (Text → Option (List ℕ)) → OriginFacts → Option (List ℕ) → Type 0
+IsPolicyOf named FromStandard left = left ≡ named (codes "-")
+IsPolicyOf named (FromFiles policy capture) left = IsHeld (named policy) left
+IsPolicyOf named (FromInterfaces policy captures) left = IsHeld (named policy) left

@@ -1,14 +1,17 @@
 //! The program's words, and what they ask for.
-ghost use Rattle.std.specs.Prelude.{◌≡◌, IfOk, map, string_bytes};
+ghost use Rattle.std.specs.Prelude.{◌≡◌, IfErr, IfOk, map, string_bytes};
 ghost use Rattle.clap.specs.Walk.{texts};
 ghost use Rattle.racl_options.specs.Asking.{AskForRun, asked_facts};
 ghost use Rattle.racl_options.specs.Checks.{IsCheck};
+ghost use Rattle.racl_system.specs.WordStatuses.{IsWordsStatus};
 
 use crate::file_checking::check_file;
 use crate::say_and_answer_status::say_refused;
+use crate::system_files::SystemFiles;
 use racl_options::{Asked, check_name, options};
 use std::alloc::Global;
 use std::io;
+use std::io::{Eprint, Print};
 
 /// The words that the program was called with. No clause says which these are, since they are the system's.
 pub fn words_of(rt: &HostRuntime, alloc: Global) -> io::Result<Vec<String>> {
@@ -29,24 +32,21 @@ pub fn texts_of<'a>(alloc: Global, words: &'a [String]) -> io::Result<Vec<&'a st
 
 /// The run that the command's words ask for. Where they ask for none the status is answered: a check was made, or it
 /// was told that they are refused.
-pub fn asked_or_status<'a>(
-    rt: &HostRuntime,
+pub fn asked_or_status<'a, S: SystemFiles + Print + Eprint>(
+    system: &S,
     alloc: Global,
     words: &'a [&'a str],
 ) -> io::Result<Result<Asked<'a>, u8>>
     ensures run { IfOk result (λ found. IfOk found (λ asked. AskForRun (texts words.entry.now) (asked_facts asked))) }
     ensures unchecked { IfOk result (λ found. IfOk found (λ _. IsCheck (texts words.entry.now) → ⊥)) }
+    ensures status { IfOk result (λ found. IfErr found (IsWordsStatus (S.named system.now) (texts words.entry.now))) }
 {
-    let status = match check_name(alloc, words) {
+    match check_name(alloc, words) {
         Ok(None) => match options(alloc, words) {
-            Ok(asked) => return Ok(Ok(asked)),
-            Err(error) => say_refused(rt, &error),
+            Ok(asked) => Ok(Ok(asked)),
+            Err(error) => Ok(Err(say_refused(system, &error)?)),
         },
-        Ok(Some(name)) => check_file(rt, alloc, name),
-        Err(error) => say_refused(rt, &error),
-    };
-    match status {
-        Ok(status) => Ok(Err(status)),
-        Err(error) => Err(error),
+        Ok(Some(name)) => Ok(Err(check_file(system, alloc, name)?)),
+        Err(error) => Ok(Err(say_refused(system, &error)?)),
     }
 }

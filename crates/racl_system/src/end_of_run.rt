@@ -13,7 +13,7 @@ use racl_options::{Asked, Files, Options, Origin, TableSize};
 use racl_report::{Remark, ending, hint, remark, shortage};
 use std::alloc::Global;
 use std::io;
-use std::io::Eprint;
+use std::io::{Eprint, Read};
 
 /// How a run ended, and whether the reader of what it wrote was gone.
 #[derive(Drop)]
@@ -23,10 +23,10 @@ pub struct Ran {
 }
 
 // The first bytes of a run's captures, for the notes on these, as far as there is memory for their list.
-fn seen_at_run_end<'a>(
+fn seen_at_run_end<'a, S: Read, F: Read>(
     alloc: Global,
     origin: &Origin<'_>,
-    reader: &'a Joined<Reader>,
+    reader: &'a Joined<Reader<S, F>>,
 ) -> Vec<Seen<'a>> {
     let mut seen = Vec::new(alloc);
     for place in 0..256 {
@@ -45,11 +45,11 @@ fn seen_at_run_end<'a>(
 
 // Notes on a run that ended with a fault: says which capture has it, where there are several, and what it is where it
 // isn't read for that.
-fn say_remark(
+fn say_remark<S: Read, F: Read>(
     rt: &HostRuntime,
     alloc: Global,
     origin: &Origin<'_>,
-    reader: &Joined<Reader>,
+    reader: &Joined<Reader<S, F>>,
     fault: Fault,
 ) -> io::Result<()> {
     let Some(place) = faulty(rt, alloc, origin, reader, fault) else {
@@ -81,11 +81,11 @@ fn say_shortage(rt: &impl Eprint, outcome: &Result<Totals, Fault>, ages: bool, t
 }
 
 // Says the notes behind a run on files: what is likely to be wrong with them.
-fn say_run_notes(
+fn say_run_notes<S: Read, F: Read>(
     rt: &HostRuntime,
     alloc: Global,
     asked: &Asked<'_>,
-    reader: &Joined<Reader>,
+    reader: &Joined<Reader<S, F>>,
     outcome: &Result<Totals, Fault>,
 ) -> io::Result<()> {
     let origin = &asked.origin;
@@ -116,11 +116,11 @@ fn say_run_notes(
 
 /// Says how a run ended, with notes on what is likely to be wrong with its files; and answers the status. No more is
 /// shown of how much was read.
-pub fn say_end_of_run(
+pub fn say_end_of_run<S: Read, F: Read>(
     rt: &HostRuntime,
     alloc: Global,
     asked: &Asked<'_>,
-    reader: &mut Watched<'_, Joined<Reader>>,
+    reader: &mut Watched<'_, Joined<Reader<S, F>>>,
     ran: &Ran,
 ) -> io::Result<u8>
     ensures { IfOk result (λ status. status ≡ status_of ran.now.outcome) }

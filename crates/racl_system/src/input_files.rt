@@ -1,56 +1,104 @@
 //! The files of an input.
-ghost use Rattle.std.specs.Prelude.{◌≡◌, IfErr, IfOk};
+ghost use Rattle.std.specs.Prelude.{◌≡◌, ◌∷◌, [], IfErr, IfOk, IfSome, map};
+ghost use Rattle.racl_io.specs.Joined.{marked_bytes};
+ghost use Rattle.racl_io.specs.Writings.{marked_left};
+ghost use Rattle.racl_io.specs.declared.marker_line.Form.TheVariants.{Binary};
 ghost use Rattle.racl_options.specs.Checks.{text_behind};
-ghost use Rattle.racl_options.specs.Origins.{origin_facts};
+ghost use Rattle.racl_options.specs.Origins.{capture_facts, origin_facts};
 ghost use Rattle.racl_system.specs.NamedFiles as named;
-ghost use Rattle.racl_system.specs.NamedFiles.{policy_of};
+ghost use Rattle.racl_system.specs.NamedFiles.{IsPolicyOf, interfaces_marked, marked_captures, policy_of};
+ghost use Rattle.racl_system.specs.Readers.{captures_left, left_in};
 
 use crate::named_reader::{Reader, held_reader, opened_or_told};
 use crate::say_and_answer_status::say_fault;
+use crate::system_files::SystemFiles;
 use racl_io::{Form, Marked, joined_capture};
-use racl_options::Origin;
+use racl_options::{CaptureFile, Origin};
 use racl_report::Hint;
 use std::alloc::Global;
 use std::io;
-use std::io::IsTerminal;
+use std::io::{Eprint, IsTerminal};
 
 /// The readers of an input.
 #[derive(Drop)]
-pub struct Parts {
-    pub policy: Reader,
-    pub captures: Vec<Marked<Reader>>,
+pub struct Parts<S, F> {
+    pub policy: Reader<S, F>,
+    pub captures: Vec<Marked<Reader<S, F>>>,
 }
 
-// Opens the file of one capture of an input, and puts it behind the others. Whether it could be opened.
-fn pushed_file(
-    rt: &HostRuntime,
-    captures: &mut Vec<Marked<Reader>>,
+// Opens the file of one capture of an input. Where it can't be opened that is told, and None is answered, as of the calls
+// below.
+fn opened_capture<S: SystemFiles + Eprint>(
+    system: &S,
+    alloc: Global,
     form: Form,
     name: &str,
-) -> io::Result<bool> {
-    let Some(reader) = opened_or_told(rt, name)? else {
-        return Ok(false);
+) -> io::Result<Option<Marked<Reader<S::Input, S::File>>>>
+    ensures { IfOk result (λ found. IfSome found (λ capture.
+        marked_left (left_in S.Input.remaining S.File.remaining) capture ≡ marked_bytes form (S.named system.now name.now))) }
+{
+    let reader = match opened_or_told(system, name) {
+        Ok(Some(reader)) => reader,
+        Ok(None) => return Ok(None),
+        Err(error) => return Err(error),
     };
-    captures.push(joined_capture(rt.alloc(), form, reader)?)?;
-    Ok(true)
+    match joined_capture(alloc, form, reader) {
+        Ok(capture) => Ok(Some(capture)),
+        Err(error) => Err(io::Error::from(error)),
+    }
 }
 
-// Opens the files of an input's captures in their order. Whether all could be opened.
-fn pushed_files(
-    rt: &HostRuntime,
-    captures: &mut Vec<Marked<Reader>>,
+// Opens the file of the only capture of an input.
+fn opened_alone<S: SystemFiles + Eprint>(
+    system: &S,
+    alloc: Global,
+    name: &str,
+) -> io::Result<Option<Vec<Marked<Reader<S::Input, S::File>>>>>
+    ensures { IfOk result (λ found. IfSome found (λ all.
+        captures_left S.Input.remaining S.File.remaining all.items ≡ marked_bytes Binary (S.named system.now name.now) ∷ [])) }
+{
+    let Some(capture) = opened_capture(system, alloc, Form::Binary, name)? else {
+        return Ok(None);
+    };
+    let mut captures = Vec::new(alloc);
+    captures.push(capture)?;
+    Ok(Some(captures))
+}
+
+// Opens the files of the captures of interfaces in their order.
+fn opened_interfaces<S: SystemFiles + Eprint>(
+    system: &S,
+    alloc: Global,
+    files: &[CaptureFile<'_>],
+) -> io::Result<Option<Vec<Marked<Reader<S::Input, S::File>>>>>
+    ensures { IfOk result (λ found. IfSome found (λ all.
+        captures_left S.Input.remaining S.File.remaining all.items ≡ interfaces_marked (S.named system.now) (map capture_facts files.now))) }
+{
+    let mut captures = Vec::new(alloc);
+    for file in files {
+        let form = Form::Numbered(file.interface);
+        let Some(capture) = opened_capture(system, alloc, form, file.name)? else {
+            return Ok(None);
+        };
+        captures.push(capture)?;
+    }
+    Ok(Some(captures))
+}
+
+// Opens the files of an input's captures in their order.
+fn opened_captures<S: SystemFiles + Eprint>(
+    system: &S,
+    alloc: Global,
     origin: &Origin<'_>,
-) -> io::Result<bool> {
+) -> io::Result<Option<Vec<Marked<Reader<S::Input, S::File>>>>>
+    ensures { IfOk result (λ found. IfSome found (λ all.
+        captures_left S.Input.remaining S.File.remaining all.items ≡ marked_captures (S.named system.now) (origin_facts origin.now))) }
+{
     match origin {
-        Origin::Standard => Ok(true),
-        Origin::Files(files) => pushed_file(rt, captures, Form::Binary, files.capture),
+        Origin::Standard => Ok(Some(Vec::new(alloc))),
+        Origin::Files(files) => opened_alone(system, alloc, files.capture),
         Origin::Interfaces(interfaces) => {
-            for file in &interfaces.captures {
-                if !pushed_file(rt, captures, Form::Numbered(file.interface), file.name)? {
-                    return Ok(false);
-                }
-            }
-            Ok(true)
+            opened_interfaces(system, alloc, interfaces.captures.as_slice())
         }
     }
 }
@@ -88,50 +136,63 @@ pub fn input_interface_at(origin: &Origin<'_>, place: usize) -> Option<u8>
     }
 }
 
-// Opens the files of an input in their order, from the policy on. Where one can't be opened that is told, and None is
-// answered.
-fn opened_parts(rt: &HostRuntime, alloc: Global, origin: &Origin<'_>) -> io::Result<Option<Parts>> {
-    let Some(policy) = opened_or_told(rt, input_policy_name(origin))? else {
-        return Ok(None);
+// Opens the files of an input in their order, from the policy on.
+fn opened_parts<S: SystemFiles + Eprint>(
+    system: &S,
+    alloc: Global,
+    origin: &Origin<'_>,
+) -> io::Result<Option<Parts<S::Input, S::File>>>
+    ensures { IfOk result (λ found. IfSome found (λ parts.
+        (left_in S.Input.remaining S.File.remaining parts.policy ≡ S.named system.now (policy_of (origin_facts origin.now)))
+        × (captures_left S.Input.remaining S.File.remaining parts.captures.items ≡ marked_captures (S.named system.now) (origin_facts origin.now)))) }
+{
+    let policy = match opened_or_told(system, input_policy_name(origin)) {
+        Ok(Some(policy)) => policy,
+        Ok(None) => return Ok(None),
+        Err(error) => return Err(error),
     };
-    let mut captures = Vec::new(alloc);
-    if !pushed_files(rt, &mut captures, origin)? {
-        return Ok(None);
+    match opened_captures(system, alloc, origin) {
+        Ok(Some(captures)) => Ok(Some(Parts { policy, captures })),
+        Ok(None) => Ok(None),
+        Err(error) => Err(error),
     }
-    Ok(Some(Parts { policy, captures }))
 }
 
 // Says that a terminal is read, where that is so, for an input of which no files are named. Where standard error fails,
 // nothing is said.
-fn say_where_terminal(rt: &HostRuntime) {
-    if rt.stdin().is_terminal() {
-        let _ = rt.eprintln(&Hint::Terminal);
+fn say_where_terminal<S: SystemFiles + Eprint>(system: &S) {
+    if system.standard_input("-").is_terminal() {
+        let _ = system.eprintln(&Hint::Terminal);
     }
 }
 
 /// Opens the files of an input, and reads its policy where that is a file's. Where one can't be had that is told, and
-/// the status is answered. No clause says what names open: `checks/run` looks at it.
-pub fn opened_input(
-    rt: &HostRuntime,
+/// the status is answered.
+pub fn opened_input<S: SystemFiles + Eprint>(
+    system: &S,
     alloc: Global,
     origin: &Origin<'_>,
-) -> io::Result<Result<Parts, u8>>
-    ensures { IfOk result (λ found. IfErr found (λ status. status ≡ 4)) }
+) -> io::Result<Result<Parts<S::Input, S::File>, u8>>
+    ensures policy { IfOk result (λ found. IfOk found (λ parts.
+        IsPolicyOf (S.named system.now) (origin_facts origin.now) (left_in S.Input.remaining S.File.remaining parts.policy))) }
+    ensures captures { IfOk result (λ found. IfOk found (λ parts.
+        captures_left S.Input.remaining S.File.remaining parts.captures.items ≡ marked_captures (S.named system.now) (origin_facts origin.now))) }
+    ensures status { IfOk result (λ found. IfErr found (λ status. status ≡ 4)) }
 {
-    let Parts { policy, captures } = match opened_parts(rt, alloc, origin) {
+    let Parts { policy, captures } = match opened_parts(system, alloc, origin) {
         Ok(Some(parts)) => parts,
         Ok(None) => return Ok(Err(4)),
         Err(error) => return Err(error),
     };
     if let Origin::Standard = origin {
-        say_where_terminal(rt);
+        say_where_terminal(system);
         return Ok(Ok(Parts { policy, captures }));
     }
     let fault = match held_reader(alloc, policy) {
         Ok(policy) => return Ok(Ok(Parts { policy, captures })),
         Err(fault) => fault,
     };
-    match say_fault(rt, fault) {
+    match say_fault(system, fault) {
         Ok(status) => Ok(Err(status)),
         Err(error) => Err(error),
     }

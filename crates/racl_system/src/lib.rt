@@ -16,6 +16,7 @@ mod save_file;
 mod saved_names;
 mod say_and_answer_status;
 mod say_policy_remarks;
+mod system_files;
 
 pub use command_words::{asked_or_status, texts_of, words_of};
 pub use end_of_run::{LiveInput, Ran, say_end_of_live, say_end_of_run};
@@ -27,3 +28,4 @@ pub use progress::{Progress, Watched};
 pub use save_file::{SaveFile, saves_to, say_unsaved, settled};
 pub use saved_names::say_used_twice;
 pub use say_and_answer_status::failure_status;
+pub use system_files::SystemFiles;

@@ -1,28 +1,37 @@
 //! The files of a run over a capture that comes.
-ghost use Rattle.std.specs.Prelude.{◌≡◌, ◌≤◌, ◌⊎◌, IfErr, IfOk, length};
+ghost use Rattle.std.specs.Prelude.{◌≡◌, ◌+◌, ◌≤◌, ◌⊎◌, IfErr, IfOk, IfSome, length, take};
 ghost use Rattle.racl_io.specs.Inputs.{most_bytes};
+ghost use Rattle.racl_system.specs.Readers.{left_in};
 
 use crate::named_reader::{Reader, bytes_of, opened_or_told};
 use crate::say_and_answer_status::say_fault;
 use crate::say_policy_remarks::say_unlooked;
+use crate::system_files::SystemFiles;
 use racl_io::{Fault, MOST_BYTES};
 use racl_options::Files;
 use std::alloc::Global;
 use std::io;
+use std::io::Eprint;
 
 /// The text of a policy, and where a capture comes from.
 #[derive(Drop)]
-pub struct LiveFiles {
+pub struct LiveFiles<S, F> {
     pub text: Vec<u8>,
-    pub capture: Reader,
+    pub capture: Reader<S, F>,
 }
 
 // The text of the policy's file of a live run. Where it can't be had that is told, and the status is answered.
-fn live_policy_text(rt: &HostRuntime, alloc: Global, name: &str) -> io::Result<Result<Vec<u8>, u8>>
+fn live_policy_text<S: SystemFiles + Eprint>(
+    system: &S,
+    alloc: Global,
+    name: &str,
+) -> io::Result<Result<Vec<u8>, u8>>
     ensures few { IfOk result (λ found. IfOk found (λ text. length text.items ≤ most_bytes)) }
+    ensures text { IfOk result (λ found. IfOk found (λ text.
+        IfSome (S.named system.now name.now) (λ all. text.items ≡ take (most_bytes + 1) all))) }
     ensures status { IfOk result (λ found. IfErr found (λ status. (status ≡ 1) ⊎ (status ≡ 4))) }
 {
-    let policy = match opened_or_told(rt, name) {
+    let policy = match opened_or_told(system, name) {
         Ok(Some(policy)) => policy,
         Ok(None) => return Ok(Err(4)),
         Err(error) => return Err(error),
@@ -32,33 +41,36 @@ fn live_policy_text(rt: &HostRuntime, alloc: Global, name: &str) -> io::Result<R
         Ok(_) => Fault::TooLarge,
         Err(fault) => fault,
     };
-    match say_fault(rt, fault) {
+    match say_fault(system, fault) {
         Ok(status) => Ok(Err(status)),
         Err(error) => Err(error),
     }
 }
 
 /// Opens the capture of a run, and reads its policy, of which it says what is unlikely to be meant. Where one can't be
-/// had that is told, and the status is answered: 1 where the text is too large, else 4. No clause says what names open,
-/// as of `opened_reader`.
-pub fn opened_live(
-    rt: &HostRuntime,
+/// had that is told, and the status is answered: 1 where the text is too large, else 4.
+pub fn opened_live<S: SystemFiles + Eprint>(
+    system: &S,
     alloc: Global,
     files: &Files<'_>,
-) -> io::Result<Result<LiveFiles, u8>>
+) -> io::Result<Result<LiveFiles<S::Input, S::File>, u8>>
     ensures few { IfOk result (λ found. IfOk found (λ opened. length opened.text.items ≤ most_bytes)) }
+    ensures text { IfOk result (λ found. IfOk found (λ opened.
+        IfSome (S.named system.now files.now.policy.now) (λ all. opened.text.items ≡ take (most_bytes + 1) all))) }
+    ensures capture { IfOk result (λ found. IfOk found (λ opened.
+        left_in S.Input.remaining S.File.remaining opened.capture ≡ S.named system.now files.now.capture.now)) }
     ensures status { IfOk result (λ found. IfErr found (λ status. (status ≡ 1) ⊎ (status ≡ 4))) }
 {
-    let text = match live_policy_text(rt, alloc, files.policy) {
+    let text = match live_policy_text(system, alloc, files.policy) {
         Ok(Ok(text)) => text,
         Ok(Err(status)) => return Ok(Err(status)),
         Err(error) => return Err(error),
     };
-    let capture = match opened_or_told(rt, files.capture) {
+    let capture = match opened_or_told(system, files.capture) {
         Ok(Some(capture)) => capture,
         Ok(None) => return Ok(Err(4)),
         Err(error) => return Err(error),
     };
-    say_unlooked(rt, alloc, files.policy, text.as_slice());
+    say_unlooked(system, alloc, files.policy, text.as_slice());
     Ok(Ok(LiveFiles { text, capture }))
 }

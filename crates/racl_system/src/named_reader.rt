@@ -1,67 +1,74 @@
 //! Where a named input comes from.
-ghost use Rattle.std.specs.Prelude.{◌≡◌, ◌+◌, ◌≤◌, ◌⊎◌, IfErr, IfOk, length};
+ghost use Rattle.std.specs.Prelude.{◌≡◌, ◌+◌, ◌≤◌, ◌⊎◌, IfErr, IfOk, IfSome, length, take};
 ghost use Rattle.racl_io.specs.Inputs.{most_bytes};
-ghost use Rattle.racl_io.specs.declared.fault.Fault.TheVariants.{Memory, Read};
+ghost use Rattle.racl_io.specs.declared.fault.Fault.TheVariants.{Memory, Read as ReadFault};
+ghost use Rattle.racl_system.specs.Readers.{IsHeld, left_in};
 
+use crate::system_files::SystemFiles;
 use racl_io::{Device, Fault, MOST_BYTES, read_until};
 use racl_report::Unopened;
 use std::alloc::Global;
-use std::fs::File;
 use std::io;
-use std::io::{Cursor, Read, Stdin};
-
-/// The number of the system's reason for what a folder refuses (Linux: EISDIR).
-const IS_A_DIRECTORY: i32 = 21;
+use std::io::{Cursor, Eprint, Read};
 
 /// Standard input, a file, or what one of these had.
 #[derive(Drop)]
-pub enum Reader {
-    Standard(Stdin),
-    File(File),
+pub enum Reader<S, F> {
+    Standard(S),
+    File(F),
     Held(Cursor<Vec<u8>>),
 }
 
-impl Read for Reader {
-    // Reads from what was named: standard input, a file, or what one of these had.
+impl<S: Read, F: Read> Read for Reader<S, F> {
+    ghost remaining = { λ r. left_in S.remaining F.remaining r };
+
     fn read(&mut self, buf: &mut [u8]) -> io::Result<usize> {
         match self {
-            Reader::Standard(stdin) => stdin.read(buf),
+            Reader::Standard(standard) => standard.read(buf),
             Reader::File(file) => file.read(buf),
             Reader::Held(bytes) => bytes.read(buf),
         }
     }
 }
 
-/// Opens the reader that is named: a file that can be read, or standard input by the name `-`. A folder is refused. No
-/// clause says what a name opens, since that is the system's: `checks/run` looks at it.
-pub fn opened_reader(rt: &HostRuntime, name: &str) -> io::Result<Reader> {
+/// Opens the reader that is named: a file that can be read, or standard input by the name `-`.
+pub fn opened_reader<S: SystemFiles>(
+    system: &S,
+    name: &str,
+) -> io::Result<Reader<S::Input, S::File>>
+    ensures { IfOk result (λ reader. left_in S.Input.remaining S.File.remaining reader ≡ S.named system.now name.now) }
+{
     if name == "-" {
-        return Ok(Reader::Standard(rt.stdin()));
+        return Ok(Reader::Standard(system.standard_input(name)));
     }
-    let file = File::open(rt, name)?;
-    if file.metadata()?.is_dir() {
-        return Err(io::Error::from_raw_os_error(IS_A_DIRECTORY));
+    match system.opened_file(name) {
+        Ok(file) => Ok(Reader::File(file)),
+        Err(reason) => Err(reason),
     }
-    Ok(Reader::File(file))
 }
 
-/// Opens an input file that can be read, or standard input. Where it can't, that is told, and None is answered. No
-/// clause says what a name opens, as of `opened_reader`.
-pub fn opened_or_told(rt: &HostRuntime, name: &str) -> io::Result<Option<Reader>> {
-    match opened_reader(rt, name) {
+/// Opens an input file that can be read, or standard input. Where it can't, that is told, and None is answered.
+pub fn opened_or_told<S: SystemFiles + Eprint>(
+    system: &S,
+    name: &str,
+) -> io::Result<Option<Reader<S::Input, S::File>>>
+    ensures { IfOk result (λ opened. IfSome opened (λ reader.
+        left_in S.Input.remaining S.File.remaining reader ≡ S.named system.now name.now)) }
+{
+    match opened_reader(system, name) {
         Ok(reader) => Ok(Some(reader)),
-        Err(reason) => {
-            rt.eprintln(&Unopened { name, reason })?;
-            Ok(None)
-        }
+        Err(reason) => match system.eprintln(&Unopened { name, reason }) {
+            Ok(()) => Ok(None),
+            Err(error) => Err(error),
+        },
     }
 }
 
-/// Reads from a named reader all that an input may have, and a byte more where there is one. No clause says what a name
-/// had, as of `opened_reader`.
-pub fn bytes_of(alloc: Global, reader: Reader) -> Result<Vec<u8>, Fault>
+/// Reads from a reader all that an input may have, and a byte more where there is one.
+pub fn bytes_of<R: Read + Drop>(alloc: Global, reader: R) -> Result<Vec<u8>, Fault>
     ensures few { IfOk result (λ bytes. length bytes.items ≤ most_bytes + 1) }
-    ensures faults { IfErr result (λ fault. (fault ≡ Memory) ⊎ (fault ≡ Read)) }
+    ensures read { IfOk result (λ bytes. IfSome (R.remaining reader) (λ all. bytes.items ≡ take (most_bytes + 1) all)) }
+    ensures faults { IfErr result (λ fault. (fault ≡ Memory) ⊎ (fault ≡ ReadFault)) }
 {
     let mut bytes = Vec::new(alloc);
     match read_until(&mut Device::new(reader), &mut bytes, MOST_BYTES + 1) {
@@ -71,8 +78,12 @@ pub fn bytes_of(alloc: Global, reader: Reader) -> Result<Vec<u8>, Fault>
 }
 
 /// Reads that from a named reader, and holds it, so that it can be looked at again.
-pub fn held_reader(alloc: Global, reader: Reader) -> Result<Reader, Fault>
-    ensures { IfErr result (λ fault. (fault ≡ Memory) ⊎ (fault ≡ Read)) }
+pub fn held_reader<S: Read + Drop, F: Read + Drop>(
+    alloc: Global,
+    reader: Reader<S, F>,
+) -> Result<Reader<S, F>, Fault>
+    ensures held { IfOk result (λ held. IsHeld (left_in S.remaining F.remaining reader) (left_in S.remaining F.remaining held)) }
+    ensures faults { IfErr result (λ fault. (fault ≡ Memory) ⊎ (fault ≡ ReadFault)) }
 {
     match bytes_of(alloc, reader) {
         Ok(bytes) => Ok(Reader::Held(Cursor::new(bytes))),

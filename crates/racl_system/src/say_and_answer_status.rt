@@ -1,9 +1,8 @@
 //! How a run ended, said on standard error.
 ghost use Rattle.std.specs.Prelude.{◌≡◌, ◌≢◌, IfOk};
 ghost use Rattle.clap.specs.Words.{kind_of};
-ghost use Rattle.clap.specs.declared.error.kind.ErrorKind.TheVariants as kinds;
-ghost use Rattle.racl_options.specs.CommandLine.{IsRequest};
 ghost use Rattle.racl_report.specs.Statuses.{status_of_fault};
+ghost use Rattle.racl_system.specs.WordStatuses.{IsKindStatus};
 ghost use Rattle.std.specs.IoError.{error_kind};
 
 use clap::Error;
@@ -34,10 +33,7 @@ pub fn say_fault(rt: &impl Eprint, fault: Fault) -> io::Result<u8>
 
 /// Says that the program ends since its words are refused, and answers the status.
 pub fn say_refused(rt: &(impl Print + Eprint), error: &Error) -> io::Result<u8>
-    ensures request { IfOk result (λ status. IsRequest (kind_of error.now) → status ≡ 0) }
-    ensures memory { IfOk result (λ status. kind_of error.now ≡ kinds.OutOfMemory → status ≡ 4) }
-    ensures mistake { IfOk result (λ status. (IsRequest (kind_of error.now) → ⊥)
-        → kind_of error.now ≢ kinds.OutOfMemory → status ≡ 2) }
+    ensures { IfOk result (IsKindStatus (kind_of error.now)) }
 {
     let end = words_ending(error);
     if end.message.is_none() {

@@ -1,0 +1,30 @@
+-- What is read from a source, as far as an input goes.
+use Rattle.std.proofs.Common.{◌∙◌, ◌≡◌, ◌≤◌, ◌++◌, ap, arith, refl, subst, sym, ℕ, Bool, true, false, List, [], Option, None, Some, length, take}
+use Rattle.std.specs.Prelude.{IfSome}
+use Rattle.std.proofs.lemmas.List.{append-nil, take_all, take_at}
+use Rattle.racl_io.specs.Transfers.{HasRead}
+use Rattle.racl_io.specs.declared.device.Device.{Device}
+
+-- what was read up to so many bytes is the front of all
+pub read_front : (all after : Option (List ℕ)) (read : List ℕ) (least : ℕ) (at_end : Bool) → HasRead all after [] read least at_end
+    → IfSome all (λ bytes. read ≡ take least bytes)
+read_front None after read least at_end has = tt
+read_front (Some all) None read least at_end has = absurd has.consumed
+read_front (Some all) (Some rest) read least true has =
+    let ended = has.ended refl in
+    let short : length read ≤ least = omega (arith, ended.1) in
+    let same : all ≡ read = has.consumed ∙ ap (λ (bytes : List ℕ). has.read ++ bytes) ended.0 ∙ append-nil has.read ∙ sym has.appended in
+    sym (ap (take least) same ∙ take_all least read short)
+read_front (Some all) (Some rest) read least false has =
+    let enough = has.enough refl in
+    let count : length read ≡ least = omega (arith, enough) in
+    let same : all ≡ read ++ rest = has.consumed ∙ ap (λ (bytes : List ℕ). bytes ++ rest) (sym has.appended) in
+    sym (ap (take least) same ∙ take_at read rest least count)
+
+-- the same of a reader that was made a device, and a buffer that had nothing
+pub front_of_reader : {R : Type 0} (remaining : R → Option (List ℕ)) (reader : R) (device : Device R) (after : Option (List ℕ)) (old read : List ℕ) (least : ℕ) (at_end : Bool)
+    → device ≡ record { inner = reader; failures = 0 } → old ≡ [] → HasRead (remaining device.inner) after old read least at_end
+    → IfSome (remaining reader) (λ bytes. read ≡ take least bytes)
+front_of_reader remaining reader device after old read least at_end made none has =
+    read_front (remaining reader) after read least at_end
+    (subst (λ d. HasRead (remaining d.inner) after [] read least at_end) made (subst (λ o. HasRead (remaining device.inner) after o read least at_end) none has))

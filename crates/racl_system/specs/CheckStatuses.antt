@@ -1,0 +1,14 @@
+-- The exit statuses of a check (this project's profile).
+use Rattle.std.specs.Prelude.{◌≡◌, ◌<◌, ◌⊎◌, ℕ, zero, suc, List, Option, IfSome, length}
+use Rattle.acl_policy.specs.Policies.{IsPolicyText, PolicyFacts}
+use Rattle.racl_io.specs.Inputs.{most_bytes}
+
+-- there are more bytes than an input may have, or they are no policy
+abbrev pub IsNoPolicy : List ℕ → Type 0
+IsNoPolicy text = (most_bytes < length text) ⊎ ((policy : PolicyFacts) → IsPolicyText text policy → ⊥)
+
+-- 0 where the text, as far as it is known, is a policy, 1 where it is none, and 4 where memory ran out or a device failed
+abbrev pub IsCheckStatus : Option (List ℕ) → ℕ → Type 0
+IsCheckStatus text zero = IfSome text (λ bytes. (policy : PolicyFacts) × IsPolicyText bytes policy)
+IsCheckStatus text (suc zero) = IfSome text IsNoPolicy
+IsCheckStatus text status = status ≡ 4
