@@ -34,7 +34,7 @@ use Rattle.bihash_words.proofs.MapValues.{get_left, get_removed, same_or_other}
 use Rattle.bihash_steps.proofs.BlockLemmas.{bare_block}
 use Rattle.bihash_table.proofs.Bridge.{extent_of}
 use Rattle.bihash_table.proofs.NewPairs.{entering, looked_at, may_want, may_write, removing}
-use Rattle.bihash_table.proofs.SameCallers.{read_entered, write_entered}
+use Rattle.bihash_table.proofs.SameCallers.{read_entered, same_through as same_but_view_then, write_entered}
 use Rattle.bihash_table.proofs.StoreLemmas.{has_store, has_taken, taken_block}
 
 abbrev pub locked_on : PageStore → LockedStore
@@ -52,6 +52,24 @@ pub record IsReady {A K : Type 0} (g : Ghosts A K) (s u : CallerState) (page log
   pub near : page + 2 ^ log2 ≤ g.PAGES + 1
   pub places : ArePlaces g block words
 
+-- a block was taken, and places were written in it
+pub ready_taken : {A K : Type 0} (g : Ghosts A K) (s u w : CallerState) (page log2 : ℕ) (left : PageStore) (block : List (K × ℕ))
+    → u ≡ with_view s u.view → TakesBlock (sizes_of g) s.view left page log2 u.view
+    → ((h : HeldBlock) → HasBlock (sizes_of g) u.view page h
+    → (words : List ℕ) × (w ≡ with_view u (with_words u.view h words)) × ArePlaces g block words)
+    → IsReady g s w page log2 block
+ready_taken g s u w page log2 left block same t writes =
+    let there = writes (block_of page log2 t.words) (has_taken (sizes_of g) s.view u.view left page log2 t) in record {
+      left = left;
+      words = there.0;
+      is = there.1
+          ∙ ap (λ (c : CallerState). with_view c (holding c.view c.view.holds.store (Some (block_of page log2 there.0)))) same
+          ∙ ap (λ (x : View). with_view s (holding x x.holds.store (Some (block_of page log2 there.0)))) t.is;
+      some_page = t.some_page;
+      near = t.near;
+      places = there.2;
+    }
+
 -- what the allocation lock, the block that was taken and the places that were written make of the caller
 module _ {A K : Type 0} (g : Ghosts A K) (s t : CallerState) (same : t ≡ with_view s t.view)
     (locks : LocksStore (sizes_of g) s.view t.view) (none : s.view.holds.block ≡ None) (page log2 : ℕ) where
@@ -61,34 +79,26 @@ module _ {A K : Type 0} (g : Ghosts A K) (s t : CallerState) (same : t ≡ with_
   module _ {cuts : Bool} (u : CallerState) (same_u : u ≡ with_view t u.view)
       (takes : (n : LockedStore) → HasStore (sizes_of g) t.view n
       → TakesPages (sizes_of g) cuts t.view n.store page log2 u.view) where
-    taken : (left : PageStore) × TakesBlock (sizes_of g) t.view left page log2 u.view
-    taken = taken_block (sizes_of g) t.view locks.store page log2 u.view (takes (locked_on locks.store) store_held)
+    pub taken : (left : PageStore) × TakesBlock (sizes_of g) s.view left page log2 u.view
+    taken = let t = taken_block (sizes_of g) t.view locks.store page log2 u.view (takes (locked_on locks.store) store_held) in (
+      t.0,
+      record {
+        words = t.1.words;
+        size = t.1.size;
+        some_page = t.1.some_page;
+        near = t.1.near;
+        is = t.1.is ∙ ap (λ (x : View). holding x (Some (locked_on t.0)) (Some (block_of page log2 t.1.words))) locks.is;
+      },
+    )
 
     pub block_held : (h : HeldBlock) × HasBlock (sizes_of g) u.view page h × (h.log2 ≡ log2)
-    block_held = (block_of page log2 taken.1.words, has_taken (sizes_of g) t.view u.view taken.0 page log2 taken.1, refl)
+    block_held = (block_of page log2 taken.1.words, has_taken (sizes_of g) s.view u.view taken.0 page log2 taken.1, refl)
 
     pub is_ready : (block : List (K × ℕ)) (w : CallerState)
         → ((h : HeldBlock) → HasBlock (sizes_of g) u.view page h
         → (words : List ℕ) × (w ≡ with_view u (with_words u.view h words)) × ArePlaces g block words)
         → IsReady g s w page log2 block
-    is_ready block w writes =
-        let there = writes (block_of page log2 taken.1.words)
-        (has_taken (sizes_of g) t.view u.view taken.0 page log2 taken.1) in
-        record {
-          left = taken.0;
-          words = there.0;
-          is = there.1
-              ∙ ap (λ (c : CallerState). with_view c (holding c.view c.view.holds.store
-              (Some (block_of page log2 there.0)))) same_u
-              ∙ ap (λ (x : View). with_view t (holding x x.holds.store (Some (block_of page log2 there.0)))) taken.1.is
-              ∙ ap (λ (c : CallerState). with_view c (holding c.view (Some (locked_on taken.0))
-              (Some (block_of page log2 there.0)))) same
-              ∙ ap (λ (x : View). with_view s (holding x (Some (locked_on taken.0)) (Some (block_of page log2 there.0))))
-              locks.is;
-          some_page = taken.1.some_page;
-          near = taken.1.near;
-          places = there.2;
-        }
+    is_ready block w = ready_taken g s u w page log2 taken.0 block (same_but_view_then s t u u.view same same_u) taken.1
 
 -- ---- The write
 
@@ -106,6 +116,24 @@ module _ (z : Sizes) (v : View) (b word : ℕ) (l : LockedBucket) (key : List �
       (record {
         write = may_write z v b word l key lock home unworn (Some n) (Some (block_of page size.log2 words)) None (Set value)
             (sym absent) (entering z v b word l key lock home unworn value storable room absent);
+        locked = n;
+        store = refl;
+        near = near;
+        block = (refl, refl);
+        pairs = pairs;
+      })
+
+  -- the smaller block may be published, without the pair
+  pub may_shrink : (old : ℕ) (n : LockedStore) (page : ℕ) (size : BlockSize) (words : List ℕ) → get (map_now v b) key ≡ Some old
+      → page + 2 ^ size.log2 ≤ z.pages + 1 → IsBlockOf z (extent_of page size) words (remove (map_now v b) key)
+      → (u : View) → u ≡ holding v (Some n) (Some (block_of page size.log2 words))
+      → MayReplace z u b word (extent_of page size) (call_of u b 1 (event key (Some old) Remove (Changed (Some old))))
+  may_shrink old n page size words there near pairs u is =
+      subst (λ (x : View). MayReplace z x b word (extent_of page size)
+      (call_of x b 1 (event key (Some old) Remove (Changed (Some old))))) (sym is)
+      (record {
+        write = may_write z v b word l key lock home unworn (Some n) (Some (block_of page size.log2 words)) (Some old) Remove
+            (sym there) (removing z v b word l key lock home unworn old there);
         locked = n;
         store = refl;
         near = near;

@@ -111,6 +111,37 @@ module _ {A K : Type 0} (g : Ghosts A K) (keys : AreKeyWords g) (e : Extent) (wo
 abbrev pub extent_of : ℕ → BlockSize → Extent
 extent_of page size = record { page = page; size = size }
 
+-- the words of a lawful block of places that hold a map with a pair
+module _ {A K : Type 0} (g : Ghosts A K) (keys : AreKeyWords g) (page : ℕ) (size : BlockSize) (ps : List (K × ℕ)) (m : Pairs)
+    (lawful : IsLawfulBlock (paging_of g) size.log2 size.linear ps) (hold : HoldsMap g.words_of (HasPairAt ps) m) (of : AreKeysOf g m)
+    (any : K) (value : ℕ) (there : get m (g.words_of any) ≡ Some value) where
+  pub block_of_places : (words : List ℕ) → 1 ≤ page → ArePlaces g ps words → IsBlockOf (sizes_of g) (extent_of page size) words m
+  block_of_places words some are = record {
+    absent = λ none. absurd (omega arith);
+    bare = λ none. absurd (let clash : None ≡ Some value = sym (get-empty _ (g.words_of any))
+        ∙ ap (λ x. get x (g.words_of any)) (sym none) ∙ there in let c : ⊥ = cc in c);
+    rule = lawful_as g.key_of lawful.rule lawful.rule.small
+        (λ w v i h. let p = as_place g (extent_of page size) words ps are count any w v i h in
+        let same : g.key_of w ≡ p.0 = ap g.key_of p.2 ∙ keys.law p.0 in (
+          subst (λ (k : K). HasPairAt ps k v i) (sym same) p.1,
+          ap (page_of (word_paging (sizes_of g)) size.log2) (ap g.words_of same ∙ sym p.2),
+        ));
+    map = record {
+      mapped = λ w v i h. let p = as_place g (extent_of page size) words ps are count any w v i h in
+          ap (get m) p.2 ∙ hold.mapped p.0 v i p.1;
+      found = λ w v is. let k = of.each w v is in let f = hold.found k.0 v (ap (get m) (sym k.1) ∙ is) in (
+        f.0,
+        subst (λ (x : List ℕ). HoldsPair (sizes_of g) (extent_of page size) words x v f.0) (sym k.1)
+            (as_words g (extent_of page size) words ps are count k.0 v f.0 f.1),
+      );
+    };
+  }
+    where
+      count : length ps ≡ places page size.log2
+      count = block_sized ps size.log2 (let at = hold.found any value there in
+          let inside : at.0 < length ps = pair_inside at.1 in omega arith) lawful.sized
+          ∙ sym (some_places page size.log2 (λ none. absurd (omega arith)))
+
 module _ {A K : Type 0} (g : Ghosts A K) (keys : AreKeyWords g) (page : ℕ) (size : BlockSize) (old : List (K × ℕ)) (key : K)
     (value : ℕ) (m : Pairs) (new : List (K × ℕ)) (hold : HoldsMap g.words_of (HasPairAt old) m) (of : AreKeysOf g m)
     (absent : get m (g.words_of key) ≡ None) (rehash : IsRehash (paging_of g) size.log2 size.linear old key value new) where
@@ -151,24 +182,5 @@ module _ {A K : Type 0} (g : Ghosts A K) (keys : AreKeyWords g) (page : ℕ) (si
 
   -- and its words are a lawful block of it
   pub block_of_rehash : (words : List ℕ) → 1 ≤ page → ArePlaces g new words → IsBlockOf (sizes_of g) e words more
-  block_of_rehash words some are = record {
-    absent = λ none. absurd (omega arith);
-    bare = λ none. absurd (let clash : None ≡ Some value = sym (get-empty _ (g.words_of key))
-        ∙ ap (λ x. get x (g.words_of key)) (sym none) ∙ get_set m (g.words_of key) value in let c : ⊥ = cc in c);
-    rule = lawful_as g.key_of rehash.lawful.rule rehash.lawful.rule.small
-        (λ w v i h. let p = as_place g e words new are count key w v i h in
-        let same : g.key_of w ≡ p.0 = ap g.key_of p.2 ∙ keys.law p.0 in (
-          subst (λ (k : K). HasPairAt new k v i) (sym same) p.1,
-          ap (page_of (word_paging (sizes_of g)) size.log2) (ap g.words_of same ∙ sym p.2),
-        ));
-    map = record {
-      mapped = λ w v i h. let p = as_place g e words new are count key w v i h in ap (get more) p.2 ∙ laid.mapped p.0 v i p.1;
-      found = λ w v is. let k = more_keys w v is in let f = laid.found k.0 v (ap (get more) (sym k.1) ∙ is) in
-          (f.0, subst (λ (x : List ℕ). HoldsPair (sizes_of g) e words x v f.0) (sym k.1) (as_words g e words new are count k.0 v f.0 f.1));
-    };
-  }
-    where
-      count : length new ≡ places page size.log2
-      count = block_sized new size.log2 (let at = laid.found key value (get_set m (g.words_of key) value) in
-          let inside : at.0 < length new = pair_inside at.1 in omega arith) rehash.lawful.sized
-          ∙ sym (some_places page size.log2 (λ none. absurd (omega arith)))
+  block_of_rehash = block_of_places g keys page size new more rehash.lawful laid (record { each = more_keys }) key value
+      (get_set m (g.words_of key) value)

@@ -12,6 +12,7 @@ pub mod Decisions
 pub mod ExpiredPairs
 mod ExpiredReads
 pub mod HolderWrites
+pub mod KeptPairs
 pub mod LargerBlocks
 pub mod LockCounts
 pub mod LockReleases

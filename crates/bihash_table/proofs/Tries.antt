@@ -1,5 +1,5 @@
 -- One try of an update: answered without the lock, contended, or answered under the lock.
-use Rattle.std.proofs.Common.{◌≡◌, ◌≢◌, ◌∙◌, ◌<◌, ℕ, Bool, true, false, true≢false, List, length, Option, Some, None, Result, Ok, Err, refl, sym, ap, subst, eq-eqb, ◌⊎◌, inl, inr}
+use Rattle.std.proofs.Common.{◌≡◌, ◌≢◌, ◌∙◌, ◌<◌, ℕ, Bool, true, false, true≢false, List, length, Option, Some, None, Result, Ok, Err, refl, sym, ap, subst, eq-eqb, ◌⊎◌, inl, inr, [], le_refl}
 use Rattle.std.specs.Prelude.{IfOk, if◌then◌else◌}
 use Rattle.bihash_words.specs.Maps.{Event, expired_told, effect_of}
 use Rattle.bihash_words.specs.Patches.{IsStorable}
@@ -21,7 +21,7 @@ use Rattle.bihash_words.proofs.CallLemmas.{asks_nothing}
 use Rattle.bihash_words.proofs.SpareLemmas.{no_words}
 use Rattle.bihash_table.specs.Answers.{locks_of, recycled_update}
 use Rattle.bihash_table.specs.Promise.{IsAnswered, IsContended, IsRecycled, IsUpdated, IsUpdatedOver}
-use Rattle.bihash_table.specs.inner.Locked.{IsPairBeside, UnderLock}
+use Rattle.bihash_table.specs.inner.Locked.{IsPairBeside, UnderLock, HasLock}
 use Rattle.bihash_table.specs.inner.OpenReads.{HasRead, IsPairIn, OtherPairTells, value_of}
 use Rattle.bihash_table.specs.inner.Seen.{Found, HasSeen, IsValueOf, TellsLockTry, WantsChange}
 use Rattle.bihash_table.specs.OutOfPages.{IsOutOfPages, LacksLarger}
@@ -34,6 +34,12 @@ use Rattle.bihash_table.proofs.PairReads.{pair_value}
 use Rattle.bihash_table.proofs.LocklessCalls.{not_taken}
 use Rattle.bihash_table.proofs.SameCallers.{own_through, same_but_view, same_through, view_is}
 use Rattle.bihash_table.proofs.SeenBuckets.{answer_locks, answer_seen, saw_ahead, saw_known, saw_records, seen_as, told_locked}
+use lib.Seq.{set-get_or}
+use Rattle.bihash_rule.specs.declared.view.LockedBucket.{LockedBucket}
+use Rattle.bihash_rule.specs.declared.view.PageStore.{PageStore}
+use Rattle.bihash_steps.proofs.Prefixes.{prefix_refl}
+use Rattle.bihash_table.proofs.LockReleases.{with_locks-locks_of}
+use Rattle.bihash_table.proofs.NewPairs.{looked_at}
 
 -- to set another value is no change that keeps the one that was found
 pub other_value : (value old : ℕ) → effect_of (Set value) (Some old) ≢ Keep → value ≢ old
@@ -201,6 +207,71 @@ module _ {A K : Type 0} (g : Ghosts A K) (s u t : CallerState) (b word : ℕ) (k
   tried_locked (Err refused) h =
       tried_ahead g s u t b key found change told.same (locked_ahead (sizes_of g) s.view u.view b word (told.locked taken).locked) home (Err refused)
       (took_one h.no_lock) h.tried
+
+-- the view is the same but for its notes
+abbrev pub HasNotes : View → View → Type 0
+HasNotes v w = w ≡ record v { notes = w.notes }
+
+-- the allocation lock was held by another caller, or was taken and opened again
+pub unlocked_notes : (v w : View) → w ≡ without_notes v → HasNotes v w
+unlocked_notes v w is = let notes = ap (λ (x : View). x.notes) (sym is) in is ∙ (λ i. record v { notes = notes i })
+
+pub looked_notes : (v w : View) (store : PageStore) → v.holds.store ≡ None → w ≡ looked_at v store → HasNotes v w
+looked_notes v w store none is = let notes = ap (λ (x : View). x.notes) (sym is) in
+    is ∙ (λ i. record v { holds = record v.holds { store = sym none i }; notes = notes i })
+
+noted_lock : (z : Sizes) (v w : View) (b word : ℕ) (l : LockedBucket) → HasNotes v w → HasLock z v b word l → HasLock z w b word l
+noted_lock z v w b word l noted h = subst (λ (x : View). HasLock z x b word l) (sym noted) (record {
+  inside = h.inside;
+  held = h.held;
+  bucket = h.bucket;
+  version = h.version;
+  fits = h.fits;
+  stood = h.stood;
+  clean = h.clean;
+  near = h.near;
+  size = h.size;
+  pairs = h.pairs;
+  writes = h.writes;
+})
+
+noted_ahead : (v w : View) (b : ℕ) → HasNotes v w → IsAhead v w b
+noted_ahead v w b noted = let same = sym noted in record {
+  history = known_at v.known b;
+  begins = prefix_refl (known_at v.known b);
+  locks = locks_of v.records;
+  is = noted ∙ (λ i. record v {
+    records = sym (with_locks-locks_of v.records) i;
+    known = record v.known { writes = sym (set-get_or v.known.writes b []) i };
+    holds = (same i).holds;
+    notes = (same i).notes;
+  });
+  alone = λ _. le_refl (length (known_at v.known b));
+}
+
+-- it has the lock still
+pub under_noted : {A K : Type 0} (g : Ghosts A K) {row : _} (s u : CallerState) (bucket : SeenBucket A K g) (change : Change)
+    {tells : Sizes → List ℕ → Extent → List ℕ → Type 0} → u ≡ with_view s u.view → HasNotes s.view u.view
+    → UnderLock g row s bucket change tells → UnderLock g row u bucket change tells
+under_noted g s u bucket change same noted h = record {
+  own = own_through s u u.view same h.own;
+  lock = h.lock;
+  has = noted_lock (sizes_of g) s.view u.view bucket.hashed.bucket bucket.word h.lock noted h.has;
+  unworn = subst (λ (x : View). length (known_at x.known bucket.hashed.bucket) < g.LIMIT) (sym noted) h.unworn;
+  storable = h.storable;
+  told = h.told;
+}
+
+-- and what ends its try ends that of the caller before
+pub finished_noted : {A K : Type 0} (g : Ghosts A K) (s u t : CallerState) (b : ℕ) (key : K) (found : Option ℕ) (change : Change)
+    → u ≡ with_view s u.view → HasNotes s.view u.view → bucket_of (sizes_of g) (g.words_of key) ≡ b
+    → (r : Result Reply Contended) → Finished g u t key found change r → Finished g s t key found change r
+finished_noted g s u t b key found change same noted home r h =
+    let locks = ap (λ (x : View). locks_of x.records) noted in record {
+      tried = tried_seen g s u t b key found change same (noted_ahead s.view u.view b noted) home locks r h.tried;
+      paid = h.paid;
+      no_lock = h.no_lock ∙ locks;
+    }
 
 -- what was seen is told under the lock as it is used there, and the change may be made
 pub under_lock : {A K : Type 0} (g : Ghosts A K) {row : _} (s u : CallerState) (bucket : SeenBucket A K g) (change : Change) {won : Bool}

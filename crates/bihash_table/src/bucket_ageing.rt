@@ -12,12 +12,12 @@ ghost use Rattle.bihash_table.specs.inner.Seen.{Found};
 
 use crate::block_place_count::{FREE, place_count};
 use crate::bucket_lock::{is_unchanged, load_unlocked};
-use crate::change_in_place::remove;
 use crate::contended::Contended;
 use crate::hashed_key::{HashedKey, SeenBucket};
 use crate::open_bucket_search::load_word;
 use crate::read_places::read_place;
 use crate::shared_table::Sessions;
+use crate::shrinking::remove_and_shrink;
 use crate::try_update::answer_try;
 use crate::worn_bucket::is_worn;
 use bihash_steps::{Caller, CallerSeat, Row};
@@ -44,7 +44,7 @@ impl<S: Shape> Sessions<S> {
             return Err(Contended);
         };
         match expired_in_open_bucket(&self.row, seat, word, expiry) {
-            Some(pair) => remove_expired(&self.row, seat, bucket, word, &pair, expiry),
+            Some(pair) => remove_expired(self, caller, bucket, word, &pair, expiry),
             None => find_none_expired(&self.row, seat, bucket, word, expiry),
         }
     }
@@ -161,27 +161,28 @@ fn expired_in_open_bucket<S: Shape, E: Expiry>(
 // Removes the expired pair that a look at the open bucket found, where the bucket has still the word that was seen. A key
 // of another bucket was read of words that weren't the block's: the word has changed then.
 fn remove_expired<S: Shape, E: Expiry>(
-    row: &Row<S>,
-    seat: &mut CallerSeat<S>,
+    table: &Sessions<S>,
+    caller: &mut Caller<S>,
     bucket: usize,
     word: BucketWord,
     pair: &(usize, S::Key, u64),
     _told: &E,
 ) -> Result<Option<Reply>, Contended>
-    requires { HasFoundExpired ⟦<S as Shape>⟧ row.now seat.old bucket word (E.is_expired _told.now) (Some pair.now) }
-    ensures { TellsExpireTry (sizes_of S.Shape) seat.old seat.new bucket (E.is_expired _told.now) result }
+    requires { HasFoundExpired ⟦<S as Shape>⟧ table.now.row caller.old.seat bucket word (E.is_expired _told.now) (Some pair.now) }
+    ensures { TellsExpireTry (sizes_of S.Shape) caller.old.seat caller.new.seat bucket (E.is_expired _told.now) result }
 {
+    let row = &table.row;
     row.is_sound();
     let (place, key, value) = *pair;
     let hashed = HashedKey::of(&key);
     if hashed.bucket != bucket {
-        if is_unchanged(row, seat, bucket, word) {
+        if is_unchanged(row, &mut caller.seat, bucket, word) {
             unreachable!();
         }
         return Err(Contended);
     }
     let seen = SeenBucket { word, hashed };
-    match remove_unless_worn(row, seat, &seen, (place, value)) {
+    match remove_unless_worn(table, caller, &seen, (place, value)) {
         Ok(reply) => Ok(Some(reply)),
         Err(refused) => Err(refused),
     }
@@ -189,19 +190,21 @@ fn remove_expired<S: Shape, E: Expiry>(
 
 // Removes the pair of the key that a look at the open bucket found there, unless the version is used up.
 fn remove_unless_worn<S: Shape>(
-    row: &Row<S>,
-    seat: &mut CallerSeat<S>,
+    table: &Sessions<S>,
+    caller: &mut Caller<S>,
     seen: &SeenBucket<'_, S>,
     pair: (usize, u64),
 ) -> Result<Reply, Contended>
-    requires { Found ⟦<S as Shape>⟧ row.now seat.old seen.now (Some pair) }
-    ensures { Tried ⟦<S as Shape>⟧ seat.old seat.new seen.now.hashed.key.now (Some pair.1) Remove result }
+    requires { Found ⟦<S as Shape>⟧ table.now.row caller.old.seat seen.now (Some pair) }
+    ensures { Tried ⟦<S as Shape>⟧ caller.old.seat caller.new.seat seen.now.hashed.key.now (Some pair.1) Remove result }
 {
     if is_worn::<S>(seen.word) {
+        let row = &table.row;
         let found = Some(pair.1);
-        return answer_try(row, seat, seen, found, Change::Remove, Reply::Worn(found));
+        let reply = Reply::Worn(found);
+        return answer_try(row, &mut caller.seat, seen, found, Change::Remove, reply);
     }
-    remove(row, seat, seen, pair)
+    remove_and_shrink(table, caller, seen, pair)
 }
 
 // Answers a look that found no expired pair in the open bucket, where that has still the word that was seen. A bucket

@@ -105,8 +105,8 @@ pub(crate) fn remove<S: Shape>(
     Ok(vacate(row, seat, seen, pair))
 }
 
-// Removes a pair in place: frees its place in the locked bucket's block, where another pair is left.
-fn vacate<S: Shape>(
+/// Removes a pair in place: frees its place in the locked bucket's block, where another pair is left.
+pub(crate) fn vacate<S: Shape>(
     row: &Row<S>,
     seat: &mut CallerSeat<S>,
     seen: &SeenBucket<'_, S>,

@@ -132,7 +132,7 @@ fn enter_in_new_block<S: Shape>(
 }
 
 /// Ends a change of block: gives back the one that the bucket of this word had, if any, and opens the allocation lock.
-fn end_block_change<S: Shape>(row: &Row<S>, seat: &mut CallerSeat<S>, word: BucketWord)
+pub(crate) fn end_block_change<S: Shape>(row: &Row<S>, seat: &mut CallerSeat<S>, word: BucketWord)
     requires { MayLeave (sizes_of S.Shape) row.now seat.old word }
     ensures same { seat.new ≡ with_view seat.old seat.new.view }
     ensures left { Released seat.old.view seat.new.view }

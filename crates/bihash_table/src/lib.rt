@@ -23,6 +23,7 @@ mod renew;
 mod renew_fault;
 mod search;
 mod shared_table;
+mod shrinking;
 mod try_update;
 mod waiting_update;
 mod worn_bucket;

@@ -1,6 +1,6 @@
 -- What taking a block from the page store leaves: a returned one, pages that were never used, or the first pages of a
 -- larger returned one that is cut.
-use Rattle.std.specs.Prelude.{◌≡◌, ℕ, ◌+◌, ◌-◌, ◌^◌, ◌<◌, ◌≤◌, Bool, true, [], ◌∷◌, ◌++◌, length, slice_index, Option, IfSome, IfNone, Result, IfOk, IfErr}
+use Rattle.std.specs.Prelude.{◌≡◌, ℕ, ◌+◌, ◌-◌, ◌^◌, ◌<◌, ◌≤◌, Bool, true, [], ◌∷◌, ◌++◌, length, slice_index, Option, None, IfSome, IfNone, Result, IfOk, IfErr}
 use Rattle.bihash_words.specs.Sizes.{IsSound, Sizes}
 use Rattle.bihash_rule.specs.PageStores.{returned_in}
 use Rattle.bihash_steps.specs.StoreSteps.{TakesBlock, grown, unlisted}
@@ -94,3 +94,18 @@ pub record TellsTake (z : Sizes) (cuts : Bool) (s t : CallerState) (log2 : ℕ) 
   pub refused : IfErr r (λ left. (t ≡ s) × ((n : LockedStore) → HasStore z s.view n → LacksPages z n.store log2 left))
   pub no_larger : cuts ≡ true
       → IfErr r (λ left. (n : LockedStore) → HasStore z s.view n → HasNoLarger z n.store log2)
+
+-- ---- A block is taken, or none
+
+-- The caller of this row holds neither the allocation lock nor a block.
+pub record MayTryBlock (z : Sizes) (row : _) (s : CallerState) (log2 : ℕ) : Type 0 where
+  pub own : s.row ≡ row
+  pub open_store : s.view.holds.store ≡ None
+  pub bare : s.view.holds.block ≡ None
+  pub small : log2 ≤ z.max_log2
+
+-- it holds both, or has noted at most
+pub record TellsBlockTry (z : Sizes) (s t : CallerState) (log2 : ℕ) (r : Option ℕ) : Type 0 where
+  pub same : t ≡ with_view s t.view
+  pub taken : IfSome r (λ page. (left : PageStore) × TakesBlock z s.view left page log2 t.view)
+  pub none : IfNone r (t.view ≡ record s.view { notes = t.view.notes })

@@ -2,7 +2,7 @@
 //! the even keys share a bucket and k / 2 names the page.
 ghost use Rattle.std.specs.Prelude.{◌≡◌, ◌≤◌, ◌*◌, ◌^◌, IfSome};
 
-use bihash_plan::{Plan, find, larger, lay, plan};
+use bihash_plan::{Plan, find, larger, lay, lay_kept, plan, smaller};
 use bihash_words::{BlockSize, Tiny};
 
 type Small = Tiny<8, 1000>;
@@ -290,6 +290,30 @@ const FOUND: [(&[Place], BlockSize, u64, Option<usize>); 19] = [
     (&LAID_LINEAR, LINEAR_FOUR, 32, Some(6)),
 ];
 
+// Two pages without key 8, and what stays in one page.
+const KEPT: [Place; 8] = [
+    ([0, 0], 100),
+    ([4, 0], 102),
+    ([8, 0], u64::MAX),
+    ([8, 0], u64::MAX),
+    ([2, 0], 101),
+    ([6, 0], 103),
+    ([8, 0], u64::MAX),
+    ([8, 0], u64::MAX),
+];
+
+const KEPT_PAGE: [Place; 4] = [([0, 0], 100), ([4, 0], 102), ([2, 0], 101), ([6, 0], 103)];
+
+// A block, its size, and the log2 of the smallest one that takes its pairs, if that is smaller.
+const SMALLER: [(&[Place], BlockSize, Option<u64>); 6] = [
+    (&EMPTY, ONE, None),
+    (&PAGE, ONE, None),
+    (&TWO_PAGES, TWO, None),
+    (&KEPT, TWO, Some(0)),
+    (&[FREE; 8], TWO, None),
+    (&LAID_LINEAR, LINEAR_FOUR, None),
+];
+
 // For tests of plans: how many places a block of this size has. A small table has blocks of at most four pages.
 fn count_to_plan(size: BlockSize) -> Option<usize>
     ensures size { IfSome result (λ _. size.log2 ≤ 2) }
@@ -356,6 +380,26 @@ fn larger_blocks(rt: HostRuntime) {
     for (places, size, key, wanted) in LARGER {
         assert!(rt; grown(places, size, key) == Some(wanted), "key {key}");
     }
+}
+
+// For tests of plans: the smaller block of the pairs of a block.
+fn shrunk(places: &[Place], size: BlockSize) -> Option<Option<u64>> {
+    let count = count_to_plan(size)?;
+    if !places.is_empty() && places.len() != count {
+        return None;
+    }
+    Some(smaller::<Small>(places, size.log2))
+}
+
+// Smaller blocks of `bihash_plan` for the pairs of a worked block, and one that is laid out.
+#[test]
+fn smaller_blocks(rt: HostRuntime) {
+    for (places, size, wanted) in SMALLER {
+        assert!(rt; shrunk(places, size) == Some(wanted), "log2 {}", size.log2);
+    }
+    let mut page = [FREE; 4];
+    lay_kept::<Small>(&KEPT, &[8, 0], 0, &mut page);
+    assert!(rt; page == KEPT_PAGE);
 }
 
 // Plans carried out: the pairs of a worked block and a new one are laid out in a block of the planned size.

@@ -22,8 +22,8 @@ answer_try-requires g c =
       roomy = λ e. let f : ⊥ = cc in f;
     }
 
-pub remove-requires : goal.remove-requires
-remove-requires g c = record {
+pub remove_and_shrink-requires : goal.remove_and_shrink-requires
+remove_and_shrink-requires g c = record {
   own = c.requires.own;
   seen = c.requires.seen;
   unworn = unworn (sizes_of g.S.Shape) _ _ _ c.requires.seen.seen c.is_worn.result c.is_worn.ensures c.if-is_worn.false;

@@ -3,9 +3,11 @@ ghost use Rattle.std.specs.Prelude.{◌≡◌};
 ghost use Rattle.std.specs.Thread.{IsSync};
 ghost use Rattle.bihash_rule.specs.Views.{nothing_held};
 
-use super::Call::{Add, Search, Touch};
-use super::{BelowHundred, Row, block, first_wrong, table_answer, table_refused, two_callers};
-use bihash_table::{Caller, Sessions, create, stamp};
+use super::Call::{Add, Remove, Search, Touch};
+use super::{
+    BelowHundred, Row, add_keys_to_table, block, first_wrong, table_answer, table_refused, two_callers,
+};
+use bihash_table::{Caller, Sessions, create, create_cutting, stamp};
 use bihash_words::Reply::{Changed, Kept, NoPages, Worn};
 use bihash_words::Tiny;
 use std::sync::Wait;
@@ -68,6 +70,68 @@ fn tries_to_expire(rt: HostRuntime) -> Result<(), Fail> {
     assert!(rt; stamp(caller) == Some((0, 4)));
     assert!(rt; table.expire(&rt, caller, 1, &BelowHundred) == None);
     assert!(rt; table.sweep(&rt, caller, 0, 2, &BelowHundred) == 0);
+    Ok(())
+}
+
+// Five pairs of bucket 0, which want four pages. One isn't expired.
+const FOUR_PAGES: [Row; 5] = [
+    (Add(107), [0, 0], Changed(None), (0, 1)),
+    (Add(7), [4, 0], Changed(None), (0, 2)),
+    (Add(8), [8, 0], Changed(None), (0, 3)),
+    (Add(9), [12, 0], Changed(None), (0, 4)),
+    (Add(10), [16, 0], Changed(None), (0, 5)),
+];
+
+// Ageing in a table that cuts blocks: a bucket that keeps pairs changes to the smallest block that takes them, and
+// another bucket takes the one that it had.
+#[test]
+fn a_bucket_shrinks_as_its_pairs_expire(rt: HostRuntime) -> Result<(), Fail> {
+    let Ok((table, mut caller)) = create_cutting::<Tiny<8, 1000>>(rt.alloc()) else {
+        return table_refused();
+    };
+    let caller = &mut caller;
+    assert!(rt; first_wrong(&table, caller, &FOUR_PAGES) == None);
+    assert!(rt; block(&table, caller, 0) == (2, 2, false));
+    assert!(rt; table.try_expire(caller, 0, &BelowHundred) == Ok(Some(Changed(Some(8)))));
+    assert!(rt; block(&table, caller, 0) == (1, 0, false));
+    const KEPT: [Row; 5] = [
+        (Search, [0, 0], Kept(Some(107)), (0, 6)),
+        (Search, [4, 0], Kept(Some(7)), (0, 6)),
+        (Search, [8, 0], Kept(None), (0, 6)),
+        (Search, [12, 0], Kept(Some(9)), (0, 6)),
+        (Search, [16, 0], Kept(Some(10)), (0, 6)),
+    ];
+    assert!(rt; first_wrong(&table, caller, &KEPT) == None);
+    assert!(rt; table.sweep(&rt, caller, 0, 1, &BelowHundred) == 3);
+    assert!(rt; block(&table, caller, 0) == (1, 0, false));
+    assert!(rt; add_keys_to_table(&table, caller, &[1, 5, 9, 13, 17]));
+    assert!(rt; block(&table, caller, 1) == (2, 2, false));
+    const LAST: [Row; 1] = [(Search, [0, 0], Kept(Some(107)), (0, 9))];
+    assert!(rt; first_wrong(&table, caller, &LAST) == None);
+    Ok(())
+}
+
+// Ageing where the smaller block isn't to be had: the pair goes in place, and with the next one the bucket has a smaller
+// block, once a page is free. A table that cuts no blocks keeps the larger one.
+#[test]
+fn a_bucket_keeps_its_block_where_no_page_is_free(rt: HostRuntime) -> Result<(), Fail> {
+    let Ok((table, mut caller)) = create_cutting::<Tiny<5, 1000>>(rt.alloc()) else {
+        return table_refused();
+    };
+    let caller = &mut caller;
+    assert!(rt; first_wrong(&table, caller, &FOUR_PAGES) == None);
+    assert!(rt; table_answer(&table, caller, Add(1), &[1, 0]) == Ok(Changed(None)));
+    assert!(rt; table.try_expire(caller, 0, &BelowHundred) == Ok(Some(Changed(Some(8)))));
+    assert!(rt; block(&table, caller, 0) == (2, 2, false));
+    assert!(rt; table_answer(&table, caller, Remove, &[1, 0]) == Ok(Changed(Some(1))));
+    assert!(rt; table.try_expire(caller, 0, &BelowHundred) == Ok(Some(Changed(Some(10)))));
+    assert!(rt; block(&table, caller, 0) == (1, 0, false));
+    let Ok((whole, mut other)) = create::<Tiny<8, 1000>>(rt.alloc()) else {
+        return table_refused();
+    };
+    assert!(rt; first_wrong(&whole, &mut other, &FOUR_PAGES) == None);
+    assert!(rt; whole.sweep(&rt, &mut other, 0, 1, &BelowHundred) == 4);
+    assert!(rt; block(&whole, &mut other, 0) == (2, 2, false));
     Ok(())
 }
 
