@@ -1,13 +1,14 @@
 -- A worker at packets that were dealt.
-use Rattle.std.proofs.Common.{◌≡◌, ◌≢◌, ◌∙◌, ◌+◌, ◌<◌, ◌≤◌, ℕ, List, [], ◌∷◌, ◌++◌, Some, Ok, ap, drop, drop-drop, length, get_or, slice_get, subst, sym, arith}
+use Rattle.std.proofs.Common.{◌≡◌, ◌≢◌, ◌∙◌, ◌+◌, ◌<◌, ◌≤◌, ℕ, zero, suc, List, [], ◌∷◌, ◌++◌, Some, Ok, ap, drop, drop-drop, length, get_or, map, slice_get, subst, sym, arith}
 use Rattle.std.specs.Prelude.{slice_index}
 use Rattle.std.specs.declared.convert.Infallible.{Infallible}
 use Rattle.std.proofs.lemmas.List.{drop_all, drop_more, length-drop}
-use Rattle.std.proofs.lemmas.Option.{slice_get_within}
-use Rattle.packet_view.specs.Captures.{PacketFacts}
+use Rattle.std.proofs.lemmas.Option.{same_Some, slice_get_within}
+use Rattle.packet_view.specs.Captures.{PacketFacts, packet_facts}
 use Rattle.packet_view.specs.CheckedCaptures.{remaining}
 use Rattle.packet_view.specs.Frames.{FrameFacts, frame_facts}
 use Rattle.packet_view.specs.Interfaces.{Interface}
+use Rattle.packet_view.specs.declared.packet.Packet.{Packet}
 use Rattle.packet_view.specs.inner.FrameSteps.{view_of}
 use Rattle.packet_view.proofs.FrameLemmas.{view_only, view_shown}
 use Rattle.acl_policy.specs.Policies.{SectionFacts, section_of}
@@ -22,18 +23,27 @@ use Rattle.packet_dealing.specs.HashedFlows.{IsHashed}
 use Rattle.packet_dealing.proofs.DealtLists.{front_only, next_there, some_left, stands_at, there_behind}
 use Rattle.packet_dealing.specs.Dealt.{AreDealt, IsDealtTo}
 use Rattle.packet_dealing.specs.declared.dealt_chunk.DealtChunk.{DealtChunk}
+use Rattle.packet_dealing.specs.declared.dealt_chunk.DealtPacket.{DealtPacket}
+use Rattle.packet_dealing.specs.declared.dealt_chunk.DealtPacket.TheVariants.{Other}
 use Rattle.flow_workers.specs.declared.worker_share.Batch.{Batch}
 use Rattle.flow_workers.specs.declared.worker_share.Share.{Share}
 use Rattle.flow_workers.specs.declared.session_tables.Callers.{Callers}
 use Rattle.flow_workers.specs.declared.viewed_packet.ViewedPacket.{ViewedPacket}
 use Rattle.flow_workers.specs.Callers.{AreIdle}
 use Rattle.flow_workers.specs.Verdicts.{HasVerdict}
-use Rattle.flow_workers.specs.inner.Jobs.{AreDealtFrom, HasWorkedOn, IsChunkAt, IsViewedAt, IsWorkerOf, MayJudgePacket, MayJudgeViewed, StandAmong, dealer_of, policy_of, run_facts}
+use Rattle.flow_workers.specs.inner.Jobs.{AreDealtFrom, HasWorkedOn, IsChunkAt, IsViewedAt, IsWorkerOf, MayJudgeFound, MayJudgePacket, MayJudgeViewed, StandAmong, dealer_of, policy_of, run_facts}
 use Rattle.flow_workers.specs.inner.ViewedPackets.{IsViewed, TellsViewed}
 use Rattle.flow_workers.proofs.WorkSteps.{IsAt, one_more, work_passed}
 
 front_there : {X : Type 0} (xs ys : List X) (k : ℕ) (x : X) → slice_get xs k ≡ Some x → slice_get (xs ++ ys) k ≡ Some x
 front_there xs ys k x at = front_only xs ys k (slice_get_within xs k x at) ∙ at
+
+-- what a place of a list of packets says
+facts_there : (packets : List Packet) (k : ℕ) (d : Packet) (packet : PacketFacts) → slice_get (map packet_facts packets) k ≡ Some packet
+    → packet_facts (get_or packets k d) ≡ packet
+facts_there [] k d packet there = let inside = slice_get_within [] k packet there in absurd (omega arith)
+facts_there (p ∷ packets) zero d packet there = same_Some _ _ there
+facts_there (p ∷ packets) (suc k) d packet there = facts_there packets k d packet there
 
 module _ {A B R G K L : Type 0} (ga : Ghosts A K) (gb : Ghosts B L) (batch : Batch A B R G K L) where
   -- ---- One chunk
@@ -89,6 +99,30 @@ module _ {A B R G K L : Type 0} (ga : Ghosts A K) (gb : Ghosts B L) (batch : Bat
     hashed = hashed;
     mine = subst (λ f. IsWorkerOf ga gb batch at f worker) same (may.mine filter.own frame shown);
   }
+
+  -- a packet may be judged still when the worker has removed sessions before it
+  pub may_judge_aged : (worker at : ℕ) (packet : PacketFacts) (old new : Share A B K L ga gb)
+      → MayJudgePacket ga gb batch worker at packet old → HasWorkedOn ga gb batch worker at at old new
+      → MayJudgePacket ga gb batch worker at packet new
+  may_judge_aged worker at packet old new may aged = record {
+    shapes = may.shapes;
+    few = may.few;
+    idle = aged.idle;
+    fits = may.fits;
+    there = may.there;
+    mine = may.mine;
+  }
+
+  -- so may one that stands among a chunk's others
+  pub other_aged : (worker first at place : ℕ) (others : List Packet) (found : DealtPacket) (d : Packet) (old new : Share A B K L ga gb)
+      → MayJudgeFound ga gb batch worker first (map packet_facts others) found old → found ≡ Other at place
+      → HasWorkedOn ga gb batch worker (first + at) (first + at) old new
+      → MayJudgePacket ga gb batch worker (first + at) (packet_facts (get_or others place d)) new
+  other_aged worker first at place others found d old new may is aged =
+      let here : MayJudgeFound ga gb batch worker first (map packet_facts others) (Other at place) old =
+      subst (λ f. MayJudgeFound ga gb batch worker first (map packet_facts others) f old) is may in
+      subst (λ p. MayJudgePacket ga gb batch worker (first + at) p new) (sym (facts_there others place d here.packet here.is))
+      (may_judge_aged worker (first + at) here.packet old new here.may aged)
 
   -- it is that packet among all, by what the policy says of its interface
   pub viewed_among : (all : List PacketFacts) → StandAmong batch all → (at : ℕ) (filter : InterfaceFilter)

@@ -1,5 +1,6 @@
 -- Definitions that go as the code goes. No promise is said by them.
 pub mod Ageing
+pub mod AgeingTimes
 pub mod CallerSplits
 pub mod Fresh
 pub mod Jobs

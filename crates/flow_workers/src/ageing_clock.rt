@@ -1,5 +1,6 @@
 //! When a worker removes sessions that have ended, and how many of its buckets at once. No promise rests on it.
-ghost use Rattle.std.specs.Prelude.{◌<◌};
+ghost use Rattle.std.specs.Prelude.{◌≡◌, ◌<◌};
+ghost use Rattle.flow_workers.specs.inner.AgeingTimes.{due_after, seconds_of_part, seconds_of_round};
 
 use session_state::Timeouts;
 
@@ -22,8 +23,14 @@ pub struct AgeingClock {
 }
 
 impl AgeingClock {
+    ghost use Rattle.std.specs.Prelude.{◌≡◌, ◌-◌, ◌^◌, false, true};
+
     /// That of a worker before its first packet.
-    pub fn new(ages: bool) -> AgeingClock {
+    pub fn new(ages: bool) -> AgeingClock
+        ensures begun { (result.last ≡ 0) × (result.four ≡ 0) × (result.six ≡ 0) }
+        ensures due { ages ≡ true → result.due ≡ 0 }
+        ensures never { ages ≡ false → result.due ≡ 2 ^ 64 - 1 }
+    {
         AgeingClock {
             last: 0,
             due: if ages { 0 } else { u64::MAX },
@@ -35,7 +42,8 @@ impl AgeingClock {
 
 /// How many seconds a round takes: where pages are short, a quarter of the shortest timeout.
 pub fn round_seconds(times: &Timeouts, short_of_pages: bool) -> u64
-    ensures { 0 < result }
+    ensures some { 0 < result }
+    ensures seconds { result ≡ seconds_of_round times.now short_of_pages }
 {
     if !short_of_pages {
         return ROUND;
@@ -45,13 +53,16 @@ pub fn round_seconds(times: &Timeouts, short_of_pages: bool) -> u64
 }
 
 /// How many seconds there are at least between two ageings, where a round takes so many.
-pub fn part_seconds(round: u64) -> u64 {
+pub fn part_seconds(round: u64) -> u64
+    ensures { result ≡ seconds_of_part round }
+{
     (round / PARTS).max(1)
 }
 
 /// How many of so many buckets are due after so many seconds: all after a round.
 pub fn due_buckets(buckets: u64, elapsed: u64, round: u64) -> u64
     requires { 0 < round }
+    ensures { result ≡ due_after buckets elapsed round }
 {
     buckets.saturating_mul(elapsed).div_ceil(round).min(buckets)
 }

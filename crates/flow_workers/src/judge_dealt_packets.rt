@@ -5,6 +5,7 @@ ghost use Rattle.packet_dealing.specs.Dealt.{place_of};
 ghost use Rattle.flow_workers.specs.inner.Jobs.{CanWork, HasWorked, HasWorkedOn, IsShareOf, MayJudgeChunk, MayJudgeFound};
 
 use crate::gate::Gate;
+use crate::worker_ageing::age_where_due;
 use crate::worker_packet_verdict::{judge_by_view, judge_sighting};
 use crate::worker_share::{Batch, Dealt, Job, Share};
 use bihash_words::Shape;
@@ -30,10 +31,15 @@ fn judge_found<A: Shape, B: Shape, R: Wait, G: Gate>(
 {
     match found {
         DealtPacket::Plain(at, seen) => {
-            judge_sighting(batch, worker, first + *at as usize, seen, share)
+            let at = first + *at as usize;
+            age_where_due(batch, worker, at, seen.moment, share);
+            judge_sighting(batch, worker, at, seen, share)
         }
         DealtPacket::Other(at, place) => {
-            judge_by_view(batch, worker, first + *at, &others[*place], share)
+            let at = first + *at;
+            let packet = &others[*place];
+            age_where_due(batch, worker, at, packet.moment, share);
+            judge_by_view(batch, worker, at, packet, share)
         }
     }
 }

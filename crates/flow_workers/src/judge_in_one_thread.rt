@@ -7,6 +7,7 @@ ghost use Rattle.flow_workers.specs.inner.Turns.{MayJudgeBatch};
 
 use crate::gate::Gate;
 use crate::loads_ahead::load_ahead_at;
+use crate::worker_ageing::age_where_due;
 use crate::worker_packet_verdict::{judge_other, judge_packet, judge_sighting};
 use crate::worker_share::{Batch, JudgedBatch, Share};
 use bihash_words::Shape;
@@ -31,11 +32,15 @@ fn judge_next<A: Shape, B: Shape, R: Wait, G: Gate>(
     let Some(seen) = see_plain::<A, B>(packet) else {
         let other = see_other::<A, B>(*packet);
         let worker = worker_of_packet::<A, B>(&dealer, number, &other.hashed);
-        judge_other(batch, worker, at, &other, &mut shares[worker])?;
+        let share = &mut shares[worker];
+        age_where_due(batch, worker, at, packet.moment, share);
+        judge_other(batch, worker, at, &other, share)?;
         return Ok(worker);
     };
     let worker = worker_of_packet::<A, B>(&dealer, number, &seen.hashed_flow());
-    judge_sighting(batch, worker, at, &seen, &mut shares[worker])?;
+    let share = &mut shares[worker];
+    age_where_due(batch, worker, at, seen.moment, share);
+    judge_sighting(batch, worker, at, &seen, share)?;
     Ok(worker)
 }
 
@@ -52,6 +57,7 @@ fn judge_by_one<A: Shape, B: Shape, R: Wait, G: Gate>(
     let mut taken = 0;
     'packets: while let Some(packet) = packets.next() {
         load_ahead_at(taken, batch.setup.tables, packets.found_ahead());
+        age_where_due(batch, 0, taken, packet.moment, share);
         judge_packet(batch, 0, taken, &packet, share)?;
         taken += 1;
     }

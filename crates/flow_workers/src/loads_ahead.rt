@@ -30,7 +30,8 @@ fn load_ahead<A: Shape, B: Shape>(tables: &Tables<A, B>, packets: &[Packet<'_>])
     }
 }
 
-/// Loads ahead for the packets behind the one at this place, each time that enough of them were judged.
+/// Loads ahead for the packets behind the one at this place, each time that enough of them were judged. It leaves nothing that a
+/// clause could name.
 #[inline(always)]
 pub fn load_ahead_at<A: Shape, B: Shape>(at: usize, tables: &Tables<A, B>, packets: &[Packet<'_>])
     requires { IsFlowLayout (layout_of ⟦<A as Shape>⟧ ⟦<B as Shape>⟧) }

@@ -92,6 +92,7 @@ fn due_of<S: Shape>(worker: usize, workers: usize, elapsed: u64, round: u64) -> 
 
 // Removes sessions that have ended from buckets that fall to the worker, before it judges the packet at this place of the batch,
 // which has this moment. Most packets find nothing due, and their path is shorter without this.
+#[cold]
 #[inline(never)]
 fn age<A: Shape, B: Shape, R: Wait, G: Gate>(
     batch: &Batch<'_, '_, '_, A, B, R, G>,

@@ -7,7 +7,6 @@ use crate::gate::Gate;
 use crate::packet_verdict::judge_as;
 use crate::update_tries::UntilAnswered;
 use crate::viewed_packet::ViewedPacket;
-use crate::worker_ageing::age_where_due;
 use crate::worker_share::{Batch, Share};
 use bihash_words::Shape;
 use flow_filter::InterfaceFilter;
@@ -31,7 +30,6 @@ fn record_verdict<A: Shape, B: Shape, R: Wait, G: Gate>(
     requires { MayJudgeViewed ⟦<A as Shape>⟧ ⟦<B as Shape>⟧ batch.now worker at filter.now packet.now share.old }
     ensures { IfOk result (λ _. HasWorkedOn ⟦<A as Shape>⟧ ⟦<B as Shape>⟧ batch.now worker at (at + 1) share.old share.new) }
 {
-    age_where_due(batch, worker, at, packet.moment, share);
     let setup = &batch.setup;
     let number = batch.first + at;
     setup.gate.before(worker, number);

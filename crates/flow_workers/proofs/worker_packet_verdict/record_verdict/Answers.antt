@@ -15,18 +15,6 @@ overflow_add-number g c =
     let fits = c.requires.fits in
     omega arith
 
-pub age_where_due-requires : goal.age_where_due-requires
-age_where_due-requires g c =
-    let stands = c.requires.stands in
-    record {
-      shapes = c.requires.shapes;
-      few = c.requires.few;
-      idle = c.requires.idle;
-      packet = stands.packet;
-      there = stands.there;
-      timed = stands.seen.0;
-    }
-
 pub judge_as-requires-clause-ruling : goal.judge_as-requires-clause-ruling
 judge_as-requires-clause-ruling g c =
     is_ruling (section_in c.args.filter.now) (frame_facts c.args.packet.now.frame.now)
@@ -37,13 +25,12 @@ returns g c =
     record {
       idle = c.in-Ok.ensures.idle;
       work = λ all among v said old.
-          rw (c.in_ok-push.ensures.items, sym (append_assoc said c.age_where_due.new.share.said.items (c.in-Ok.verdict ∷ [])))
+          rw (c.in_ok-push.ensures.items, sym (append_assoc said c.args.share.now.said.items (c.in-Ok.verdict ∷ [])))
           (one_more _ _ _ _ _ _ _
           (work_push _ _ _ _ _ _ _ stands.packet (frame_facts c.args.packet.now.frame.now) _
           (viewed_among g.A.Shape g.B.Shape c.args.batch.now all among c.args.at c.args.filter.now c.args.packet.now stands)
           (sym c.requires.mine)
           (judged_among g.A.Shape g.B.Shape c.args.batch.now c.args.at c.args.filter.now c.args.packet.now stands _ _ _
           c.in-Ok.ensures)
-          c.in-Ok.ensures.wanted
-          (c.age_where_due.ensures.work all among v said old)));
+          c.in-Ok.ensures.wanted old));
     }
