@@ -7,7 +7,6 @@ use Rattle.std.proofs.lemmas.Option.{slice_get_within}
 use Rattle.packet_view.specs.Captures.{PacketFacts}
 use Rattle.packet_view.specs.declared.tuple.Family.{Family}
 use Rattle.packet_view.specs.declared.tuple.Family.TheVariants.{V4, V6}
-use Rattle.bihash_words.specs.Maps.{Event}
 use Rattle.bihash_words.specs.Sizes.{Sizes, sizes_of}
 use Rattle.bihash_words.specs.declared.shape.Shape.{Ghosts}
 use Rattle.bihash_words.specs.declared.patch.Change.TheVariants.{Remove}
@@ -15,10 +14,8 @@ use Rattle.bihash_words.specs.declared.patch.Reply.{Reply}
 use Rattle.bihash_rule.specs.Callers.{IsLawfulCaller}
 use Rattle.bihash_rule.specs.declared.view.Call.{Call}
 use Rattle.bihash_rule.specs.declared.view.Known.{Known}
-use Rattle.bihash_rule.specs.declared.view.Record.{Record}
 use Rattle.bihash_rule.specs.declared.view.View.{View}
 use Rattle.bihash_steps.specs.BucketCalls.{event}
-use Rattle.bihash_steps.specs.BucketSteps.{push_call}
 use Rattle.bihash_steps.specs.CallerCalls.{IsIdle}
 use Rattle.bihash_steps.specs.Seats.{CallerState}
 use Rattle.bihash_table.specs.Ageing.{Ages, Look, LookInTurn, Sweeps}
@@ -27,12 +24,11 @@ use Rattle.bihash_table.proofs.SameCallers.{same_through}
 use Rattle.bihash_table.specs.Answers.{entry_of, with_locks}
 use Rattle.bihash_table.specs.Promise.{IsContended}
 use Rattle.session_state.specs.Sessions.{is_expired_at}
-use Rattle.session_state.specs.declared.timeouts.Timeouts.{Timeouts}
 use Rattle.session_state.specs.declared.verdict.Verdict.{Verdict}
 use Rattle.flow_filter.specs.OneThread.{same_family, sizes_in}
 use Rattle.flow_dealing.specs.AgeingTraces.{Aged, AreInOrder, Deed, IsRemovalOf, aged_in, calls_by, items_in}
 use Rattle.flow_dealing.specs.AgeingTraces as deed
-use Rattle.flow_dealing.specs.Traces.{IsItem, IsItemOf, Item, numbers_from}
+use Rattle.flow_dealing.specs.Traces.{IsItem, IsItemOf, numbers_from}
 use Rattle.flow_dealing.specs.Views.{Views}
 use Rattle.flow_dealing.specs.Wanted.{HaveWanted}
 use Rattle.flow_dealing.specs.WorkerRecords.{removal_delay}

@@ -1,5 +1,5 @@
 -- One packet more of a worker.
-use Rattle.std.proofs.Common.{◌≡◌, ◌≢◌, ◌∙◌, ◌+◌, ◌<◌, ℕ, zero, suc, Bool, true, false, cond, All, List, [], ◌∷◌, ◌++◌, length, drop, map, Option, Some, None, ap, refl, sym, subst, arith, append_assoc, append-nil, add-one, eq-eqb}
+use Rattle.std.proofs.Common.{◌≡◌, ◌≢◌, ◌∙◌, ◌+◌, ◌<◌, ℕ, zero, suc, Bool, true, false, cond, All, List, [], ◌∷◌, ◌++◌, length, drop, map, Option, Some, ap, refl, sym, subst, arith, append_assoc, append-nil, add-one, eq-eqb}
 use Rattle.std.specs.Prelude.{if◌then◌else◌, ◌==◌, slice_get}
 use Rattle.std.proofs.lemmas.Bool.{ne_eqb}
 use Rattle.std.proofs.lemmas.List.Elements.{All-nil, All-push}
@@ -12,7 +12,6 @@ use Rattle.acl_policy.specs.Policies.{PolicyFacts, SectionFacts, section_of}
 use Rattle.bihash_words.specs.Maps.{Event}
 use Rattle.bihash_words.specs.Sizes.{Sizes}
 use Rattle.bihash_steps.specs.BucketSteps.{push_call}
-use Rattle.bihash_rule.specs.Histories.{event_of}
 use Rattle.bihash_rule.specs.declared.view.Call.{Call}
 use Rattle.bihash_rule.specs.declared.view.Known.{Known}
 use Rattle.bihash_rule.specs.declared.view.View.{View}
@@ -21,7 +20,6 @@ use Rattle.bihash_table.specs.Promise.{IsAnswered}
 use Rattle.bihash_table.specs.Tries.{TookByTries}
 use Rattle.session_state.specs.declared.flow.FlowKey.{FlowKey}
 use Rattle.session_state.specs.declared.flow.FlowKey.TheVariants.{Four, Six}
-use Rattle.session_state.specs.declared.timeouts.Timeouts.{Timeouts}
 use Rattle.session_state.specs.declared.verdict.Verdict.{Verdict}
 use Rattle.flow_filter.specs.Readings.{IsReading, IsReadingOf, IsSeen, Reading}
 use Rattle.flow_filter.specs.Updates.{Update, update_of, words_of}
