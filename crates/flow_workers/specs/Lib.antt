@@ -1,5 +1,6 @@
 pub mod Callers
 pub mod Calls
+pub mod Closings
 pub mod Judging
 pub mod OutOfPages
 pub mod Progress

@@ -1,5 +1,5 @@
 //! The session tables of both families, and their callers.
-ghost use Rattle.std.specs.Prelude.{◌≡◌, true, IfOk};
+ghost use Rattle.std.specs.Prelude.{◌≡◌, true, false, IfOk};
 ghost use Rattle.bihash_words.specs.Sizes.{IsSound, sizes_of};
 ghost use Rattle.flow_filter.specs.OneThread.{layout_of};
 ghost use Rattle.flow_workers.specs.Callers.{AreIdle, first_views, views_of};
@@ -34,6 +34,7 @@ pub fn create_tables<A: Shape, B: Shape>(
     ensures idle { IfOk result (λ r. AreIdle ⟦<A as Shape>⟧ ⟦<B as Shape>⟧ r.0 r.1) }
     ensures first { IfOk result (λ r. views_of ⟦<A as Shape>⟧ ⟦<B as Shape>⟧ r.1
         ≡ first_views (layout_of ⟦<A as Shape>⟧ ⟦<B as Shape>⟧)) }
+    ensures whole_blocks { IfOk result (λ r. (r.0.four.cuts_blocks ≡ false) × (r.0.six.cuts_blocks ≡ false)) }
 {
     let (four, first_four) = create(alloc)?;
     let (six, first_six) = create(alloc)?;

@@ -1,5 +1,5 @@
 //! One family's table that is opened again.
-ghost use Rattle.std.specs.Prelude.{IfOk, IfErr};
+ghost use Rattle.std.specs.Prelude.{◌≡◌, IfOk, IfErr};
 ghost use Rattle.flow_workers.specs.Callers.{AreIdle};
 ghost use Rattle.flow_workers.specs.Renewals.{AreNotRenewed, AreRenewed};
 
@@ -21,8 +21,10 @@ pub fn renew_tables<A: Shape, B: Shape>(
     requires { AreIdle ⟦<A as Shape>⟧ ⟦<B as Shape>⟧ tables callers }
     ensures idle { IfOk result (λ r. AreIdle ⟦<A as Shape>⟧ ⟦<B as Shape>⟧ r.0 r.1) }
     ensures renewed { IfOk result (λ r. AreRenewed ⟦<A as Shape>⟧ ⟦<B as Shape>⟧ family tables r.0 callers r.1) }
+    ensures cuts { IfOk result (λ r. (r.0.four.cuts_blocks ≡ tables.four.cuts_blocks) × (r.0.six.cuts_blocks ≡ tables.six.cuts_blocks)) }
     ensures kept { IfErr result (λ r. AreIdle ⟦<A as Shape>⟧ ⟦<B as Shape>⟧ r.1 r.2) }
     ensures refused { IfErr result (λ r. AreNotRenewed ⟦<A as Shape>⟧ ⟦<B as Shape>⟧ family tables r.1 callers r.2 r.0) }
+    ensures back { IfErr result (λ r. (r.1.four.cuts_blocks ≡ tables.four.cuts_blocks) × (r.1.six.cuts_blocks ≡ tables.six.cuts_blocks)) }
 {
     let Tables { four, six } = tables;
     let Callers {

@@ -15,7 +15,7 @@ use Rattle.racl_io.specs.declared.fault.Fault.{Fault}
 use Rattle.racl_io.specs.declared.totals_and_truncation.Totals.{Totals}
 use Rattle.racl_io.specs.Reports.{report_of, totals_of}
 use Rattle.capture_stream.specs.Lives.{HasToldAll, told_alone}
-use Rattle.racl_cli.specs.Crews.{AreResting, AreSaid, IsRestingAlone, Orders, orders_for, orders_of, size_of}
+use Rattle.racl_cli.specs.Crews.{AreResting, AreSaid, IsRestingAlone, Orders, cuts_four, orders_for, orders_of, size_of}
 use Rattle.racl_cli.specs.LiveRuns.{ByOneWorker, HasRunLive, IsEarlyFault}
 use Rattle.racl_cli.specs.inner.Heads.{HasReadHeader, IsHeadless}
 use Rattle.racl_cli.specs.declared.sized_tables_and_workers.SizedTables.{SizedTables}
@@ -28,13 +28,13 @@ pub begun_alone : {T : Type 0} (workers : SizedWorkers T) → (orders_of workers
 begun_alone (Standard workers) one rest = alone_begun _ _ workers one rest
 begun_alone (Large workers) one rest = alone_begun _ _ workers one rest
 
--- what one worker said
+-- what one worker said over tables that cut blocks
 pub by_one_worker : (options : Options) (ready : InterfaceFilters) (tables : SizedTables) (orders : Orders) (packets : List PacketFacts)
-    (verdicts : List Verdict) → orders ≡ orders_for tables ready 1 true → size_of tables ≡ options.tables
+    (verdicts : List Verdict) → orders ≡ orders_for tables ready 1 (cuts_four tables) → cuts_four tables ≡ true → size_of tables ≡ options.tables
     → ready.times ≡ options.times → 1 ≤ options.workers → AreSaid orders packets verdicts → ByOneWorker options (policy_facts ready.policy.now) packets verdicts
-by_one_worker options ready tables orders packets verdicts given sized same some said =
+by_one_worker options ready tables orders packets verdicts given cut sized same some said =
     let policy = policy_facts ready.policy.now in
-    let judged = judged_as packets verdicts said.0 orders tables options.tables ready 1 true given sized said.1 in
+    let judged = judged_as packets verdicts said.0 orders tables options.tables ready 1 true (given ∙ ap (orders_for tables ready 1) cut) sized said.1 in
     let by = given_by_workers options ready.times true policy packets verdicts said.0 1 same (omega arith) some judged in
     record { by_workers = by.0; one = by.2; by_one_thread = by_one options true policy packets verdicts by.0 }
 

@@ -33,6 +33,22 @@ abbrev pub size_of : SizedTables → TableSize
 size_of (laid.Standard own) = asked.Standard
 size_of (laid.Large own) = asked.Large
 
+-- whether the table of IPv4 cuts larger returned blocks
+abbrev pub cuts_four : SizedTables → Bool
+cuts_four (laid.Standard own) = own.four.cuts_blocks
+cuts_four (laid.Large own) = own.four.cuts_blocks
+
+-- the same of that of IPv6
+abbrev pub cuts_six : SizedTables → Bool
+cuts_six (laid.Standard own) = own.six.cuts_blocks
+cuts_six (laid.Large own) = own.six.cuts_blocks
+
+-- the tables have this size, and cut larger returned blocks, or don't, as this says
+pub record AreAsAsked (asked_size : TableSize) (cuts : Bool) (tables : SizedTables) : Type 0 where
+  pub size : size_of tables ≡ asked_size
+  pub four : cuts_four tables ≡ cuts
+  pub six : cuts_six tables ≡ cuts
+
 -- callers of these tables, which made no call
 pub record AreFirst {A B K L : Type 0} {ga : Ghosts A K} {gb : Ghosts B L} (tables : Tables A B K L)
     (callers : Callers A B K L ga gb) : Type 0 where

@@ -208,7 +208,7 @@ fn judge_digit_content<T: Threads + Wait + Sync>(
         return Err(Fault::Memory);
     };
     match judge_all(beside, Crew { alloc, workers }, form, content) {
-        Ok(ended) => with_stored(rt, alloc, options, tables, ended),
+        Ok(ended) => with_stored(alloc, options, tables, ended),
         Err(fault) => Err(fault),
     }
 }
@@ -238,7 +238,6 @@ pub fn judge_digit_captures<T: Threads + Wait + Sync>(
     let manner = Manner {
         filter: &ready,
         workers,
-        ages: options.ages,
     };
     let plan = Plan { beside, manner };
     judge_digit_content(rt, alloc, options, plan, form, content)

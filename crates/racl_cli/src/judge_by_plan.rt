@@ -79,7 +79,7 @@ fn judge_planned<R: Source + Send, T: Threads + Wait + Sync>(
     let size = window_size(beside.is_some());
     match judge_stream(beside, alloc, reader, crew, opening, size) {
         Ok(streamed) => match end_capture_by_plan(streamed) {
-            Ok(ended) => with_stored(rt, alloc, options, tables, ended),
+            Ok(ended) => with_stored(alloc, options, tables, ended),
             Err(fault) => Err(fault),
         },
         Err(fault) => Err(fault),
@@ -114,7 +114,6 @@ pub fn judge_records<R: Source + Send, T: Threads + Wait + Sync>(
         manner: Manner {
             filter: &ready,
             workers,
-            ages: options.ages,
         },
     };
     judge_planned(rt, alloc, options, reader, plan, opening)

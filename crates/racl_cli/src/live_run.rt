@@ -27,8 +27,8 @@ pub struct LiveHead<'t, 'f> {
     pub order: Order,
 }
 
-// In a live run one worker tells the packets of the capture behind its header while they come. It removes sessions that have
-// ended, as the run may never end.
+// In a live run one worker tells the packets of the capture behind its header while they come. Its tables cut blocks, and it
+// removes sessions that have ended, as the run may never end.
 fn tell_capture<R: Source, W: Sink, T: Wait>(
     rt: &T,
     alloc: Global,
@@ -50,7 +50,6 @@ fn tell_capture<R: Source, W: Sink, T: Wait>(
     let manner = Manner {
         filter: head.filter,
         workers: 1,
-        ages: true,
     };
     let Ok(workers) = SizedWorkers::new(rt, alloc, manner, &tables, callers) else {
         return Err(Fault::Memory);

@@ -3,8 +3,8 @@ ghost use Rattle.std.specs.Prelude.{[], ◌≡◌, ◌≤◌, IfOk};
 ghost use Rattle.bihash_words.specs.Sizes.{IsSound, sizes_of};
 ghost use Rattle.packet_dealing.specs.declared.dealing.Dealing.TheVariants.{Bucket};
 ghost use Rattle.racl_views.specs.Stored.{stored_facts};
-ghost use Rattle.racl_cli.specs.Crews.{AreAfter, AreFirst, AreFirstOf, AreIdleOf, HasFollowedAlone, HaveEndedOn, HaveJudgedSome, MayFollowAlone};
-ghost use Rattle.racl_cli.specs.Crews.{orders_for, size_of, views_with};
+ghost use Rattle.racl_cli.specs.Crews.{AreAfter, AreAsAsked, AreFirst, AreFirstOf, AreIdleOf, HasFollowedAlone, HaveEndedOn, HaveJudgedSome, MayFollowAlone};
+ghost use Rattle.racl_cli.specs.Crews.{cuts_four, orders_for, size_of, views_with};
 ghost use Rattle.racl_cli.specs.Runs.{AreStoredOf, layout_for};
 
 use crate::open_gate::OpenGate;
@@ -30,20 +30,18 @@ pub const MANY_PACKETS: usize = 49_152;
 pub struct Manner<'t, 'f> {
     pub filter: &'t InterfaceFilters<'f>,
     pub workers: usize,
-    /// Whether they remove sessions that have ended.
-    pub ages: bool,
 }
 
-// What workers share over tables of one of the sizes, who judge in this manner. Packets are dealt by bucket.
+// What workers share over tables of one of the sizes, who judge in this manner. Packets are dealt by bucket. Where the tables
+// cut blocks the workers remove sessions that have ended, and else they don't.
 fn setup_of<'t, 'f, A: Shape, B: Shape, T: Wait>(
     rt: &'t T,
     manner: Manner<'t, 'f>,
     tables: &'t Tables<A, B>,
 ) -> Setup<'t, 'f, A, B, T, OpenGate>
-    ensures filter { result.filter.now ≡ manner.entry.filter.now }
-    ensures tables { result.tables.now ≡ tables.now }
+    ensures manner { (result.filter.now ≡ manner.entry.filter.now) × (result.workers ≡ manner.entry.workers) }
+    ensures tables { (result.tables.now ≡ tables.now) × (result.ages ≡ tables.now.four.cuts_blocks) }
     ensures dealing { result.dealing ≡ Bucket }
-    ensures manner { (result.workers ≡ manner.entry.workers) × (result.ages ≡ manner.entry.ages) }
 {
     Setup {
         rt,
@@ -52,7 +50,7 @@ fn setup_of<'t, 'f, A: Shape, B: Shape, T: Wait>(
         tables,
         dealing: Dealing::Bucket,
         workers: manner.workers,
-        ages: manner.ages,
+        ages: tables.four.cuts_blocks,
         many: MANY_PACKETS,
     }
 }
@@ -86,7 +84,8 @@ fn created<A: Shape, B: Shape>(
 ) -> Result<(Tables<A, B>, Callers<A, B>), RunFault>
     requires four { IsSound (sizes_of A.Shape) }
     requires six { IsSound (sizes_of B.Shape) }
-    ensures { IfOk result (λ r. AreFirst r.0 r.1) }
+    ensures first { IfOk result (λ r. AreFirst r.0 r.1) }
+    ensures cuts { IfOk result (λ r. (r.0.four.cuts_blocks ≡ cuts) × (r.0.six.cuts_blocks ≡ cuts)) }
 {
     if cuts {
         return create_cutting_tables(alloc);
@@ -94,15 +93,15 @@ fn created<A: Shape, B: Shape>(
     create_tables(alloc)
 }
 
-/// New tables of this size, which perhaps cut blocks, and callers of both families' that made no call. An error says that
-/// memory was refused.
+/// New tables of this size, which cut blocks where that is asked, and callers of both families' that made no call. An error says
+/// that memory was refused.
 pub fn create_sized(
     alloc: Global,
     size: TableSize,
     cuts: bool,
 ) -> Result<(SizedTables, SizedCallers), AllocError>
     ensures first { IfOk result (λ r. AreFirstOf r.0 r.1) }
-    ensures size { IfOk result (λ r. size_of r.0 ≡ size) }
+    ensures asked { IfOk result (λ r. AreAsAsked size cuts r.0) }
 {
     match size {
         TableSize::Standard => {
@@ -128,10 +127,9 @@ pub fn create_sized(
     }
 }
 
-/// The pairs of the tables, which end. Callers that aren't joined into these are waited for. An error says that memory was
-/// refused.
-pub fn close_sized<T: Wait>(
-    rt: &T,
+/// The pairs of the tables, which end. Workers that have ended leave callers into which all others are joined, so that an
+/// error says that memory was refused.
+pub fn close_sized(
     alloc: Global,
     tables: SizedTables,
     callers: SizedCallers,
@@ -144,7 +142,7 @@ pub fn close_sized<T: Wait>(
             let SizedCallers::Standard(callers) = callers else {
                 unreachable!()
             };
-            match close_tables(rt, alloc, tables, callers) {
+            match close_tables(alloc, tables, callers) {
                 Ok((four, six)) => Ok(StoredPairs { four, six }),
                 Err(_) => Err(AllocError),
             }
@@ -153,7 +151,7 @@ pub fn close_sized<T: Wait>(
             let SizedCallers::Large(callers) = callers else {
                 unreachable!()
             };
-            match close_tables(rt, alloc, tables, callers) {
+            match close_tables(alloc, tables, callers) {
                 Ok((four, six)) => Ok(StoredPairs { four, six }),
                 Err(_) => Err(AllocError),
             }
@@ -162,8 +160,8 @@ pub fn close_sized<T: Wait>(
 }
 
 impl<'t, 'f, T: Wait> SizedWorkers<'t, 'f, T> {
-    /// Workers that judged no packet, and judge in this manner. The callers are of the tables, and made no call. An error
-    /// says that memory was refused.
+    /// Workers that judged no packet, and judge in this manner. They remove sessions that have ended where their tables cut
+    /// blocks. The callers are of the tables, and made no call. An error says that memory was refused.
     pub fn new(
         rt: &'t T,
         alloc: Global,
@@ -173,7 +171,7 @@ impl<'t, 'f, T: Wait> SizedWorkers<'t, 'f, T> {
     ) -> Result<SizedWorkers<'t, 'f, T>, AllocError>
         requires first { AreFirstOf tables.now callers }
         requires count { (1 ≤ manner.workers) × (manner.workers ≤ 16) }
-        ensures { IfOk result (AreAfter (orders_for tables.now manner.entry.filter.now manner.entry.workers manner.entry.ages) []) }
+        ensures { IfOk result (AreAfter (orders_for tables.now manner.entry.filter.now manner.entry.workers (cuts_four tables.now)) []) }
     {
         match callers {
             SizedCallers::Standard(callers) => {

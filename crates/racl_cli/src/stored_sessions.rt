@@ -14,7 +14,6 @@ use racl_options::Options;
 use racl_report::Judged;
 use racl_views::StoredPairs;
 use std::alloc::{AllocError, Global};
-use std::sync::Wait;
 
 /// Whether what is told needs the sessions that are stored in the tables at the end.
 pub fn keeps_stored(options: &Options) -> bool
@@ -24,8 +23,7 @@ pub fn keeps_stored(options: &Options) -> bool
 }
 
 // The sessions that are stored in the tables, which end, where these are told; or none.
-fn stored_of<T: Wait>(
-    rt: &T,
+fn stored_of(
     alloc: Global,
     asked: bool,
     tables: SizedTables,
@@ -35,7 +33,7 @@ fn stored_of<T: Wait>(
     ensures { IfOk result (λ s. asked ≡ true → AreStoredOf (layout_for (size_of tables)) (views_with callers) (stored_facts s)) }
 {
     if asked {
-        return close_sized(rt, alloc, tables, callers);
+        return close_sized(alloc, tables, callers);
     }
     Ok(StoredPairs {
         four: Vec::new(alloc),
@@ -44,8 +42,7 @@ fn stored_of<T: Wait>(
 }
 
 /// What was judged by workers who ended, with the sessions that are stored in their tables, where these are told.
-pub fn with_stored<T: Wait>(
-    rt: &T,
+pub fn with_stored(
     alloc: Global,
     options: &Options,
     tables: SizedTables,
@@ -60,7 +57,7 @@ pub fn with_stored<T: Wait>(
         captures,
         callers,
     } = ended;
-    let Ok(stored) = stored_of(rt, alloc, keeps_stored(options), tables, callers) else {
+    let Ok(stored) = stored_of(alloc, keeps_stored(options), tables, callers) else {
         return Err(Fault::Memory);
     };
     Ok(Judged {

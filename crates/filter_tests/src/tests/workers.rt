@@ -200,7 +200,7 @@ fn verdicts_on_parts<R: Threads + Wait + Sync, G: Gate + Sync>(
     let Ok(()) = verdicts.extend_from_slice(&last) else {
         return Err(RunFault::Memory);
     };
-    let Ok((four, six)) = close_tables(rt, alloc, tables, callers) else {
+    let Ok((four, six)) = close_tables(alloc, tables, callers) else {
         return Err(RunFault::Memory);
     };
     Ok((verdicts, four, six.len()))

@@ -12,13 +12,11 @@ use Rattle.racl_cli.specs.Reads.{IsReached, MayJudge}
 use Rattle.racl_report.specs.ReadInputs.{HasPackets}
 use Rattle.racl_report.specs.RunReports.{JudgedFacts}
 
--- one worker or more, as many as the words ask for at most; sessions live as long as they ask for, and are removed where they ask
--- for that
+-- one worker or more, as many as the words ask for at most; sessions live as long as they ask for
 pub record IsPlanFor {T : Type 0} (options : Options) (plan : Plan T) : Type 0 where
   pub times : plan.manner.filter.now.times ≡ options.times
   pub some : 1 ≤ plan.manner.workers
   pub few : plan.manner.workers ≤ options.workers
-  pub ages : plan.manner.ages ≡ options.ages
 
 -- by it the records of this opening may be judged
 abbrev pub MayJudgeBy : {T : Type 0} → Options → Plan T → Opening → Option (List ℕ) → Type 0

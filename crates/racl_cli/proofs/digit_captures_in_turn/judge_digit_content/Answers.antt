@@ -22,7 +22,7 @@ returns-in-Ok-judge_all-clause-ok g c =
       packets = has.packets;
       taken = subst (λ (cs : List Captured). HasPackets c.args.form c.args.content.now has.packets cs) same has.taken;
       reached = subst (λ (cs : List Captured). IsReached options (policy_facts ready.policy.now) has.packets cs judged) same
-          (reached_by options ready _ plan.manner.workers plan.manner.ages _ has.packets ended judged c.requires.by.times c.requires.by.some c.requires.by.few c.requires.by.ages
-          c.in-Ok-new.ensures.given c.in-Ok.ensures.size has.said stored);
+          (reached_by options ready _ plan.manner.workers _ _ has.packets ended judged c.requires.by.times c.requires.by.some c.requires.by.few c.in-Ok.ensures.asked.four
+          c.in-Ok-new.ensures.given c.in-Ok.ensures.asked.size has.said stored);
     })
     c.with_stored.ensures.ok

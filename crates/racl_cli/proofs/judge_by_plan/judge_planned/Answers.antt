@@ -32,7 +32,7 @@ with_stored-requires g c =
     let s = c.in-Ok-judge_stream.ensures.streamed in
     let crew : Crew _ = record { alloc = c.args.alloc; workers = c.in-Ok-new.workers } in
     let stand = s.judged crew [] (search rules, record { given = refl; rest = c.in-Ok-new.ensures.rest }) in
-    idle_at_end _ c.args.plan.manner.filter.now c.args.plan.manner.workers c.args.plan.manner.ages _ _ c.in-Ok-end_capture_by_plan.ended
+    idle_at_end _ c.args.plan.manner.filter.now c.args.plan.manner.workers _ _ _ c.in-Ok-end_capture_by_plan.ended
     c.in-Ok-new.ensures.given
     (said_at_end _ _ _ _ c.in-Ok-end_capture_by_plan.ended stand.1 c.in-Ok-end_capture_by_plan.ensures.ok).0
 
@@ -44,8 +44,8 @@ returns-in-Ok-end_capture_by_plan-clause-ok g c =
     let at =
     subst (λ n. AreAfter (orders_of c.in-Ok-new.workers) (packets_at n s.packets) c.in-Ok-judge_stream.streamed.judges.workers) c.requires.may.1.unnamed stand.1 in
     IfOk-weaker c.with_stored.result _ _
-    (λ judged has. judged_by_orders c.args.options.now c.args.plan.manner.filter.now _ c.args.plan.manner.workers c.args.plan.manner.ages _ c.args.opening _ _
-    s.read s.packets s.rest _ _ c.in-Ok-end_capture_by_plan.ended judged c.requires.may.0.times c.requires.may.0.some c.requires.may.0.few c.requires.may.0.ages
-    c.in-Ok-new.ensures.given c.in-Ok.ensures.size s.whole s.records s.end at
+    (λ judged has. judged_by_orders c.args.options.now c.args.plan.manner.filter.now _ c.args.plan.manner.workers _ _ c.args.opening _ _
+    s.read s.packets s.rest _ _ c.in-Ok-end_capture_by_plan.ended judged c.requires.may.0.times c.requires.may.0.some c.requires.may.0.few c.in-Ok.ensures.asked.four
+    c.in-Ok-new.ensures.given c.in-Ok.ensures.asked.size s.whole s.records s.end at
     c.in-Ok-end_capture_by_plan.ensures.ok has)
     c.with_stored.ensures.ok

@@ -31,6 +31,6 @@ returns-clause-told g c =
     let tells = by_one_worker options ready _ (orders_of workers) in
     MatchResult-weaker c.tell_live.result c.tell_live.ensures.told
     (λ totals told. all_as _ (ByOneWorker options) _ (policy_facts ready.policy.now)
-    (λ packets verdicts judged. tells packets verdicts c.in-Ok-new.ensures.given c.in-Ok.ensures.size c.requires.times options.few.0 judged) _ _ _ _ _ totals told)
+    (λ packets verdicts judged. tells packets verdicts c.in-Ok-new.ensures.given c.in-Ok.ensures.asked.four c.in-Ok.ensures.asked.size c.requires.times options.few.0 judged) _ _ _ _ _ totals told)
     (λ found told. fault_as _ (ByOneWorker options) _ (policy_facts ready.policy.now)
-    (λ packets verdicts judged. tells packets verdicts c.in-Ok-new.ensures.given c.in-Ok.ensures.size c.requires.times options.few.0 judged) _ _ _ _ _ found told)
+    (λ packets verdicts judged. tells packets verdicts c.in-Ok-new.ensures.given c.in-Ok.ensures.asked.four c.in-Ok.ensures.asked.size c.requires.times options.few.0 judged) _ _ _ _ _ found told)
