@@ -29,7 +29,7 @@
      queues of tc, and tcpdump on the device doesn't see them (PACKET_QDISC_BYPASS): where a device is busy they are lost.
    - Frames that are longer than the other device's packets may be are lost: the devices are to have the same MTU.
 
-   cc -O2 -Iinclude -o bridge examples/c/bridge.c crates/racl_c/out/libracl_c.a KIT/c/liblibc_c.a -lpthread */
+   make library && cc -O2 -Iinclude -o bridge examples/c/bridge.c out/library/libracl.a -lpthread */
 #define _GNU_SOURCE
 #include "racl.h"
 #include <arpa/inet.h>
