@@ -1,18 +1,25 @@
 # make: proves and builds the program. `make help` lists the rest.
 
 PREFIX = /usr/local
-BIN = $(DESTDIR)$(PREFIX)/bin
-SHARE = $(DESTDIR)$(PREFIX)/share
+TO = $(DESTDIR)$(PREFIX)
+SHARE = $(TO)/share
 DOC = $(SHARE)/doc/racl
 PAGES = out/install
+LIBRARIES = out/library
 
-.PHONY: build check prove bench install uninstall help
+.PHONY: build library check check-bridge prove bench install install-program install-libraries uninstall help
 
 build:
 	@checks/build
 
+library:
+	@checks/library
+
 check:
 	@checks/quick
+
+check-bridge:
+	@checks/bridge
 
 prove:
 	@.ci/run
@@ -20,11 +27,19 @@ prove:
 bench: build
 	@bench/measure_filter ./racl quick
 
+# What is built is installed, and what isn't is told.
 install:
-	@top=. && . checks/built.sh && is_built || { echo "make install: no program is built of these sources; make proves and builds it" >&2; exit 1; }
+	@top=. && . checks/built.sh && some= && \
+	if is_built; then $(MAKE) install-program && some=1; \
+	else echo "make install: no program is built of these sources; make proves and builds it" >&2; fi && \
+	if are_libraries_built; then $(MAKE) install-libraries && some=1; \
+	else echo "make install: no libraries are built of these sources; make library proves and builds them" >&2; fi && \
+	[ -n "$$some" ]
+
+install-program:
 	mkdir -p $(PAGES)
 	install/pages ./racl $(PAGES)
-	install -D -m 755 crates/racl/out/racl $(BIN)/racl
+	install -D -m 755 crates/racl/out/racl $(TO)/bin/racl
 	install -D -m 644 $(PAGES)/racl.1 $(SHARE)/man/man1/racl.1
 	install -D -m 644 $(PAGES)/racl.bash $(SHARE)/bash-completion/completions/racl
 	install -D -m 644 $(PAGES)/_racl $(SHARE)/zsh/site-functions/_racl
@@ -32,15 +47,27 @@ install:
 	install -m 644 docs/POLICIES.md docs/FORMATS.md $(DOC)
 	install -m 644 examples/*.* $(DOC)/examples
 
+install-libraries:
+	install -d $(TO)/include $(TO)/lib/pkgconfig
+	install -m 644 include/racl.h include/bihash.h $(TO)/include
+	install -m 644 $(LIBRARIES)/libracl.a $(LIBRARIES)/libbihash.a $(TO)/lib
+	cp -P $(LIBRARIES)/libracl.so* $(LIBRARIES)/libbihash.so* $(TO)/lib
+	for it in racl bihash; do sed 's|^prefix=.*|prefix=$(PREFIX)|' $(LIBRARIES)/$$it.pc >$(TO)/lib/pkgconfig/$$it.pc; done
+	[ -n "$(DESTDIR)" ] || ldconfig 2>/dev/null || true
+
 uninstall:
-	rm -f $(BIN)/racl $(SHARE)/man/man1/racl.1 $(SHARE)/bash-completion/completions/racl $(SHARE)/zsh/site-functions/_racl
+	rm -f $(TO)/bin/racl $(SHARE)/man/man1/racl.1 $(SHARE)/bash-completion/completions/racl $(SHARE)/zsh/site-functions/_racl
+	rm -f $(TO)/include/racl.h $(TO)/include/bihash.h $(TO)/lib/libracl.* $(TO)/lib/libbihash.*
+	rm -f $(TO)/lib/pkgconfig/racl.pc $(TO)/lib/pkgconfig/bihash.pc
 	rm -rf $(DOC)
 
 help:
-	@echo "make            proves and builds the program"
-	@echo "make check      runs the tests, which need no proof"
-	@echo "make prove      the whole gate: proofs, edits that must be refused, tests, checks"
-	@echo "make bench      times the program beside a filter in plain Rust"
-	@echo "make install    puts the program, its manual page and completions below PREFIX (/usr/local)"
-	@echo "make uninstall  removes them"
-	@echo "make help       lists these"
+	@echo "make               proves and builds the program"
+	@echo "make library       proves and builds the libraries for C"
+	@echo "make check         runs the tests, which need no proof"
+	@echo "make check-bridge  runs a bridge over the library between network namespaces; it needs root"
+	@echo "make prove         the whole gate: proofs, edits that must be refused, tests, checks"
+	@echo "make bench         times the program beside a filter in plain Rust"
+	@echo "make install       puts what is built of both below PREFIX (/usr/local)"
+	@echo "make uninstall     removes it"
+	@echo "make help          lists these"

@@ -51,3 +51,15 @@ is_built() {
     (printf '%s\n' "$now" >"$unchanged.$$" && mv -f "$unchanged.$$" "$unchanged") 2>/dev/null
     return 0
 }
+
+# The libraries for C as they are installed, and what they are made of: sources, headers and toolchain.
+libraries=$top/out/library
+
+library_sources() {
+    printf '%s\n' "$(sources_digest)" "$(cat "$top/include/racl.h" "$top/include/bihash.h" "$top/install/library" | sha256sum)" "$(toolchain)"
+}
+
+# Whether the libraries are there and were made of these.
+are_libraries_built() {
+    [ -f "$libraries/sources" ] && [ "$(library_sources)" = "$(cat "$libraries/sources")" ]
+}

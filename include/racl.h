@@ -30,6 +30,9 @@
 #include <stddef.h>
 #include <stdint.h>
 
+/* The version, which is that of the program. */
+#define RACL_VERSION "0.1.0"
+
 #ifdef __cplusplus
 extern "C" {
 #endif

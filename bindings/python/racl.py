@@ -3,11 +3,8 @@
     judge = Judge("out permit+reflect ipv4 any any udp dport 53\\n")
     assert judge.judge(frame, time=10).passes
 
-It calls the library for C (include/racl.h) as a shared object, libracl.so beside this file or the file that RACL_LIBRARY
-names, which is made of the archive, KIT being the folder of the toolchain:
-
-    cc -shared -o bindings/python/libracl.so -Wl,--whole-archive crates/racl_c/out/libracl_c.a \\
-       -Wl,--no-whole-archive KIT/c/liblibc_c.a -lpthread
+It calls the library for C (include/racl.h) as a shared object: the file that RACL_LIBRARY names, or libracl.so as `make library`
+and `make install` leave it, in this checkout or where the system looks for libraries.
 """
 from __future__ import annotations
 
@@ -87,8 +84,9 @@ _TEXT = [ctypes.c_char_p, ctypes.c_size_t]
 
 
 def _library() -> ctypes.CDLL:
-    beside = os.path.join(os.path.dirname(os.path.abspath(__file__)), "libracl.so")
-    library = ctypes.CDLL(os.environ.get("RACL_LIBRARY", beside))
+    top = os.path.dirname(os.path.dirname(os.path.dirname(os.path.abspath(__file__))))
+    built = os.path.join(top, "out", "library", "libracl.so")
+    library = ctypes.CDLL(os.environ.get("RACL_LIBRARY") or (built if os.path.exists(built) else "libracl.so"))
     handle = ctypes.POINTER(_Handle)
     calls = {
         "racl_new": (_Made, [handle, *_TEXT, ctypes.POINTER(_Options)]),
