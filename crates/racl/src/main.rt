@@ -109,7 +109,7 @@ fn run_main_program<T: Threads + Wait + Sync, R: Source + Send>(
 }
 
 // Runs the main program on the capture of a file while it comes, tells how that ended, and answers the exit status.
-fn status_of_live<T: Wait>(
+fn status_of_live<T: Threads + Wait + Sync>(
     rt: &HostRuntime,
     threads: &T,
     alloc: Global,

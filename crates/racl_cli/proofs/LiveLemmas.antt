@@ -9,24 +9,26 @@ use Rattle.packet_view.proofs.FrontLemmas.{behind_header_appended, header_append
 use Rattle.acl_policy.specs.Policies.{IsPolicyText, PolicyFacts, policy_facts}
 use Rattle.flow_filter.specs.declared.interface_filters.InterfaceFilters.{InterfaceFilters}
 use Rattle.session_state.specs.declared.verdict.Verdict.{Verdict}
-use Rattle.flow_workers.proofs.AloneLemmas.{alone_begun}
 use Rattle.racl_options.specs.declared.settings.Options.{Options}
 use Rattle.racl_io.specs.declared.fault.Fault.{Fault}
 use Rattle.racl_io.specs.declared.totals_and_truncation.Totals.{Totals}
 use Rattle.racl_io.specs.Reports.{report_of, totals_of}
 use Rattle.capture_stream.specs.Lives.{HasToldAll, told_alone}
-use Rattle.racl_cli.specs.Crews.{AreResting, AreSaid, IsRestingAlone, Orders, cuts_four, orders_for, orders_of, size_of}
+use Rattle.racl_cli.specs.Crews.{AreRestingWith, AreSaid, IsAloneAfter, Orders, cuts_four, orders_for, orders_of, size_of}
 use Rattle.racl_cli.specs.LiveRuns.{ByOneWorker, HasRunLive, IsEarlyFault}
 use Rattle.racl_cli.specs.inner.Heads.{HasReadHeader, IsHeadless}
 use Rattle.racl_cli.specs.declared.sized_tables_and_workers.SizedTables.{SizedTables}
 use Rattle.racl_cli.specs.declared.sized_tables_and_workers.SizedWorkers.{SizedWorkers}
-use Rattle.racl_cli.specs.declared.sized_tables_and_workers.SizedWorkers.TheVariants.{Standard, Large}
 use Rattle.racl_cli.proofs.OutcomeLemmas.{by_one, given_by_workers, judged_as}
 
--- a worker that begins alone
-pub begun_alone : {T : Type 0} (workers : SizedWorkers T) → (orders_of workers).deal.workers ≡ 1 → AreResting [] workers → IsRestingAlone [] [] workers
-begun_alone (Standard workers) one rest = alone_begun _ _ workers one rest
-begun_alone (Large workers) one rest = alone_begun _ _ workers one rest
+-- what the only worker says, whose orders are these, is right
+pub alone_said : {T : Type 0} (orders : Orders) (packets more : List PacketFacts) (said verdicts : List Verdict) (old : SizedWorkers T)
+    → IsAloneAfter orders packets said old
+    → ((orders_of old).deal.workers ≡ 1 → AreRestingWith packets said old → AreSaid (orders_of old) (packets ++ more) (said ++ verdicts))
+    → AreSaid orders (packets ++ more) (said ++ verdicts)
+alone_said orders packets more said verdicts old alone judged =
+    subst (λ o. AreSaid o (packets ++ more) (said ++ verdicts)) alone.given
+    (judged (ap (λ (o : Orders). o.deal.workers) alone.given ∙ alone.one) alone.rest)
 
 -- what one worker said over tables that cut blocks
 pub by_one_worker : (options : Options) (ready : InterfaceFilters) (tables : SizedTables) (orders : Orders) (packets : List PacketFacts)

@@ -1,8 +1,6 @@
 -- Tables of the size that the words ask for, and workers over them after the packets that they judged.
-use Rattle.std.specs.Prelude.{◌≡◌, ◌+◌, ◌++◌, ◌<◌, ◌^◌, ℕ, Bool, List, length}
+use Rattle.std.specs.Prelude.{◌≡◌, ℕ, Bool, List, []}
 use Rattle.packet_view.specs.Captures.{PacketFacts}
-use Rattle.packet_view.specs.CheckedCaptures.{remaining}
-use Rattle.packet_view.specs.declared.packets.Packets.{Packets}
 use Rattle.acl_policy.specs.Policies.{PolicyFacts, policy_facts}
 use Rattle.bihash_words.specs.declared.shape.Shape.{Ghosts}
 use Rattle.session_state.specs.declared.timeouts.Timeouts.{Timeouts}
@@ -13,7 +11,7 @@ use Rattle.packet_dealing.specs.Dealings.{Deal}
 use Rattle.flow_dealing.specs.Views.{Views}
 use Rattle.flow_dealing.specs.WorkerRecords.{AreJudgedAgeing}
 use Rattle.flow_workers.specs.Callers.{AreIdle, first_views, views_of}
-use Rattle.flow_workers.specs.Progress.{AreAtRest, IsAlone}
+use Rattle.flow_workers.specs.Progress.{AreRestingBehind}
 use Rattle.flow_workers.specs.declared.session_tables.Callers.{Callers}
 use Rattle.flow_workers.specs.declared.session_tables.Tables.{Tables}
 use Rattle.flow_workers.specs.declared.workers.Workers.{Workers}
@@ -111,10 +109,14 @@ abbrev pub orders_of : {T : Type 0} → SizedWorkers T → Orders
 orders_of (Standard workers) = orders_in (laid.Standard workers.setup.tables.now) workers
 orders_of (Large workers) = orders_in (laid.Large workers.setup.tables.now) workers
 
--- workers after these packets
+-- workers after these packets, of which they handed over this
+abbrev pub AreRestingWith : {T : Type 0} → List PacketFacts → List Verdict → SizedWorkers T → Type 0
+AreRestingWith packets said (Standard workers) = AreRestingBehind said packets workers
+AreRestingWith packets said (Large workers) = AreRestingBehind said packets workers
+
+-- of which they handed over nothing
 abbrev pub AreResting : {T : Type 0} → List PacketFacts → SizedWorkers T → Type 0
-AreResting packets (Standard workers) = AreAtRest packets workers
-AreResting packets (Large workers) = AreAtRest packets workers
+AreResting packets workers = AreRestingWith packets [] workers
 
 -- workers with these orders after these packets
 pub record AreAfter {T : Type 0} (orders : Orders) (packets : List PacketFacts) (workers : SizedWorkers T) : Type 0 where
@@ -142,29 +144,10 @@ pub record AreSaidBy (orders : Orders) (packets : List PacketFacts) (verdicts : 
 abbrev pub HaveEndedOn : {T : Type 0} → SizedWorkers T → List Verdict → SizedCallers → Type 0
 HaveEndedOn workers verdicts callers = (packets : List PacketFacts) → AreResting packets workers → AreSaidBy (orders_of workers) packets verdicts callers
 
--- ---- one worker that keeps no verdict
+-- ---- one worker that hands over its verdicts
 
--- the only worker after these packets, of which it said this
-abbrev pub IsRestingAlone : {T : Type 0} → List PacketFacts → List Verdict → SizedWorkers T → Type 0
-IsRestingAlone packets said (Standard workers) = IsAlone packets said workers
-IsRestingAlone packets said (Large workers) = IsAlone packets said workers
-
--- it has these orders too
+-- the only worker, with these orders, after these packets, of which it handed over this
 pub record IsAloneAfter {T : Type 0} (orders : Orders) (packets : List PacketFacts) (said : List Verdict) (workers : SizedWorkers T) : Type 0 where
   pub given : orders_of workers ≡ orders
-  pub rest : IsRestingAlone packets said workers
-
--- whatever packets it judged so far, these may follow
-pub record MayFollowAlone {T : Type 0} (workers : SizedWorkers T) (more : Packets) : Type 0 where
-  pub packets : List PacketFacts
-  pub said : List Verdict
-  pub rest : IsRestingAlone packets said workers
-  pub fits : length packets + length (remaining more) < 2 ^ 64
-
--- it judged these packets too, and what it says follows what it said
-pub record HasFollowedAlone {T : Type 0} (old : SizedWorkers T) (more : Packets) (new : SizedWorkers T) (verdicts : List Verdict) : Type 0 where
-  pub orders : orders_of new ≡ orders_of old
-  pub rest : (packets : List PacketFacts) (said : List Verdict) → IsRestingAlone packets said old
-      → IsRestingAlone (packets ++ remaining more) (said ++ verdicts) new
-  pub judged : (packets : List PacketFacts) (said : List Verdict) → IsRestingAlone packets said old
-      → AreSaid (orders_of old) (packets ++ remaining more) (said ++ verdicts)
+  pub one : orders.deal.workers ≡ 1
+  pub rest : AreRestingWith packets said workers

@@ -16,6 +16,7 @@ use racl_io::{Fault, Sink, Source, Totals};
 use racl_options::Options;
 use std::alloc::Global;
 use std::sync::Wait;
+use std::thread::Threads;
 
 /// For how many packets rules are prepared.
 const EXPECTED: usize = 16_777_216;
@@ -29,7 +30,7 @@ pub struct LiveHead<'t, 'f> {
 
 // In a live run one worker tells the packets of the capture behind its header while they come. Its tables cut blocks, and it
 // removes sessions that have ended, as the run may never end.
-fn tell_capture<R: Source, W: Sink, T: Wait>(
+fn tell_capture<R: Source, W: Sink, T: Threads + Wait + Sync>(
     rt: &T,
     alloc: Global,
     options: &Options,
@@ -38,8 +39,7 @@ fn tell_capture<R: Source, W: Sink, T: Wait>(
     writer: &mut W,
 ) -> Result<Totals, Fault>
     requires times { head.filter.now.times ≡ options.now.times }
-    requires reader { R.failures reader.old < 2 ^ 64 - 1 }
-    requires writer { W.failures writer.old < 2 ^ 64 - 1 }
+    requires sound { (R.failures reader.old < 2 ^ 64 - 1) × (W.failures writer.old < 2 ^ 64 - 1) }
     ensures told { MatchResult result (HasToldAll (ByOneWorker options.now) (policy_facts head.entry.filter.now.policy.now) head.entry.order (R.bytes reader.old) (R.bytes reader.new) (W.bytes writer.old) (W.bytes writer.new)) (IsLiveFault (ByOneWorker options.now) (policy_facts head.entry.filter.now.policy.now) head.entry.order (R.bytes reader.old) (R.bytes reader.new) (W.bytes writer.old) (W.bytes writer.new)) }
     ensures read { MatchResult result (λ _. R.failures reader.new ≡ R.failures reader.old) (λ fault. R.failures reader.new ≡ with_read (R.failures reader.old) fault) }
     ensures write { MatchResult result (λ _. W.failures writer.new ≡ W.failures writer.old) (λ fault. W.failures writer.new ≡ with_write (W.failures writer.old) fault) }
@@ -60,7 +60,7 @@ fn tell_capture<R: Source, W: Sink, T: Wait>(
 /// Filters a capture by this policy while it comes, and writes the report: after each read the lines of all packets whose
 /// records were read whole, and at its end what stands behind them. One worker judges, which keeps no verdict and removes
 /// sessions that have ended, so that a capture may be of any length. A fault leaves what was written.
-pub fn run_live<R: Source, W: Sink, T: Wait>(
+pub fn run_live<R: Source, W: Sink, T: Threads + Wait + Sync>(
     rt: &T,
     alloc: Global,
     options: &Options,

@@ -3,7 +3,7 @@ ghost use Rattle.std.specs.Prelude.{[], ◌≡◌, ◌≤◌, IfOk};
 ghost use Rattle.bihash_words.specs.Sizes.{IsSound, sizes_of};
 ghost use Rattle.packet_dealing.specs.declared.dealing.Dealing.TheVariants.{Bucket};
 ghost use Rattle.racl_views.specs.Stored.{stored_facts};
-ghost use Rattle.racl_cli.specs.Crews.{AreAfter, AreAsAsked, AreFirst, AreFirstOf, AreIdleOf, HasFollowedAlone, HaveEndedOn, HaveJudgedSome, MayFollowAlone};
+ghost use Rattle.racl_cli.specs.Crews.{AreAfter, AreAsAsked, AreFirst, AreFirstOf, AreIdleOf, HaveEndedOn, HaveJudgedSome};
 ghost use Rattle.racl_cli.specs.Crews.{cuts_four, orders_for, size_of, views_with};
 ghost use Rattle.racl_cli.specs.Runs.{AreStoredOf, layout_for};
 
@@ -15,7 +15,6 @@ use flow_workers::{
     create_tables,
 };
 use large_shapes::{LargeV4, LargeV6, large_shapes_are_sound};
-use packet_view::Packets;
 use racl_options::TableSize;
 use racl_views::StoredPairs;
 use session_state::Verdict;
@@ -210,28 +209,6 @@ impl<'t, 'f, T: Wait> SizedWorkers<'t, 'f, T> {
             },
             SizedWorkers::Large(workers) => match workers.end(alloc) {
                 Ok((verdicts, callers)) => Ok((verdicts, SizedCallers::Large(callers))),
-                Err(_) => Err(AllocError),
-            },
-        }
-    }
-
-    /// The only worker after it judged these packets too, which follow those so far, and the verdicts on them, which it
-    /// doesn't keep. An error says that memory was refused.
-    pub fn judge_alone(
-        self,
-        alloc: Global,
-        packets: Packets<'_>,
-    ) -> Result<(SizedWorkers<'t, 'f, T>, Vec<Verdict>), AllocError>
-        requires { MayFollowAlone self packets }
-        ensures { IfOk result (λ r. HasFollowedAlone self.entry packets.entry r.0 r.1.items) }
-    {
-        match self {
-            SizedWorkers::Standard(workers) => match workers.judge_alone(alloc, packets) {
-                Ok((workers, verdicts)) => Ok((SizedWorkers::Standard(workers), verdicts)),
-                Err(_) => Err(AllocError),
-            },
-            SizedWorkers::Large(workers) => match workers.judge_alone(alloc, packets) {
-                Ok((workers, verdicts)) => Ok((SizedWorkers::Large(workers), verdicts)),
                 Err(_) => Err(AllocError),
             },
         }

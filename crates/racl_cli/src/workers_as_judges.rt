@@ -1,7 +1,7 @@
 //! Workers as those who judge the packets of a capture.
 
 use crate::sized_tables_and_workers::SizedWorkers;
-use capture_stream::{Judges, Tellers};
+use capture_stream::Judge;
 use flow_workers::Verdict;
 use packet_view::Packets;
 use std::alloc::{AllocError, Global};
@@ -15,54 +15,52 @@ pub struct Crew<'t, 'f, T: Wait> {
     pub workers: SizedWorkers<'t, 'f, T>,
 }
 
-impl<'t, 'f, T: Threads + Wait + Sync> Judges for Crew<'t, 'f, T> {
+impl<'t, 'f, T: Threads + Wait + Sync> Judge for Crew<'t, 'f, T> {
+    ghost use Rattle.std.specs.Prelude.{⊤};
     ghost use Rattle.std.specs.Thread.{IsSync};
     ghost use Rattle.racl_cli.specs.Crews.{AreAfter, orders_of};
 
-    ghost became = { λ begun packets crew. IsSync T.row × AreAfter (orders_of begun.workers) packets crew.workers };
+    ghost became = { λ begun packets said crew. IsSync T.row × AreAfter (orders_of begun.workers) packets crew.workers };
 
-    // The workers of either size of tables judge these packets, as judges of a capture.
-    fn judge(self, packets: Packets<'_>) -> Result<Crew<'t, 'f, T>, AllocError> {
-        let Crew { alloc, workers } = self;
-        match workers {
-            SizedWorkers::Standard(workers) => match workers.judge(alloc, packets) {
-                Ok(workers) => Ok(Crew {
-                    alloc,
-                    workers: SizedWorkers::Standard(workers),
-                }),
-                Err(_) => Err(AllocError),
-            },
-            SizedWorkers::Large(workers) => match workers.judge(alloc, packets) {
-                Ok(workers) => Ok(Crew {
-                    alloc,
-                    workers: SizedWorkers::Large(workers),
-                }),
-                Err(_) => Err(AllocError),
-            },
+    ghost judged = { λ begun packets said. ⊤ };
+
+    // The workers of either size of tables judge these packets, as judges of a capture, and keep the verdicts.
+    fn judge(&mut self, packets: Packets<'_>) -> Result<Vec<Verdict>, AllocError> {
+        let judged = match &mut self.workers {
+            SizedWorkers::Standard(workers) => workers.judge_more(self.alloc, packets),
+            SizedWorkers::Large(workers) => workers.judge_more(self.alloc, packets),
+        };
+        match judged {
+            Ok(()) => Ok(Vec::new(self.alloc)),
+            Err(_) => Err(AllocError),
         }
     }
 }
 
-/// One worker that keeps no verdict, and where it gets memory.
+/// One worker that hands over its verdicts, and where it gets memory.
 #[derive(Drop)]
 pub struct Lone<'t, 'f, T: Wait> {
     pub alloc: Global,
     pub workers: SizedWorkers<'t, 'f, T>,
 }
 
-impl<'t, 'f, T: Wait> Tellers for Lone<'t, 'f, T> {
+impl<'t, 'f, T: Threads + Wait + Sync> Judge for Lone<'t, 'f, T> {
+    ghost use Rattle.std.specs.Thread.{IsSync};
     ghost use Rattle.racl_cli.specs.Crews.{AreSaid, IsAloneAfter, orders_of};
 
-    ghost became = { λ begun packets said lone. IsAloneAfter (orders_of begun.workers) packets said lone.workers };
+    ghost became = { λ begun packets said lone. IsSync T.row × IsAloneAfter (orders_of begun.workers) packets said lone.workers };
 
     ghost judged = { λ begun packets said. AreSaid (orders_of begun.workers) packets said };
 
     // The only worker judges these packets, as the judge of a capture, and hands over the verdicts.
-    fn judge(self, packets: Packets<'_>) -> Result<(Lone<'t, 'f, T>, Vec<Verdict>), AllocError> {
-        let Lone { alloc, workers } = self;
-        match workers.judge_alone(alloc, packets) {
-            Ok((workers, verdicts)) => Ok((Lone { alloc, workers }, verdicts)),
-            Err(error) => Err(error),
+    fn judge(&mut self, packets: Packets<'_>) -> Result<Vec<Verdict>, AllocError> {
+        let said = match &mut self.workers {
+            SizedWorkers::Standard(workers) => workers.judge_on(self.alloc, packets),
+            SizedWorkers::Large(workers) => workers.judge_on(self.alloc, packets),
+        };
+        match said {
+            Ok(said) => Ok(said),
+            Err(_) => Err(AllocError),
         }
     }
 }

@@ -1,12 +1,13 @@
 //! Captures that are read in parts, and packets that are counted.
-ghost use Rattle.std.specs.Prelude.{◌≡◌, ◌≤◌, ◌<◌, ◌-◌, ◌^◌, None, IfSome, drop, false, length};
+ghost use Rattle.std.specs.Prelude.{◌≡◌, ◌≤◌, ◌<◌, ◌-◌, ◌^◌, ⊤, None, IfSome, drop, false, length};
 ghost use Rattle.racl_io.specs.Inputs.{most_bytes};
 ghost use Rattle.capture_stream.specs.Found.{HaveFound};
 ghost use Rattle.capture_stream.specs.Streams.{IsSize};
 
-use capture_stream::{Judges, Opening, Streamed, WindowSize, judge_stream};
+use capture_stream::{Judge, Opening, Streamed, WindowSize, judge_stream};
 use packet_view::{Order, Packets};
 use racl_io::{Device, DeviceFault, Fault, MOST_BYTES, Source};
+use session_state::Verdict;
 use std::alloc::{AllocError, Global};
 use std::test::Fail;
 use std::thread::Threads;
@@ -14,17 +15,19 @@ use std::thread::Threads;
 /// Counts packets.
 #[derive(Drop)]
 pub struct Counter {
+    pub alloc: Global,
     pub count: usize,
 }
 
-impl Judges for Counter {
-    ghost became = { λ _ packets counter. length packets ≡ counter.count };
+impl Judge for Counter {
+    ghost became = { λ _ packets _ counter. length packets ≡ counter.count };
 
-    // For tests of windows: the packets of one are counted.
-    fn judge(self, packets: Packets<'_>) -> Result<Counter, AllocError> {
-        Ok(Counter {
-            count: self.count + packets.count(),
-        })
+    ghost judged = { λ _ _ _. ⊤ };
+
+    // For tests of windows: the packets of one are counted, and nothing is said of them.
+    fn judge(&mut self, packets: Packets<'_>) -> Result<Vec<Verdict>, AllocError> {
+        self.count += packets.count();
+        Ok(Vec::new(self.alloc))
     }
 }
 
@@ -139,7 +142,7 @@ pub fn count_behind<T: Threads, R: Source + Send>(
     let Some(opening) = windows_test_opening(alloc, front) else {
         return Err(Fault::Memory);
     };
-    judge_stream(beside, alloc, reader, Counter { count: 0 }, opening, size)
+    judge_stream(beside, alloc, reader, Counter { alloc, count: 0 }, opening, size)
 }
 
 // For tests of windows: how many packets were judged, and whether the capture was cut. The first 54 bytes are read

@@ -1,4 +1,4 @@
-use Rattle.std.proofs.Common.{◌∙◌, ap, arith, inl, inr, length, refl, rules, sym, true≢false}
+use Rattle.std.proofs.Common.{◌∙◌, [], ap, arith, inl, inr, length, refl, rules, sym, true≢false}
 use Rattle.std.proofs.lemmas.List.{length-map}
 use Rattle.packet_view.specs.Captures.{packet_at, packets_at}
 use Rattle.racl_cli.proofs.DigitLemmas.{headless, known_capture, on_ok, records_behind, right_header, unknown_capture, unstreamed_result}
@@ -20,6 +20,7 @@ judge_stream-requires-clause-may g c κs lives =
     (record {
       begun = c.args.crew;
       others = c.requires.packets;
+      said = [];
       stand = (search rules, record { given = refl; rest = c.requires.rest });
       room = omega arith;
       within = omega arith;
@@ -51,8 +52,8 @@ returns-clause-ok g c =
         refl,
       );
       count = s.count ∙ sym (length-map s.packets (packet_at interface));
-      by = (s.judged crew c.requires.packets (search rules, record { given = refl; rest = c.requires.rest })).1.given;
-      rest = λ before at. (s.judged crew before (search rules, record { given = refl; rest = at })).1.rest;
+      by = (s.judged crew c.requires.packets [] (search rules, record { given = refl; rest = c.requires.rest })).1.given;
+      rest = λ before at. (s.judged crew before [] (search rules, record { given = refl; rest = at })).1.rest;
     })
 
 pub returns-clause-fault : goal.returns-clause-fault

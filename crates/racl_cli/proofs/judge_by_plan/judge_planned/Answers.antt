@@ -12,6 +12,7 @@ judge_stream-requires-clause-may g c κs lives =
     record {
       begun = record { alloc = c.args.alloc; workers = c.in-Ok-new.workers };
       others = [];
+      said = [];
       stand = (search rules, record { given = refl; rest = c.in-Ok-new.ensures.rest });
       room = omega arith;
       within = may.within;
@@ -24,14 +25,14 @@ pub end_capture_by_plan-requires : goal.end_capture_by_plan-requires
 end_capture_by_plan-requires g c =
     let s = c.in-Ok-judge_stream.ensures.streamed in
     let crew : Crew _ = record { alloc = c.args.alloc; workers = c.in-Ok-new.workers } in
-    let stand = s.judged crew [] (search rules, record { given = refl; rest = c.in-Ok-new.ensures.rest }) in
+    let stand = s.judged crew [] [] (search rules, record { given = refl; rest = c.in-Ok-new.ensures.rest }) in
     (packets_at c.args.opening.interface s.packets, stand.1.rest)
 
 pub with_stored-requires : goal.with_stored-requires
 with_stored-requires g c =
     let s = c.in-Ok-judge_stream.ensures.streamed in
     let crew : Crew _ = record { alloc = c.args.alloc; workers = c.in-Ok-new.workers } in
-    let stand = s.judged crew [] (search rules, record { given = refl; rest = c.in-Ok-new.ensures.rest }) in
+    let stand = s.judged crew [] [] (search rules, record { given = refl; rest = c.in-Ok-new.ensures.rest }) in
     idle_at_end _ c.args.plan.manner.filter.now c.args.plan.manner.workers _ _ _ c.in-Ok-end_capture_by_plan.ended
     c.in-Ok-new.ensures.given
     (said_at_end _ _ _ _ c.in-Ok-end_capture_by_plan.ended stand.1 c.in-Ok-end_capture_by_plan.ensures.ok).0
@@ -40,7 +41,7 @@ pub returns-in-Ok-end_capture_by_plan-clause-ok : goal.returns-in-Ok-end_capture
 returns-in-Ok-end_capture_by_plan-clause-ok g c =
     let s = c.in-Ok-judge_stream.ensures.streamed in
     let crew : Crew _ = record { alloc = c.args.alloc; workers = c.in-Ok-new.workers } in
-    let stand = s.judged crew [] (search rules, record { given = refl; rest = c.in-Ok-new.ensures.rest }) in
+    let stand = s.judged crew [] [] (search rules, record { given = refl; rest = c.in-Ok-new.ensures.rest }) in
     let at =
     subst (λ n. AreAfter (orders_of c.in-Ok-new.workers) (packets_at n s.packets) c.in-Ok-judge_stream.streamed.judges.workers) c.requires.may.1.unnamed stand.1 in
     IfOk-weaker c.with_stored.result _ _

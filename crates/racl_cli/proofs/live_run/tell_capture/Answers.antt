@@ -1,10 +1,11 @@
-use Rattle.std.proofs.Common.{ap, refl}
+use Rattle.std.proofs.Common.{ap, refl, rules}
 use Rattle.std.proofs.lemmas.Result.{MatchResult-weaker}
 use Rattle.acl_policy.specs.Policies.{policy_facts}
 use Rattle.capture_stream.proofs.TellLemmas.{all_as, fault_as, none_told}
 use Rattle.racl_cli.specs.Crews.{Orders, orders_of}
 use Rattle.racl_cli.specs.LiveRuns.{ByOneWorker}
-use Rattle.racl_cli.proofs.LiveLemmas.{begun_alone, by_one_worker}
+use Rattle.racl_cli.proofs.LiveLemmas.{by_one_worker}
+use Rattle.racl_cli.proofs.OutcomeLemmas.{judged_count}
 use Rattle.racl_cli.proofs.live_run.tell_capture.Goals as goal
 
 pub returns-in_default-clause-told : goal.returns-in_default-clause-told
@@ -18,10 +19,17 @@ returns-in_default-new-clause-told g c =
     (g.W.Sink.bytes c.args.writer.now)
 
 pub tell_live-requires-clause-begun : goal.tell_live-requires-clause-begun
-tell_live-requires-clause-begun g c = record {
-  given = refl;
-  rest = begun_alone c.in-Ok-new.workers (ap (λ (o : Orders). o.deal.workers) c.in-Ok-new.ensures.given) c.in-Ok-new.ensures.rest;
-}
+tell_live-requires-clause-begun g c = (
+  search rules,
+  record {
+    given = refl;
+    one = ap (λ (o : Orders). o.deal.workers) c.in-Ok-new.ensures.given;
+    rest = c.in-Ok-new.ensures.rest;
+  },
+)
+
+pub tell_live-requires-clause-counts : goal.tell_live-requires-clause-counts
+tell_live-requires-clause-counts g c begun packets said are = judged_count _ _ _ _ _ are.1.removals are.1.judged
 
 pub returns-clause-told : goal.returns-clause-told
 returns-clause-told g c =

@@ -3,8 +3,9 @@ use Rattle.racl_tests.proofs.tests.windows.count_behind.Goals as goal
 
 pub judge_stream-requires-clause-may : goal.judge_stream-requires-clause-may
 judge_stream-requires-clause-may g c κs within = record {
-  begun = record { count = 0 };
+  begun = record { alloc = c.args.alloc; count = 0 };
   others = [];
+  said = [];
   stand = refl;
   room = omega arith;
   within = c.in-Some.ensures.within;
