@@ -1,5 +1,5 @@
-// Calls each function of include/racl.h: judges that are split, joined, given policies, aged and renewed, and four threads that
-// judge one flow at once. Whenever a call was refused memory, what was there is looked at: nothing may be lost. The call is
+// Calls each function of include/racl.h: judges that are split, met, joined, given policies, aged and renewed, texts that are
+// checked, and four threads that judge one flow at once. Whenever a call was refused memory, what was there is looked at: nothing may be lost. The call is
 // made once more then. Each refusal is written in a line with the call's name. Ends with 0 where all was done, with 4 where a
 // call was refused twice, and with 1 where anything is wrong. ./c_filter_calls [ROUNDS [large]]
 #include "racl.h"
@@ -128,10 +128,62 @@ static void deal_flows(void) {
 static void age(racl_handle *handle, uint64_t buckets) {
     expect(racl_sweep_ipv4_wait(handle, 0, buckets, 600) == 0, "a live session went", 0);
     expect(racl_sweep_ipv6_wait(handle, 0, RACL_LARGE_BUCKETS, 4000) == 0, "a session of IPv6 went", 0);
+    racl_swept swept = racl_sweep_ipv4(handle, 5, buckets, 600, 10);
+    expect(swept.kind == RACL_DONE && swept.next == 15 && swept.went == 0, "a short sweep", (unsigned long)swept.next);
     uint64_t went = racl_sweep_ipv4_wait(handle, 0, buckets, 4000);
     expect(went == 4, "sessions that ended", went);
     expect(judge(handle, 0, 1, 4000).kind == RACL_BY_DEFAULT, "a session that went", 0);
     expect(racl_expire_ipv4(handle, buckets, 4000) == RACL_DONE, "a bucket that isn't there", 0);
+}
+
+static racl_checked check(const char *text, uint8_t *buffer, size_t room) {
+    racl_checked checked;
+    for (int refused = 0; refused < 2;)
+        if (!is_refused("check", (checked = racl_check((const uint8_t *)text, strlen(text), buffer, room)).kind, &refused)) break;
+    return checked;
+}
+
+static racl_made line_of(uint32_t direction, uint32_t rule) {
+    racl_made made;
+    for (int refused = 0; refused < 2;)
+        if (!is_refused("line_of", (made = racl_line_of(outward, sizeof OUTWARD - 1, 0, direction, rule)).kind, &refused)) break;
+    return made;
+}
+
+/* What is told of a text's lines, as far as there is room, and where its rules stand. Whether a call was refused twice. */
+static int read_texts(void) {
+    static const char told[] = "line 3: `permits` is no action: deny, permit or permit+reflect\nno policy: wrong lines 1\n";
+    uint8_t buffer[200];
+    memset(buffer, 0x5a, sizeof buffer);
+    racl_checked checked = check(WRONG, buffer, sizeof buffer);
+    if (checked.kind == RACL_MEMORY) return expect(buffer[0] == 0x5a, "a refused check writes", 0), 1;
+    expect(checked.kind == RACL_BAD_LINE && checked.length == sizeof told - 1, "a check", (unsigned long)checked.length);
+    expect(!memcmp(buffer, told, sizeof told - 1) && buffer[sizeof told - 1] == 0x5a, "the lines of a check", 0);
+    memset(buffer, 0x5a, sizeof buffer);
+    if ((checked = check(WRONG, buffer, 7)).kind == RACL_MEMORY) return 1;
+    expect(checked.length == sizeof told - 1 && !memcmp(buffer, "line 3:Z", 8), "a check with little room", buffer[7]);
+    if ((checked = check(OUTWARD, buffer, 0)).kind == RACL_MEMORY) return 1;
+    expect(checked.kind == RACL_DONE && buffer[0] == 'l', "a check of a policy", checked.kind);
+    racl_made made = line_of(RACL_OUTBOUND, 2);
+    if (made.kind == RACL_MEMORY) return 1;
+    expect(made.kind == RACL_DONE && made.line == 3, "the line of a rule", (unsigned long)made.line);
+    if ((made = line_of(RACL_INBOUND, 1)).kind == RACL_MEMORY) return 1;
+    expect(made.kind == RACL_DONE && made.line == 0, "the line of no rule", (unsigned long)made.line);
+    return 0;
+}
+
+static void see_pages(racl_handle *handle, int is_large) {
+    uint64_t pages = is_large ? RACL_LARGE_PAGES : RACL_IPV4_PAGES, unused = racl_unused_ipv4(handle);
+    expect(unused < pages && (pages - unused) * RACL_PAGE_PLACES >= 4, "pages of IPv4", (unsigned long)unused);
+    pages = is_large ? RACL_LARGE_PAGES : RACL_IPV6_PAGES;
+    expect(racl_unused_ipv6(handle) == pages, "pages of IPv6", (unsigned long)racl_unused_ipv6(handle));
+}
+
+/* Judges that meet, and neither is alone. */
+static void meet(racl_handle *handle, racl_handle *other) {
+    expect(!racl_is_lone(handle) && !racl_is_lone(other), "a judge of two is alone", 2);
+    racl_meet(handle, other);
+    look(handle), look(other);
 }
 
 int main(int count, char **given) {
@@ -160,6 +212,7 @@ int main(int count, char **given) {
     expect(answer == RACL_DONE, "split", answer);
     look(&second);
     expect(racl_renew_ipv4(&first) == RACL_STRANGERS, "renew with a stranger", 0);
+    meet(&first, &second);
     for (refused = 0; is_refused("set_policy", (made = racl_set_policy(&second, (const uint8_t *)CLOSED, sizeof CLOSED - 1)).kind, &refused);) {
         expect(judge(&second, 0, 9, 10).kind == RACL_BY_DEFAULT, "a refused policy", 0);
         if (refused == 2) return racl_free(&second), racl_free(&first), 4;
@@ -176,7 +229,7 @@ int main(int count, char **given) {
     expect(racl_take_policy(&second, &first) == RACL_DONE, "take_policy", 0);
     expect(judge(&second, 0, 9, 10).kind == RACL_BY_DEFAULT, "the policy that was taken", 0);
     racl_join(&first, &second);
-    expect(!second.at, "a joined handle is left", 0);
+    expect(!second.at && racl_is_lone(&first), "a joined handle is left", 0);
     racl_count counts;
     racl_counts(&first, &counts);
     expect(counts.reflect == 4 && counts.deny == 2 && counts.permit == 0, "counts", (unsigned long)counts.reflect);
@@ -194,6 +247,8 @@ int main(int count, char **given) {
         if (refused == 2) return racl_free(&first), 4;
     expect(answer == RACL_DONE, "renew_ipv6", answer);
     look(&first);
+    see_pages(&first, count > 2);
+    if (read_texts()) return racl_free(&first), 4;
     age(&first, count > 2 ? RACL_LARGE_BUCKETS : RACL_IPV4_BUCKETS);
     options.udp = 0;
     expect(racl_new(&other, outward, sizeof OUTWARD - 1, &options).kind == RACL_BAD_OPTIONS && !other.at, "a timeout of 0", 0);

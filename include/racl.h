@@ -17,13 +17,13 @@
      itself: two threads never give one handle to calls at the same time. One that goes to another thread goes by the start or
      the end of a thread, a lock, or a sequentially consistent atomic.
    - A handle that is given has a judge: it was made by racl_new or racl_split, and has not been joined or freed since. A call
-     that takes two handles is given two different ones; racl_join, two over the same tables.
-   - Pointers are never null, those to a frame or a text of 0 bytes included, and what they point to is there in its whole
+     that takes two handles is given two different ones; racl_join and racl_meet, two over the same tables.
+   - Pointers are never null, those to a frame, a text or a buffer of 0 bytes included, and what they point to is there in its whole
      length; no other thread changes it during the call.
    - malloc, realloc and free are those of one allocator, and no call is made from a signal handler or in the forked child of a
      process with threads.
-   No call keeps a pointer that it was given, waits for another thread, or makes one. Only racl_new, racl_set_policy, racl_split
-   and the renewals ask for memory; judging does not. Where memory is refused nothing is lost. */
+   No call keeps a pointer that it was given, waits for another thread, or makes one. Only racl_new, racl_set_policy, racl_split,
+   racl_check, racl_line_of and the renewals ask for memory; judging does not. Where memory is refused nothing is lost. */
 #ifndef RACL_H
 #define RACL_H
 
@@ -127,6 +127,19 @@ typedef struct racl_flow {
   uint64_t hash;
 } racl_flow;
 
+/* What a check of a policy's text came to, and how many bytes the lines have that tell of it. */
+typedef struct racl_checked {
+  uint32_t kind; /* an enum racl_kind */
+  uint64_t length;
+} racl_checked;
+
+/* How far a sweep came: its next look would be at the bucket `next`, and so many sessions went. */
+typedef struct racl_swept {
+  uint32_t kind; /* an enum racl_kind */
+  uint64_t next;
+  uint64_t went;
+} racl_swept;
+
 /* How many frames a judge gave each verdict, those of judges that were joined into it too. RACL_CONTENDED isn't counted. */
 typedef struct racl_count {
   uint64_t session;
@@ -156,6 +169,12 @@ uint32_t racl_split(racl_handle *handle, racl_handle *fresh);
 /* Ends the judge `other`, and leaves nothing behind its handle. */
 void racl_join(racl_handle *handle, racl_handle *other);
 
+/* Tells two judges what either knows of their tables, so that what one did before is known to the other. */
+void racl_meet(racl_handle *handle, racl_handle *other);
+
+/* 1 where each other judge over the tables was joined into this one, which is never CONTENDED then until it is split; else 0. */
+uint32_t racl_is_lone(racl_handle *handle);
+
 /* Lets go of a judge, and leaves nothing behind its handle. The tables go with their last judge. One that is freed and not
    joined is a stranger from then on: its tables can't be renewed. */
 void racl_free(racl_handle *handle);
@@ -166,6 +185,15 @@ void racl_free(racl_handle *handle);
 /* Judges by the policy of this text from now on, with the same timeouts. DONE, or MEMORY, NOT_UTF8, BAD_LINE or TOO_MANY, and
    then the policy stays. */
 racl_made racl_set_policy(racl_handle *handle, const uint8_t *text, size_t length);
+
+/* Checks a policy's text, and writes into the buffer the lines that `racl check` tells of it, without a 0 behind them: each wrong
+   line with the word and the reason, or else what is right and unlikely to be meant. Where there is less room than `length`, it is
+   their front. DONE: it is a policy. BAD_LINE: it is none, whatever is wrong. MEMORY, and then nothing is written. */
+racl_checked racl_check(const uint8_t *text, size_t length, uint8_t *buffer, size_t room);
+
+/* The line of a policy's text in which the rule stands that an answer names with this direction, on a frame of this interface:
+   DONE and `line`, which is 0 where the policy has no such rule. MEMORY. */
+racl_made racl_line_of(const uint8_t *text, size_t length, uint8_t interface, uint32_t direction, uint32_t rule);
 
 /* Judges by the policy and the timeouts of `other` from now on, of which it reads nothing anew, whatever tables `other` has.
    DONE; MEMORY where more judges than the memory could have share the policy, and then the policy stays. */
@@ -201,6 +229,22 @@ void racl_counts(racl_handle *handle, racl_count *counts);
    has, or the tables have no such bucket. WORN: one has, and the bucket takes no more changes. CONTENDED. */
 uint32_t racl_expire_ipv4(racl_handle *handle, uint64_t bucket, uint32_t second);
 uint32_t racl_expire_ipv6(racl_handle *handle, uint64_t bucket, uint32_t second);
+
+/* Looks so at the buckets from `from` to before `to`, at each until no session in it has ended or it takes no more changes, with
+   at most so many looks. DONE, or CONTENDED in the bucket `next`: go on there. */
+racl_swept racl_sweep_ipv4(racl_handle *handle, uint64_t from, uint64_t to, uint32_t second, uint64_t most);
+racl_swept racl_sweep_ipv6(racl_handle *handle, uint64_t from, uint64_t to, uint32_t second, uint64_t most);
+
+/* How many pages of a family's table no bucket ever had, as it stood at some time during the call: at best a bound, since other
+   judges take pages meanwhile, and blocks that came back don't count. At most RACL_PAGE_PLACES sessions stand in a page, so that
+   a table has no more sessions than its other pages have places. */
+uint64_t racl_unused_ipv4(racl_handle *handle);
+uint64_t racl_unused_ipv6(racl_handle *handle);
+
+#define RACL_IPV4_PAGES 16384
+#define RACL_IPV6_PAGES 4096
+#define RACL_LARGE_PAGES 262144
+#define RACL_PAGE_PLACES 4
 
 /* Opens the table of a family again: its sessions stay, and no bucket is worn. Each other judge over the tables was joined
    before. DONE, or STRANGERS or MEMORY. It asks for three times the table's memory. */
@@ -247,12 +291,12 @@ static inline uint32_t racl_split_wait(racl_handle *handle, racl_handle *fresh) 
 #define RACL_SWEEPING(FAMILY)                                                                                          \
   /* Sessions of the buckets from `from` to before `to` that have ended by this second go; how many went. */           \
   static inline uint64_t racl_sweep_##FAMILY##_wait(racl_handle *handle, uint64_t from, uint64_t to, uint32_t second) { \
-    uint64_t went = 0;                                                                                                 \
-    while (from < to) {                                                                                                \
-      uint32_t answer = racl_expire_##FAMILY(handle, from, second);                                                    \
-      if (answer == RACL_CONTENDED) racl_pause();                                                                      \
-      else if (answer == RACL_ENDED) went++;                                                                           \
-      else from++;                                                                                                     \
+    racl_swept swept = racl_sweep_##FAMILY(handle, from, to, second, UINT64_MAX);                                      \
+    uint64_t went = swept.went;                                                                                        \
+    while (swept.kind == RACL_CONTENDED) {                                                                             \
+      racl_pause();                                                                                                    \
+      swept = racl_sweep_##FAMILY(handle, swept.next, to, second, UINT64_MAX);                                         \
+      went += swept.went;                                                                                              \
     }                                                                                                                  \
     return went;                                                                                                       \
   }

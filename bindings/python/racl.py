@@ -50,10 +50,10 @@ class Answer:
 
 
 class PolicyFault(ValueError):
-    """A policy's first fault. Its line counts from 1, and is 0 where no line is meant."""
+    """A policy's first fault. Its line counts from 1, and is 0 where no line is meant; the message is what `racl check` tells."""
 
     def __init__(self, reason: str, line: int):
-        super().__init__(f"policy line {line} {reason}" if line else f"policy {reason}")
+        super().__init__(reason)
         self.line = line
 
 
@@ -69,6 +69,10 @@ class _Made(ctypes.Structure):
     _fields_ = [("kind", ctypes.c_uint32), ("line", ctypes.c_uint64)]
 
 
+class _Checked(ctypes.Structure):
+    _fields_ = [("kind", ctypes.c_uint32), ("length", ctypes.c_uint64)]
+
+
 class _Answer(ctypes.Structure):
     _fields_ = [(name, ctypes.c_uint32) for name in ("kind", "rule", "passes", "direction")]
 
@@ -79,7 +83,7 @@ class _Counts(ctypes.Structure):
 
 
 _CONTENDED = 7
-_FAULTS = {2: "is not UTF-8", 3: "is wrong", 4: "is one rule too many"}
+_FAULTS = {2, 3, 4}
 _TEXT = [ctypes.c_char_p, ctypes.c_size_t]
 
 
@@ -94,6 +98,8 @@ def _library() -> ctypes.CDLL:
         "racl_judge": (_Answer, [handle, ctypes.c_uint8, ctypes.c_uint32, *_TEXT]),
         "racl_counts": (None, [handle, ctypes.POINTER(_Counts)]),
         "racl_free": (None, [handle]),
+        "racl_check": (_Checked, [*_TEXT, *_TEXT]),
+        "racl_line_of": (_Made, [*_TEXT, ctypes.c_uint8, ctypes.c_uint32, ctypes.c_uint32]),
     }
     for name, (result, given) in calls.items():
         call = getattr(library, name)
@@ -104,17 +110,37 @@ def _library() -> ctypes.CDLL:
 _LIBRARY = _library()
 
 
-def _done(made: _Made) -> None:
+def _done(made: _Made, text: bytes) -> None:
     if made.kind == 1:
         raise MemoryError
     if made.kind in _FAULTS:
-        raise PolicyFault(_FAULTS[made.kind], made.line)
+        raise PolicyFault(check(text), made.line)
     if made.kind:
         raise ValueError("a timeout is less than 1")
 
 
 def _bytes_of(policy: str | bytes) -> bytes:
     return policy.encode() if isinstance(policy, str) else policy
+
+
+def check(policy: str | bytes) -> str:
+    """The lines that `racl check` tells of a policy: what is wrong, or else what is unlikely to be meant."""
+    text, lines = _bytes_of(policy), ctypes.create_string_buffer(0)
+    while True:
+        told = _LIBRARY.racl_check(text, len(text), ctypes.cast(lines, ctypes.c_char_p), len(lines))
+        if told.kind == 1:
+            raise MemoryError
+        if told.length == len(lines):
+            return lines.raw.decode()
+        lines = ctypes.create_string_buffer(told.length)
+
+
+def line_of(policy: str | bytes, answer: Answer, *, interface: int = 0) -> int:
+    """The line of a policy in which the rule stands that gave this answer on a frame of this interface; 0 where none did."""
+    text = _bytes_of(policy)
+    made = _LIBRARY.racl_line_of(text, len(text), interface, answer.direction, answer.rule)
+    _done(made, text)
+    return made.line
 
 
 class Judge:
@@ -125,7 +151,7 @@ class Judge:
         self._handle = _Handle()
         options = _Options(ctypes.sizeof(_Options), int(large), established, transient, udp)
         text = _bytes_of(policy)
-        _done(_LIBRARY.racl_new(self._handle, text, len(text), options))
+        _done(_LIBRARY.racl_new(self._handle, text, len(text), options), text)
 
     def judge(self, frame: bytes | SupportsBytes, *, time: int = 0, interface: int = 0) -> Answer:
         """The answer on an Ethernet frame, which may be a packet of scapy, seen at this interface in this second."""
@@ -139,7 +165,7 @@ class Judge:
     def set_policy(self, policy: str | bytes) -> None:
         """Judges by this policy from now on; sessions and timeouts stay. A fault leaves the policy that was there."""
         text = _bytes_of(policy)
-        _done(_LIBRARY.racl_set_policy(self._handle, text, len(text)))
+        _done(_LIBRARY.racl_set_policy(self._handle, text, len(text)), text)
 
     def counts(self) -> dict[str, int]:
         """How many frames were given each verdict."""

@@ -2,7 +2,7 @@
 import struct
 import unittest
 
-from racl import Direction, Judge, PolicyFault, Verdict
+from racl import Direction, Judge, PolicyFault, Verdict, check, line_of
 
 POLICY = """\
 mac 02:00:00:00:00:01
@@ -38,6 +38,11 @@ class PolicyTest(unittest.TestCase):
         self.judge.judge(frame(True, UDP, 4000, 53), time=10)
         self.assertEqual(self.judge.judge(frame(False, UDP, 53, 4000), time=41).verdict, Verdict.BY_DEFAULT)
 
+    def test_the_line_of_a_rule_is_told(self):
+        self.assertEqual(line_of(POLICY, self.judge.judge(frame(False, TCP, 4000, 22))), 3)
+        self.assertEqual(line_of(POLICY, self.judge.judge(frame(True, UDP, 4000, 123))), 0)
+        self.assertEqual(check(POLICY), "policy: rules 2 sections 1\n")
+
     def test_nothing_else_goes_out(self):
         self.assertFalse(self.judge.judge(frame(True, UDP, 4000, 123)).passes)
 
@@ -56,6 +61,7 @@ class PolicyTest(unittest.TestCase):
         with self.assertRaises(PolicyFault) as told:
             self.judge.set_policy("\nout permits ipv4 any any\n")
         self.assertEqual(told.exception.line, 2)
+        self.assertIn("line 2: `permits` is no action", str(told.exception))
         with self.assertRaises(ValueError):
             Judge(POLICY, udp=0)
 

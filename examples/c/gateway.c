@@ -157,9 +157,12 @@ static void make_judges(struct worker *workers, const char *name) {
     racl_options options = RACL_OPTIONS;
     if (is_large) options.tables = RACL_LARGE;
     racl_made made = racl_new(&workers[0].judge, area + begin, area_length - begin, &options);
+    if (made.kind == RACL_MEMORY) fail("no memory", "gateway");
     if (made.kind != RACL_DONE) {
-        fprintf(stderr, "%s: fault %u in line %llu\n", name, made.kind, (unsigned long long)made.line);
-        exit(3);
+        char lines[4096];
+        racl_checked told = racl_check(area + begin, area_length - begin, (uint8_t *)lines, sizeof lines);
+        fwrite(lines, 1, told.length < sizeof lines ? told.length : sizeof lines, stderr);
+        fail("no policy", name);
     }
     for (uint32_t i = 1; i < threads; i++)
         if (racl_split_wait(&workers[0].judge, &workers[i].judge) != RACL_DONE) fail("no memory", "gateway");

@@ -6,12 +6,17 @@ mod box_raw_parts;
 mod burst;
 mod content;
 mod content_calls;
+mod content_met_and_swept;
 mod flow_hash;
 mod handle;
 mod handle_is_send;
 mod options;
 mod place;
+mod policy_text;
 mod racl_calls;
+mod racl_calls_on_tables;
+mod sweep_answer;
+mod sweep_told;
 
 pub use answer_numbers::{
     Answer, BAD_LINE, BAD_OPTIONS, BY_DEFAULT, CONTENDED, DENY, DONE, ENDED, FULL, MALFORMED,
@@ -23,3 +28,5 @@ pub use flow_hash::Flow;
 pub use handle::Handle;
 pub use handle_is_send::handle_crosses;
 pub use options::Options;
+pub use policy_text::Checked;
+pub use sweep_told::Sweep;

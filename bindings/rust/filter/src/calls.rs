@@ -62,6 +62,19 @@ pub struct Counts {
     pub cut_short: u64,
 }
 
+#[repr(C)]
+pub struct RawChecked {
+    pub kind: u32,
+    pub length: u64,
+}
+
+#[repr(C)]
+pub struct RawSwept {
+    pub kind: u32,
+    pub next: u64,
+    pub went: u64,
+}
+
 unsafe extern "C" {
     pub fn racl_new(handle: *mut Handle, text: *const u8, length: usize, options: *const RawOptions) -> Made;
     pub fn racl_split(handle: *mut Handle, fresh: *mut Handle) -> u32;
@@ -91,4 +104,12 @@ unsafe extern "C" {
     pub fn racl_expire_ipv6(handle: *mut Handle, bucket: u64, second: u32) -> u32;
     pub fn racl_renew_ipv4(handle: *mut Handle) -> u32;
     pub fn racl_renew_ipv6(handle: *mut Handle) -> u32;
+    pub fn racl_check(text: *const u8, length: usize, buffer: *mut u8, room: usize) -> RawChecked;
+    pub fn racl_line_of(text: *const u8, length: usize, interface: u8, direction: u32, rule: u32) -> Made;
+    pub fn racl_meet(handle: *mut Handle, other: *mut Handle);
+    pub fn racl_is_lone(handle: *mut Handle) -> u32;
+    pub fn racl_sweep_ipv4(handle: *mut Handle, from: u64, to: u64, second: u32, most: u64) -> RawSwept;
+    pub fn racl_sweep_ipv6(handle: *mut Handle, from: u64, to: u64, second: u32, most: u64) -> RawSwept;
+    pub fn racl_unused_ipv4(handle: *mut Handle) -> u64;
+    pub fn racl_unused_ipv6(handle: *mut Handle) -> u64;
 }

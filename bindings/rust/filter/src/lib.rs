@@ -330,17 +330,45 @@ impl Worker {
 
     /// Sessions of these buckets that have ended by this second go; how many went.
     pub fn sweep(&mut self, family: Family, buckets: Range<u64>, second: u32) -> u64 {
-        let mut went = 0;
-        for bucket in buckets {
-            loop {
-                match self.try_expire(family, bucket, second) {
-                    Ok(true) => went += 1,
-                    Ok(false) => break,
-                    Err(Contended) => spin_loop(),
+        let (mut went, mut from) = (0, buckets.start);
+        loop {
+            let swept = unsafe {
+                match family {
+                    Family::V4 => calls::racl_sweep_ipv4(&mut self.handle, from, buckets.end, second, u64::MAX),
+                    Family::V6 => calls::racl_sweep_ipv6(&mut self.handle, from, buckets.end, second, u64::MAX),
                 }
+            };
+            went += swept.went;
+            if swept.kind != CONTENDED {
+                return went;
+            }
+            from = swept.next;
+            spin_loop();
+        }
+    }
+
+    /// How many pages of a family's table no bucket ever had, at some time during the call: a bound at best.
+    pub fn unused_pages(&mut self, family: Family) -> u64 {
+        unsafe {
+            match family {
+                Family::V4 => calls::racl_unused_ipv4(&mut self.handle),
+                Family::V6 => calls::racl_unused_ipv6(&mut self.handle),
             }
         }
-        went
+    }
+
+    /// Whether each other worker of the filter was joined into this one.
+    pub fn is_lone(&mut self) -> bool {
+        unsafe { calls::racl_is_lone(&mut self.handle) == 1 }
+    }
+
+    /// Tells two workers of a filter what either knows of its tables. Of two filters nothing is told, and `false` is answered.
+    pub fn meet(&mut self, other: &mut Worker) -> bool {
+        if other.filter != self.filter {
+            return false;
+        }
+        unsafe { calls::racl_meet(&mut self.handle, &mut other.handle) }
+        true
     }
 }
 
@@ -377,6 +405,29 @@ impl Filter {
         };
         done(told, 0)
     }
+}
+
+/// What `racl check` tells of a policy's text, line by line, and whether it is a policy.
+pub fn check(text: &[u8]) -> Result<(bool, String), Fault> {
+    let mut lines = Vec::new();
+    loop {
+        let told = unsafe { calls::racl_check(text.as_ptr(), text.len(), lines.as_mut_ptr(), lines.len()) };
+        if told.kind == 1 {
+            return Err(Fault::Memory);
+        }
+        if told.length as usize == lines.len() {
+            return Ok((told.kind == 0, String::from_utf8_lossy(&lines).into_owned()));
+        }
+        lines = vec![0; told.length as usize];
+    }
+}
+
+/// The line of a policy's text in which a rule stands that an answer names, on a frame of this interface. `None`: the policy has
+/// no such rule.
+pub fn line_of(text: &[u8], interface: u8, direction: Direction, rule: u32) -> Result<Option<u64>, Fault> {
+    let told = unsafe { calls::racl_line_of(text.as_ptr(), text.len(), interface, direction as u32 + 1, rule) };
+    done(told.kind, told.line)?;
+    Ok(if told.line == 0 { None } else { Some(told.line) })
 }
 
 impl Deref for Filter {

@@ -1,5 +1,5 @@
 //! Threads that judge the flows of one filter, and policies that are replaced meanwhile.
-use racl::{Answer, Descriptor, Direction, Family, Fault, Filter, Options, Tables, Verdict, Worker, flow_of};
+use racl::{Answer, Descriptor, Direction, Family, Fault, Filter, Options, Tables, Verdict, Worker, check, flow_of, line_of};
 use std::thread;
 
 const OUTWARD: &[u8] = b"mac 02:00:00:00:00:01\nout permit+reflect ipv4 any any\n";
@@ -78,4 +78,24 @@ fn bursts_and_flows() {
     assert_eq!(flow_of(0, &out), flow_of(0, &back));
     assert_ne!(flow_of(0, &out), flow_of(1, &out));
     assert_eq!(flow_of(0, &out[..20]), None);
+}
+
+#[test]
+fn workers_meet() {
+    let mut filter = Filter::new(OUTWARD, &Options::default()).unwrap();
+    let mut other = Filter::new(OUTWARD, &Options::default()).unwrap();
+    let mut worker = filter.split().unwrap();
+    worker.judge(0, 10, &frame(true, 4000));
+    assert!(filter.meet(&mut worker) && !filter.meet(&mut other) && !filter.is_lone());
+    filter.join(worker).unwrap();
+    assert!(filter.is_lone() && filter.unused_pages(Family::V4) < 16_384);
+}
+
+#[test]
+fn texts_are_told() {
+    assert_eq!(check(OUTWARD).unwrap().0, true);
+    let told = check(b"in permits ipv4 any any\n").unwrap();
+    assert!(!told.0 && told.1.starts_with("line 1: `permits` is no action"));
+    assert_eq!(line_of(OUTWARD, 0, Direction::Outbound, 1), Ok(Some(2)));
+    assert_eq!(line_of(OUTWARD, 0, Direction::Inbound, 1), Ok(None));
 }
