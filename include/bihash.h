@@ -16,7 +16,8 @@
    A bucket has its pairs in a block of 1, 2, 4 .. or 64 of the table's pages, of 4 places each. With keys spread at
    random a new table of keys of two words took some 28,000 pairs until a bucket's next block wasn't there (7,000 of
    five words; a large table 453,000 of either). A block that was given back is cut where a smaller one is wanted and
-   no other is there, and never made part of a larger one. A pair stays until it is removed: where values tell which
+   no other is there, and never made part of a larger one. Where a look removes a pair, its bucket changes to a smaller
+   block, if its other pairs fit one. A pair stays until it is removed: where values tell which
    sessions are over, sweep the buckets now and then, as bihash_sweep_wait does, and the blocks of ended sessions
    come back, although no packet of theirs comes. No call counts a table's pairs while it is in use. A program that
    adds up the answers of all its callers knows how many there are at most: those that were ADDED, less those that

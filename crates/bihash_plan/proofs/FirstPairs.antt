@@ -1,12 +1,12 @@
 -- The first pair of a list of places, and what stands behind it.
-use Rattle.std.proofs.Common.{◌≡◌, ◌≢◌, ◌<◌, ◌≤◌, ◌+◌, ◌↔◌, ◌∙◌, ℕ, Bool, true, false, List, [], ◌∷◌, ◌++◌, IsTrue, length, take, drop, get_or, map, arith, ap, refl, subst, sym}
+use Rattle.std.proofs.Common.{◌≡◌, ◌≢◌, ◌<◌, ◌≤◌, ◌+◌, ◌↔◌, ◌∙◌, ℕ, Bool, true, false, List, [], ◌∷◌, ◌++◌, IsTrue, length, take, drop, get_or, map, arith, ap, refl, sym}
 use Rattle.std.proofs.lemmas.Bool.{false≢true}
 use Rattle.std.proofs.lemmas.List.{length-drop, take-append-drop, take_all}
 use Rattle.std.proofs.lemmas.Option.{get_or_from_slice_get, slice_get-get_or}
 use Rattle.bihash_words.specs.Patches.{free_mark}
 use Rattle.bihash_words.specs.Pages.{Paging}
 use Rattle.bihash_plan.specs.Blocks.{IsFree, pairs}
-use Rattle.bihash_plan.specs.Plans.{Fits, keys_of}
+use Rattle.bihash_plan.specs.Plans.{keys_of}
 use Rattle.bihash_plan.specs.SmallerBlocks.{IsFirstPair, IsSmaller}
 use Rattle.bihash_plan.proofs.Pairs.{pairs-append, pairs_more, pairs_same}
 use Rattle.bihash_plan.proofs.Places.{free_at, free_inside}

@@ -1,6 +1,6 @@
 -- The pairs of a block but one, and the smaller block in which they are laid out.
-use Rattle.std.proofs.Common.{◌≡◌, ◌≢◌, ◌∙◌, ◌<◌, ◌≤◌, ◌*◌, ◌^◌, ◌∷◌, ℕ, Bool, true, false, List, [], Some, None, ap, arith, length, refl, set, subst, sym, inl, inr}
-use Rattle.std.specs.FinMap.{get, remove}
+use Rattle.std.proofs.Common.{◌≡◌, ◌≢◌, ◌∙◌, ◌<◌, ◌≤◌, ◌∷◌, ℕ, true, false, List, [], Some, ap, arith, length, refl, set, subst, sym, inl, inr}
+use Rattle.std.specs.FinMap.{remove}
 use Rattle.std.specs.List.{Contains}
 use Rattle.std.specs.Prelude.{slice_get}
 use Rattle.std.proofs.lemmas.List.{get_or-set_other, length-set}

@@ -8,6 +8,7 @@ mod dealt_packets;
 mod filters;
 mod frames;
 mod index;
+mod judges;
 mod lazy_patches;
 mod matching;
 mod policies;

@@ -4,9 +4,10 @@ ghost use Rattle.racl_io.specs.declared.fault.Fault.{Fault};
 ghost use Rattle.racl_io.specs.Faults.{IsInputFault, IsSystemFault, RefusesRead};
 ghost use Rattle.racl_io.specs.Inputs.{most_bytes};
 ghost use Rattle.racl_io.specs.Transfers.{GaveAtMost, HasReadWithin};
+ghost use Rattle.racl_report.specs.Saves.{failures_of};
 ghost use Rattle.racl_cli.specs.Reads.{AnswersRead, HasKept};
 ghost use Rattle.racl_cli.specs.Runs.{AnswersRight, HasRun};
-ghost use Rattle.racl_cli.specs.SavingRuns.{HasRunSaving};
+ghost use Rattle.racl_cli.specs.SavingRuns.{HasRunSaving, failures_in_all};
 
 use crate::bytes_at_hand::AtHand;
 use crate::digit_captures_in_turn::judge_digit_captures;
@@ -151,8 +152,7 @@ pub fn run_saving<R: Source + Send, W: Sink, S: Sink, T: Threads + Wait + Sync>(
 ) -> Result<Totals, Fault>
     requires reader { R.failures reader.old < 2 ^ 64 - 1 }
     requires writer { W.failures writer.old < 2 ^ 64 - 1 }
-    requires drops { IfSome saves.old.drops (λ file. S.failures file < 2 ^ 64 - 1) }
-    requires passes { IfSome saves.old.passes (λ file. S.failures file < 2 ^ 64 - 1) }
+    requires files { IfSome saves.old.drops (λ file. S.failures file < 2 ^ 64 - 1) × IfSome saves.old.passes (λ file. S.failures file < 2 ^ 64 - 1) }
     ensures ok { IfOk result (HasRunSaving S.bytes options.now (R.bytes reader.old) (W.bytes writer.old) (W.bytes writer.new) saves.old saves.new) }
     ensures accepts { IfSome (R.bytes reader.old) (λ bytes. AnswersRight options.now bytes (W.bytes writer.old) (W.bytes writer.new) result) }
     ensures fault { IfErr result (λ fault. IsSystemFault fault ⊎ IfSome (R.bytes reader.old) (λ bytes. IsInputFault bytes fault)) }
@@ -160,7 +160,12 @@ pub fn run_saving<R: Source + Send, W: Sink, S: Sink, T: Threads + Wait + Sync>(
     ensures far { GaveAtMost (R.bytes reader.old) (R.bytes reader.new) (most_bytes + 1) }
     ensures read { (result ≡ Err Fault.Read) ↔ (R.failures reader.new ≡ R.failures reader.old + 1) }
     ensures sound { result ≢ Err Fault.Read → R.failures reader.new ≡ R.failures reader.old }
-    ensures steady { result ≢ Err Fault.Write → W.failures writer.new ≡ W.failures writer.old }
+
+    // Write is answered exactly where one failed of the report's writer and the files, and then it failed once.
+    ensures write { (result ≡ Err Fault.Write) ↔ (failures_in_all W.failures S.failures writer.new saves.new ≡ failures_in_all W.failures S.failures writer.old saves.old + 1) }
+    ensures steady { result ≢ Err Fault.Write → (W.failures writer.new ≡ W.failures writer.old)
+        × (failures_of S.failures saves.new.drops ≡ failures_of S.failures saves.old.drops)
+        × (failures_of S.failures saves.new.passes ≡ failures_of S.failures saves.old.passes) }
     ensures ordered { W.failures writer.new ≡ W.failures writer.old + 1 → saves.new ≡ saves.old }
     ensures unwritten { IfErr result (λ fault. fault ≢ Fault.Write → (writer.new ≡ writer.old) × (saves.new ≡ saves.old)) }
 {

@@ -1,5 +1,5 @@
 //! Files that chosen packets are saved in.
-ghost use Rattle.std.specs.Prelude.{◌≡◌, ◌≤◌, ◌||◌, None, IfErr, IfOk, IfSome, IsTrue, is_err, is_some, length, option_map};
+ghost use Rattle.std.specs.Prelude.{◌≡◌, ◌-◌, ◌<◌, ◌≤◌, ◌^◌, ◌||◌, None, IfErr, IfOk, IfSome, IsTrue, is_err, is_some, length, option_map};
 ghost use Rattle.std.specs.Io.KnownBytes.{WriteAppends};
 ghost use Rattle.std.specs.IoError.{error_kind};
 ghost use Rattle.racl_options.specs.Checks.{text_behind};
@@ -106,7 +106,8 @@ fn file_to<'a, S: SystemFiles>(
     system: &'a S,
     name: Option<&'a str>,
 ) -> Option<Device<SaveFile<'a, S, S::File>>>
-    ensures { IsSaveOf system.entry.now (text_behind name.entry) result }
+    ensures named { IsSaveOf system.entry.now (text_behind name.entry) result }
+    ensures sound { IfSome result (λ file. file.failures < 2 ^ 64 - 1) }
 {
     match name {
         Some(name) => Some(Device::new(saved_to(system, name))),
@@ -121,6 +122,7 @@ pub fn saves_to<'a, S: SystemFiles>(
 ) -> Saves<Device<SaveFile<'a, S, S::File>>>
     ensures drops { IsSaveOf system.entry.now (text_behind saved.now.drops) result.drops }
     ensures passes { IsSaveOf system.entry.now (text_behind saved.now.passes) result.passes }
+    ensures sound { IfSome result.drops (λ file. file.failures < 2 ^ 64 - 1) × IfSome result.passes (λ file. file.failures < 2 ^ 64 - 1) }
 {
     Saves {
         drops: file_to(system, saved.drops),

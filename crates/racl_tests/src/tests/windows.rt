@@ -142,7 +142,14 @@ pub fn count_behind<T: Threads, R: Source + Send>(
     let Some(opening) = windows_test_opening(alloc, front) else {
         return Err(Fault::Memory);
     };
-    judge_stream(beside, alloc, reader, Counter { alloc, count: 0 }, opening, size)
+    judge_stream(
+        beside,
+        alloc,
+        reader,
+        Counter { alloc, count: 0 },
+        opening,
+        size,
+    )
 }
 
 // For tests of windows: how many packets were judged, and whether the capture was cut. The first 54 bytes are read

@@ -1,4 +1,3 @@
-use Rattle.std.proofs.Common.{arith}
 use Rattle.bihash_plan.proofs.FirstPairs.{first_found, first_more, first_none}
 use Rattle.bihash_plan.proofs.smaller_block.first_pair.Goals as goal
 

@@ -1,4 +1,4 @@
-use Rattle.std.proofs.Common.{◌≡◌, ◌∙◌, ◌*◌, ◌^◌, false, Some, Ok, ap, arith, refl, sym}
+use Rattle.std.proofs.Common.{◌∙◌, ◌*◌, ◌^◌, false, Some, Ok, ap, arith, refl, sym}
 use Rattle.bihash_words.specs.Sizes.{sizes_of}
 use Rattle.bihash_words.specs.declared.patch.Change.TheVariants.{Remove}
 use Rattle.bihash_words.specs.declared.patch.Reply.TheVariants.{Changed}

@@ -5,7 +5,8 @@ ghost use Rattle.bihash_rule.specs.Views.{nothing_held};
 
 use super::Call::{Add, Remove, Search, Touch};
 use super::{
-    BelowHundred, Row, add_keys_to_table, block, first_wrong, table_answer, table_refused, two_callers,
+    BelowHundred, Row, add_keys_to_table, block, first_wrong, table_answer, table_refused,
+    two_callers,
 };
 use bihash_table::{Caller, Sessions, create, create_cutting, stamp};
 use bihash_words::Reply::{Changed, Kept, NoPages, Worn};

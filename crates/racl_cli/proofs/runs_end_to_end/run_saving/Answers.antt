@@ -1,9 +1,9 @@
-use Rattle.std.proofs.Common.{◌∙◌, Ok, ap, inl, inr, subst, sym}
+use Rattle.std.proofs.Common.{◌∙◌, Ok, ap, arith, inl, inr, subst, sym}
 use Rattle.racl_io.specs.Faults.{IsSystemFault}
 use Rattle.racl_report.specs.RunReports.{JudgedFacts}
 use Rattle.racl_cli.proofs.OutcomeLemmas.{has_reported, kept_told, ran}
 use Rattle.racl_cli.proofs.SavingLemmas.{has_saved}
-use Rattle.racl_cli.proofs.ReadLemmas.{fault_of_right, fault_read, fault_refused, known_read}
+use Rattle.racl_cli.proofs.ReadLemmas.{fault_of_right, fault_read, fault_refused, known_read, unwritten}
 use Rattle.racl_cli.proofs.RunLemmas.{excluded_by_input}
 use Rattle.racl_cli.proofs.runs_end_to_end.run_saving.Goals as goal
 
@@ -15,6 +15,12 @@ returns-in-Err-clause-fault g c = fault_read c.args.options.now _ c.in-Err.fault
 
 pub returns-in-Err-clause-refuses : goal.returns-in-Err-clause-refuses
 returns-in-Err-clause-refuses g c = fault_refused c.args.options.now _ c.in-Err.fault c.in-Err.ensures.answers
+
+pub returns-in-Err-clause-write : goal.returns-in-Err-clause-write
+returns-in-Err-clause-write g c = (
+  (λ same. absurd (unwritten c.args.options.now _ c.in-Err.fault c.in-Err.ensures.answers (let e = same in cc))),
+  (λ failed. absurd (omega (arith, failed))),
+)
 
 pub returns-in-Err-write_judged-clause-refuses : goal.returns-in-Err-write_judged-clause-refuses
 returns-in-Err-write_judged-clause-refuses g c =

@@ -36,7 +36,7 @@ looks-preserved g c =
     let more = few_more (is_removal found) c.looks.went c.looks.looks so_far.gone in
     record {
       looked = subst (λ n. AreLooks g.A.Shape g.B.Shape c.args.family c.args.moment c.args.from c.args.to c.args.self.now n
-              c.past.result.0 c.past.result.1 c.expire.new.self) (sym (add-one c.looks.looks))
+          c.past.result.0 c.past.result.1 c.expire.new.self) (sym (add-one c.looks.looks))
           (c.looks.self, c.looks.next, c.looks.went, found, so_far.looked, inside, c.in-Ok.ensures, next, went);
       few = omega arith;
       gone = subst (λ n. n ≤ c.looks.looks + 1) (sym went) more;
@@ -68,10 +68,13 @@ returns-else-next-end g c =
       few = so_far.few;
       middle = c.looks.self;
       looked = so_far.looked;
-      over = λ same. (refl, inr (elim one [
-        | inl few ↦ inl few
-        | inr few ↦ inr (subst (λ n. n ≤ c.looks.next) c.bucket_count.ensures few)
-      ]));
+      over = λ same. (
+        refl,
+        inr (elim one [
+          | inl few ↦ inl few
+          | inr few ↦ inr (subst (λ n. n ≤ c.looks.next) c.bucket_count.ensures few)
+        ]),
+      );
       met = λ same. absurd (true≢false (sym same));
     }
 

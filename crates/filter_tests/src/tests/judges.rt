@@ -1,0 +1,68 @@
+//! A judge of packets that sweeps, and of which each family's table is closed. What is expected is worked out by hand.
+use super::TIMES;
+use super::session_tables::{NAMES, request_for_tables};
+use bihash_words::{ShapeV4, ShapeV6};
+use flow_judge::Judge;
+use flow_workers::Verdict;
+use packet_view::Family;
+use std::alloc::Global;
+
+// The verdict on a request, how many sessions each family's table gives then, and the verdict on the same request over the new
+// tables. `None`: memory was refused.
+fn verdicts_round_closed_tables(alloc: Global) -> Option<(Verdict, usize, usize, Verdict)> {
+    let Ok(mut judge) = Judge::<ShapeV4, ShapeV6>::new(alloc, NAMES.as_bytes(), TIMES) else {
+        return None;
+    };
+    let frame = request_for_tables(2);
+    let Ok(first) = judge.judge(0, 100, &frame) else {
+        return None;
+    };
+    let (four, judge) = judge.close_four(alloc);
+    let Ok(four) = four else {
+        return None;
+    };
+    let (six, mut judge) = judge.close_six(alloc);
+    let Ok(six) = six else {
+        return None;
+    };
+    let Ok(again) = judge.judge(0, 101, &frame) else {
+        return None;
+    };
+    Some((first.verdict, four.len(), six.len(), again.verdict))
+}
+
+#[test]
+fn a_closed_family_gives_its_sessions(rt: HostRuntime) {
+    let found = verdicts_round_closed_tables(rt.alloc());
+    assert!(rt; found == Some((Verdict::Reflect(1), 1, 0, Verdict::Reflect(1))));
+}
+
+// Whether a judge is alone, how many sessions of a request at second 100 went by this second and the next one, and how many
+// pages no bucket had then. `None`: memory was refused.
+fn swept_after_a_request(alloc: Global, moment: u32) -> Option<(bool, u64, u64, u64)> {
+    let Ok(mut judge) = Judge::<ShapeV4, ShapeV6>::new(alloc, NAMES.as_bytes(), TIMES) else {
+        return None;
+    };
+    let frame = request_for_tables(2);
+    if judge.judge(0, 100, &frame).is_err() {
+        return None;
+    }
+    let is_lone = judge.is_lone();
+    let live = judge.sweep(Family::V4, 0, 4096, moment, u64::MAX);
+    let ended = judge.sweep(Family::V4, 0, 4096, moment.saturating_add(1), u64::MAX);
+    if live.met || ended.met || live.next != 4096 || ended.next != 4096 {
+        return None;
+    }
+    Some((
+        is_lone,
+        live.went,
+        ended.went,
+        judge.unused_pages(Family::V4),
+    ))
+}
+
+#[test]
+fn a_judge_sweeps_what_has_ended(rt: HostRuntime) {
+    let found = swept_after_a_request(rt.alloc(), 700);
+    assert!(rt; found == Some((true, 0, 1, 16_383)));
+}
