@@ -1,10 +1,22 @@
-/* The packet filter of `racl` in other programs: a frame is handed over, and whether it passes is answered. Link libracl_c.a,
-   behind it liblibc_c.a (the toolchain's three functions over malloc), and the C library. It needs C11, or C++.
+/* The packet filter of `racl` in other programs: a frame is handed over, and whether it passes is answered. Link libracl,
+   as `make library` makes it, and the C library. It needs C11, or C++.
+
+       racl_handle judge;
+       racl_options options = RACL_OPTIONS;
+       racl_made made = racl_new(&judge, text, length, &options);
+       if (made.kind != RACL_DONE) exit(made.line);
+       racl_answer answer = racl_judge_wait(&judge, 0, second, frame, bytes);
+       if (answer.passes) forward(frame);
+       racl_free(&judge);
 
    A judge is a policy, timeouts, and session tables of IPv4 and IPv6. racl_new makes the first, racl_split one for each
-   other thread over the same tables, racl_join takes one back: keep it for the next thread, since tables give 65,535
-   numbers to judges and none twice. A session that one judge enters lets the frames through that another one is given.
+   other thread over the same tables, and racl_join ends one. Tables give 65,535 numbers to judges, and none twice, a joined
+   one's neither: so keep the judge of a thread that ends for the next thread. A session that one judge enters lets the
+   frames through that another one is given.
    Each judge has a policy of its own, which is that of the judge it was split of until it is replaced.
+
+   What stands in a policy before its first line `interface N` is the section of interface 0. An interface without a section
+   has no rules, and lets no IP packet in that is of no session.
 
    Any judge may judge any flow. Where another one stood in the way of a session's change, the answer is RACL_CONTENDED and
    nothing was done: try again, as the functions at the end of this page do. Frames of one flow that two threads hand over at
@@ -16,7 +28,8 @@
    - A handle is what the last call left there. It is never copied, written or read by others, and each call has it for
      itself: two threads never give one handle to calls at the same time. One that goes to another thread goes by the start or
      the end of a thread, a lock, or a sequentially consistent atomic.
-   - A handle that is given has a judge: it was made by racl_new or racl_split, and has not been joined or freed since. A call
+   - A handle that is given has a judge: it was made by racl_new or racl_split, which may find there anything at all, and has
+     not been joined or freed since; where the one that made it was refused, it has none. A call
      that takes two handles is given two different ones; racl_join and racl_meet, two over the same tables.
    - Pointers are never null, those to a frame, a text or a buffer of 0 bytes included, and what they point to is there in its whole
      length; no other thread changes it during the call.
@@ -42,7 +55,7 @@ typedef struct racl_handle {
   void *at;
 } racl_handle;
 
-/* A handle with nothing behind it. */
+/* A handle with nothing behind it, as join and free leave it. */
 #define RACL_NO_HANDLE {0}
 
 enum racl_kind {
@@ -66,14 +79,14 @@ enum racl_kind {
   RACL_BY_DEFAULT = 20, /* is dropped: no rule matches */
   RACL_WORN = 21,       /* is dropped: its session's bucket was changed 2^33 - 1 times and waits for a renewal */
   RACL_FULL = 22,       /* is dropped: its session's bucket has 256 sessions, all of them live */
-  RACL_NO_PAGES = 23,   /* is dropped: its session needs a block of pages that isn't there */
+  RACL_NO_PAGES = 23,   /* is dropped: its session needs a block of pages, and all threads' sessions left none that large */
   RACL_NOT_IP = 24,     /* passes: the frame carries no IP packet */
   RACL_MALFORMED = 25,  /* is dropped: the frame breaks the form of its headers */
-  RACL_SHORT = 26       /* is dropped: the packet ends within its transport header */
+  RACL_SHORT = 26       /* is dropped: the packet ends before what is looked at: 14 bytes of TCP, 4 of UDP, 2 of ICMP */
 };
 
 enum racl_direction {
-  RACL_NO_DIRECTION = 0, /* the frame shows no packet */
+  RACL_NO_DIRECTION = 0, /* of NOT_IP, MALFORMED and SHORT */
   RACL_INBOUND = 1,
   RACL_OUTBOUND = 2 /* the frame comes from the interface's own address */
 };
@@ -83,8 +96,9 @@ enum racl_tables {
   RACL_LARGE = 1     /* 1,048,576 places for each, and some 85 MB */
 };
 
-/* What a judge is made with. `size` is how many bytes this has. The seconds are how long sessions outlive their last packet:
-   of TCP where exactly SYN and ACK were seen of both sides, of other TCP, and of UDP and echoes; each is at least 1. */
+/* What a judge is made with. `size` is how many bytes this has. The seconds are how long sessions outlive their last packet
+   (at 600 one is live 600 seconds later, and has ended after 601): of TCP where exactly SYN and ACK were seen of both sides, of
+   other TCP, and of UDP and echoes; each is at least 1. */
 typedef struct racl_options {
   uint32_t size;
   uint32_t tables; /* an enum racl_tables */
@@ -196,19 +210,21 @@ racl_checked racl_check(const uint8_t *text, size_t length, uint8_t *buffer, siz
 racl_made racl_line_of(const uint8_t *text, size_t length, uint8_t interface, uint32_t direction, uint32_t rule);
 
 /* Judges by the policy and the timeouts of `other` from now on, of which it reads nothing anew, whatever tables `other` has.
-   DONE; MEMORY where more judges than the memory could have share the policy, and then the policy stays. */
+   Both handles are the call's own: threads that take from one do so under a lock. DONE; MEMORY where more judges than the
+   memory could have share the policy, and then the policy stays. */
 uint32_t racl_take_policy(racl_handle *handle, racl_handle *other);
 
 /* ---- Frames: from their Ethernet addresses on and without their checksum; seconds count from whenever the caller likes,
-   and are the same for all judges over the same tables ---- */
+   are the same for all judges over the same tables, and don't begin again at 0: a frame of an earlier second than its session's
+   last finds that live, and leaves it as late as it was. A frame's bytes are those that were kept of it ---- */
 
 /* One try of judging a frame of `length` bytes that was seen at the interface with this number in this second. It is never
    CONTENDED where the judge's tables are new and it was not split, nor where the frame takes no part in sessions. */
 racl_answer racl_judge(racl_handle *handle, uint8_t interface, uint32_t second, const uint8_t *frame, size_t length);
 
 /* Judges the frames that `count` descriptors name in an area of `length` bytes, in their order, and answers each at its place
-   among `room` answers. It ends before the first frame that is answered CONTENDED, and says how many were judged: that
-   frame's answer says so, and answers behind it are as they were. */
+   among `room` answers, so many at most. It ends before the first frame that is answered CONTENDED, and says how many were
+   judged: that frame's answer says so, and answers behind it are as they were. */
 size_t racl_judge_burst(racl_handle *handle, const uint8_t *memory, size_t length, const racl_descriptor *descriptors,
                         size_t count, racl_answer *answers, size_t room);
 
@@ -219,7 +235,9 @@ racl_flow racl_flow_of(uint8_t interface, const uint8_t *frame, size_t length);
 void racl_counts(racl_handle *handle, racl_count *counts);
 
 /* ---- Sessions that have ended hold their places until another takes them, or someone looks at their buckets, of which
-   tables have so many. Any judge may, at any time ---- */
+   tables have so many. Any judge may, at any time, by a second behind which no judge falls: a
+   session that went lets no late frame through. A frame, too, takes away its flow's session that has ended. Threads that sweep
+   the buckets that are dealt to them, as racl_worker_of deals flows, don't meet there ---- */
 
 #define RACL_IPV4_BUCKETS 4096
 #define RACL_IPV6_BUCKETS 1024
