@@ -19,8 +19,10 @@ MeetTold l m (Large s) (Large u) (Large t) (Large w) = AreMetJudges m s u t w
 MeetTold l m x other y met = ⊥
 
 -- whether the judge was found to be alone over its tables
-abbrev pub LoneTold : Layout → ℕ → JudgeState → JudgeState → Type 0
-LoneTold l answer s t = (is_lone : Bool) × (answer ≡ one_if is_lone) × TellsLoneJudge l s t is_lone
+pub record LoneTold (l : Layout) (answer : ℕ) (s t : JudgeState) : Type 0 where
+  pub is_lone : Bool
+  pub is : TellsLoneJudge l s t is_lone
+  pub same : answer ≡ one_if is_lone
 
 -- the number for a sweep that met another judge, or none
 abbrev pub met_number : Bool → ℕ

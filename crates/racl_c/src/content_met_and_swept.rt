@@ -4,6 +4,7 @@ ghost use Rattle.racl_c.specs.Contents.{AreOfOneTable, Calls, HasJudge};
 ghost use Rattle.racl_c.specs.Meetings.{LoneTold, MeetTold, SweepTold, UnusedTold};
 
 use crate::content::Content;
+use crate::lone_answer::lone_answer;
 use crate::sweep_answer::sweep_answer;
 use crate::sweep_told::Sweep;
 use bihash_words::{Shape, ShapeV4, ShapeV6};
@@ -46,8 +47,8 @@ impl Content {
             (LoneTold (layout_of ⟦<LargeV4 as Shape>⟧ ⟦<LargeV6 as Shape>⟧) result) }
     {
         match self {
-            Content::Standard(judge) => u32::from(judge.is_lone()),
-            Content::Large(judge) => u32::from(judge.is_lone()),
+            Content::Standard(judge) => lone_answer(judge.is_lone()),
+            Content::Large(judge) => lone_answer(judge.is_lone()),
             Content::Empty => unreachable!(),
         }
     }

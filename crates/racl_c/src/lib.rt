@@ -10,6 +10,7 @@ mod content_met_and_swept;
 mod flow_hash;
 mod handle;
 mod handle_is_send;
+mod lone_answer;
 mod options;
 mod place;
 mod policy_text;
