@@ -53,8 +53,8 @@ class ShortWrites(Case):
 
     def test_failed_read_as_packets_come(self):
         self.hold("capture", self.whole)
-        # (the header, and then 64 KiB)
-        lines = b"".join(b"%d %s\n" % (number, it.encode()) for number, it in enumerate(self.verdicts[:65536 // 58], 1))
+        # (the header, and then 32 KiB)
+        lines = b"".join(b"%d %s\n" % (number, it.encode()) for number, it in enumerate(self.verdicts[:32768 // 58], 1))
         for failing, told in (("1", b""), ("2", b""), ("3", lines)):
             env = {**self.env, "FAILED_FILE": self.capture, "FAILED_READ": failing}
             got = self.program.run(["--live", self.policy, self.capture], env=env)
