@@ -12,7 +12,7 @@
 
 // The second rises by one every PACE calls of all threads, and a pair is over after TIMEOUT seconds. A call looks at LOOKS
 // buckets behind the ones that its thread looked at before.
-enum { THREADS = 4, KEPT = 100, PACE = 250, TIMEOUT = 2, LOOKS = 2 };
+enum { THREADS = 4, KEPT = 600, PACE = 250, TIMEOUT = 2, LOOKS = 2 };
 
 static uint64_t calls = 1000000;
 static atomic_long wrong;
