@@ -1,5 +1,5 @@
 -- The exit statuses of a check (this project's profile).
-use Rattle.std.specs.Prelude.{◌≡◌, ◌<◌, ◌⊎◌, ℕ, zero, suc, List, Option, IfSome, length}
+use Rattle.std.specs.Prelude.{◌≡◌, ◌+◌, ◌<◌, ◌⊎◌, ℕ, zero, suc, List, Option, IfSome, length}
 use Rattle.acl_policy.specs.Policies.{IsPolicyText, PolicyFacts}
 use Rattle.racl_io.specs.Inputs.{most_bytes}
 
@@ -12,3 +12,9 @@ abbrev pub IsCheckStatus : Option (List ℕ) → ℕ → Type 0
 IsCheckStatus text zero = IfSome text (λ bytes. (policy : PolicyFacts) × IsPolicyText bytes policy)
 IsCheckStatus text (suc zero) = IfSome text IsNoPolicy
 IsCheckStatus text status = status ≡ 4
+
+-- what a check that ended with this status did to the writer of what it tells: 4 is answered where the writer failed once
+-- more, and else only where nothing was written
+pub record HasToldWith {W : Type 0} (failures : W → ℕ) (old new : W) (status : ℕ) : Type 0 where
+  pub failed : failures new ≡ failures old + 1 → status ≡ 4
+  pub whole : status ≡ 4 → (failures new ≡ failures old + 1) ⊎ (new ≡ old)

@@ -1,5 +1,5 @@
 -- What is read by a name (this project's profile).
-use Rattle.std.specs.Prelude.{◌≡◌, ◌+◌, ℕ, List, Option, Some, IfSome, map, take}
+use Rattle.std.specs.Prelude.{◌≡◌, ◌+◌, ◌<◌, ℕ, zero, suc, List, Option, Some, IfSome, length, map, take}
 use Rattle.std.specs.Global.{Vec}
 use Rattle.std.specs.Io.Cursor.{cursor_remaining}
 use Rattle.std.specs.declared.io.impls.Cursor.{Cursor}
@@ -23,3 +23,9 @@ captures_left standard file captures = map (marked_left (left_in standard file))
 -- what is held of known bytes: all that an input may have, and a byte more where there is one
 abbrev pub IsHeld : Option (List ℕ) → Option (List ℕ) → Type 0
 IsHeld all held = IfSome all (λ bytes. held ≡ Some (take (most_bytes + 1) bytes))
+
+-- the status where the policy of a live run can't be had: 1 where its text, as far as it is known, has more bytes than an
+-- input may have, and else 4
+abbrev pub IsLiveStatus : Option (List ℕ) → ℕ → Type 0
+IsLiveStatus text (suc zero) = IfSome text (λ all. most_bytes < length all)
+IsLiveStatus text status = status ≡ 4

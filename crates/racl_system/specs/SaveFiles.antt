@@ -1,5 +1,5 @@
 -- Files that packets are saved in (this project's profile).
-use Rattle.std.specs.Prelude.{◌≡◌, ℕ, List, Bool, false, Option, None, Some, ⊤, is_some}
+use Rattle.std.specs.Prelude.{◌≡◌, ℕ, List, Bool, false, Option, None, Some, IfSome, ⊤, is_some}
 use Rattle.clap.specs.Words.{Text}
 use Rattle.racl_io.specs.declared.device.Device.{Device}
 use Rattle.racl_system.specs.declared.save_file.SaveFile.{SaveFile}
@@ -17,6 +17,14 @@ written_in emptied contents (Some file) = contents file
 -- what a file has in which packets are saved: before its first write nothing becomes of what is there, and then it is emptied
 abbrev pub saved_in : {S F : Type 0} → (S → Text → Option (List ℕ)) → (F → Option (List ℕ)) → SaveFile S F → Option (List ℕ)
 saved_in emptied contents save = written_in (emptied save.system.now save.name.now) contents save.file
+
+-- what was written to a file in which packets are saved is on its device, where there is one
+abbrev pub IsSynced : {S F : Type 0} → (F → Option (List ℕ)) → (F → Option (List ℕ)) → SaveFile S F → Type 0
+IsSynced synced contents save = IfSome save.file (λ file. synced file ≡ contents file)
+
+-- so it is, where the file has not failed
+abbrev pub IsLeftSynced : {S F : Type 0} → (F → Option (List ℕ)) → (F → Option (List ℕ)) → Option (Device (SaveFile S F)) → Type 0
+IsLeftSynced synced contents file = has_failed file ≡ false → IfSome file (λ d. IsSynced synced contents d.inner)
 
 -- the file of this name in this system, to which nothing was done
 pub record IsUnwritten {S F : Type 0} (system : S) (name : Text) (save : SaveFile S F) : Type 0 where

@@ -8,6 +8,7 @@ ghost use Rattle.racl_system.specs.WordStatuses.{IsWordsStatus};
 use crate::file_checking::check_file;
 use crate::say_and_answer_status::say_refused;
 use crate::system_files::SystemFiles;
+use racl_io::Device;
 use racl_options::{Asked, check_name, options};
 use std::alloc::Global;
 use std::io;
@@ -46,7 +47,12 @@ pub fn asked_or_status<'a, S: SystemFiles + Print + Eprint>(
             Ok(asked) => Ok(Ok(asked)),
             Err(error) => Ok(Err(say_refused(system, &error)?)),
         },
-        Ok(Some(name)) => Ok(Err(check_file(system, alloc, name)?)),
+        Ok(Some(name)) => Ok(Err(check_file(
+            system,
+            alloc,
+            name,
+            &mut Device::new(system.standard_output()),
+        )?)),
         Err(error) => Ok(Err(say_refused(system, &error)?)),
     }
 }

@@ -1,7 +1,7 @@
 //! The files of a run over a capture that comes.
-ghost use Rattle.std.specs.Prelude.{◌≡◌, ◌+◌, ◌≤◌, ◌⊎◌, IfErr, IfOk, IfSome, length, take};
+ghost use Rattle.std.specs.Prelude.{◌≡◌, ◌+◌, ◌≤◌, IfErr, IfOk, IfSome, length, take};
 ghost use Rattle.racl_io.specs.Inputs.{most_bytes};
-ghost use Rattle.racl_system.specs.Readers.{left_in};
+ghost use Rattle.racl_system.specs.Readers.{IsLiveStatus, left_in};
 
 use crate::named_reader::{Reader, bytes_of, opened_or_told};
 use crate::say_and_answer_status::say_fault;
@@ -29,7 +29,7 @@ fn live_policy_text<S: SystemFiles + Eprint>(
     ensures few { IfOk result (λ found. IfOk found (λ text. length text.items ≤ most_bytes)) }
     ensures text { IfOk result (λ found. IfOk found (λ text.
         IfSome (S.named system.now name.now) (λ all. text.items ≡ take (most_bytes + 1) all))) }
-    ensures status { IfOk result (λ found. IfErr found (λ status. (status ≡ 1) ⊎ (status ≡ 4))) }
+    ensures status { IfOk result (λ found. IfErr found (IsLiveStatus (S.named system.now name.now))) }
 {
     let policy = match opened_or_told(system, name) {
         Ok(Some(policy)) => policy,
@@ -59,7 +59,7 @@ pub fn opened_live<S: SystemFiles + Eprint>(
         IfSome (S.named system.now files.now.policy.now) (λ all. opened.text.items ≡ take (most_bytes + 1) all))) }
     ensures capture { IfOk result (λ found. IfOk found (λ opened.
         left_in S.Input.remaining S.File.remaining opened.capture ≡ S.named system.now files.now.capture.now)) }
-    ensures status { IfOk result (λ found. IfErr found (λ status. (status ≡ 1) ⊎ (status ≡ 4))) }
+    ensures status { IfOk result (λ found. IfErr found (IsLiveStatus (S.named system.now files.now.policy.now))) }
 {
     let text = match live_policy_text(system, alloc, files.policy) {
         Ok(Ok(text)) => text,

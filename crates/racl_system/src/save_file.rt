@@ -3,7 +3,7 @@ ghost use Rattle.std.specs.Prelude.{◌≡◌, ◌-◌, ◌<◌, ◌≤◌, ◌^
 ghost use Rattle.std.specs.Io.KnownBytes.{WriteAppends};
 ghost use Rattle.std.specs.IoError.{error_kind};
 ghost use Rattle.racl_options.specs.Checks.{text_behind};
-ghost use Rattle.racl_system.specs.SaveFiles.{IsSaveOf, IsUnwritten, has_failed, saved_in};
+ghost use Rattle.racl_system.specs.SaveFiles.{IsLeftSynced, IsSaveOf, IsSynced, IsUnwritten, has_failed, saved_in};
 
 use crate::system_files::SystemFiles;
 use racl_io::Device;
@@ -80,8 +80,9 @@ impl<S: SystemFiles> SaveFile<'_, S, S::File> {
         ensures failed { IsTrue (is_some self.old.reason) → self.new ≡ self.old }
         ensures unopened { self.old.file ≡ None → self.new ≡ self.old }
         ensures bytes { saved_in S.emptied S.File.contents self.new ≡ saved_in S.emptied S.File.contents self.old }
+        ensures synced { self.new.reason ≡ None → IsSynced S.synced S.File.contents self.new }
     {
-        if let (None, Some(file)) = (&self.reason, &self.file)
+        if let (None, Some(file)) = (&self.reason, &mut self.file)
             && let Err(reason) = S::sync(file)
         {
             self.reason = Some(reason);
@@ -136,6 +137,7 @@ fn settled_file<'a, S: SystemFiles>(
 ) -> Option<Device<SaveFile<'a, S, S::File>>>
     ensures failed { IsTrue (has_failed file.entry) → result ≡ file.entry }
     ensures bytes { option_map (λ d. saved_in S.emptied S.File.contents d.inner) result ≡ option_map (λ d. saved_in S.emptied S.File.contents d.inner) file.entry }
+    ensures synced { IsLeftSynced S.synced S.File.contents result }
 {
     let Some(mut file) = file else {
         return None;
@@ -153,6 +155,7 @@ pub fn settled<'a, S: SystemFiles>(
     ensures passes { IsTrue (has_failed saves.entry.passes) → result.passes ≡ saves.entry.passes }
     ensures dropped { option_map (λ d. saved_in S.emptied S.File.contents d.inner) result.drops ≡ option_map (λ d. saved_in S.emptied S.File.contents d.inner) saves.entry.drops }
     ensures passed { option_map (λ d. saved_in S.emptied S.File.contents d.inner) result.passes ≡ option_map (λ d. saved_in S.emptied S.File.contents d.inner) saves.entry.passes }
+    ensures synced { IsLeftSynced S.synced S.File.contents result.drops × IsLeftSynced S.synced S.File.contents result.passes }
 {
     let Saves { drops, passes } = saves;
     Saves {
@@ -187,5 +190,7 @@ pub fn say_unsaved<S: Drop, F: Drop>(
     ensures { IfOk result (λ failed. failed ≡ (has_failed saves.entry.drops || has_failed saves.entry.passes)) }
 {
     let Saves { drops, passes } = saves;
-    Ok(say_failed_save(rt, drops)? || say_failed_save(rt, passes)?)
+    let dropped = say_failed_save(rt, drops)?;
+    let passed = say_failed_save(rt, passes)?;
+    Ok(dropped || passed)
 }

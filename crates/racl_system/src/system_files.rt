@@ -1,5 +1,5 @@
 //! The files that names lead to.
-ghost use Rattle.std.specs.Prelude.{◌≡◌, ℕ, List, Option, None, IfErr, IfOk, IsTrue, ◌↔◌, false};
+ghost use Rattle.std.specs.Prelude.{◌≡◌, ℕ, List, Option, None, IfErr, IfOk, IsTrue, OnOk, ◌↔◌, false};
 ghost use Rattle.std.specs.IoError.{raw_os_error};
 ghost use Rattle.racl_options.specs.Origins.{is_standard};
 ghost use Rattle.racl_system.specs.Syncs.{IsNeverSynced};
@@ -31,6 +31,9 @@ pub trait SystemFiles {
     /// The bytes that the file of a name has when it was created or emptied, where they are known.
     ghost emptied: { Self → List ℕ → Option (List ℕ) };
 
+    /// The bytes of a file that are on its device, where they are known.
+    ghost synced: { Self.File → Option (List ℕ) };
+
     fn standard_input(&self, name: &str) -> Self::Input
         requires { IsTrue (is_standard name.now) }
         ensures { Self.Input.remaining result ≡ named self.now name.now };
@@ -47,7 +50,9 @@ pub trait SystemFiles {
         ensures { IfOk result (λ file. Self.File.contents file ≡ emptied self.now name.now) };
 
     /// Puts on its device what was written to a file, so that a write that was delayed and that failed is told.
-    fn sync(file: &Self::File) -> io::Result<()>;
+    fn sync(file: &mut Self::File) -> io::Result<()>
+        ensures bytes { Self.File.contents file.new ≡ Self.File.contents file.old }
+        ensures synced { OnOk result (synced file.new ≡ Self.File.contents file.new) };
 }
 
 // Whether the reason why a file can't be synced is that such a file never can.
@@ -76,6 +81,8 @@ impl SystemFiles for HostRuntime {
 
     ghost emptied = { λ _ _. None };
 
+    ghost synced = { λ _. None };
+
     fn standard_input(&self, _name: &str) -> Stdin {
         self.stdin()
     }
@@ -97,7 +104,7 @@ impl SystemFiles for HostRuntime {
     }
 
     // The toolchain tells nothing of how closing ends.
-    fn sync(file: &File) -> io::Result<()>
+    fn sync(file: &mut File) -> io::Result<()>
         ensures { IfErr result (λ reason. IsNeverSynced (raw_os_error reason) → ⊥) }
     {
         match sync_regular(file) {
