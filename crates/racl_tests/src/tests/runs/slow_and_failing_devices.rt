@@ -106,12 +106,12 @@ fn run_on_slow_devices(rt: HostRuntime) {
     assert!(rt; writer.taken.as_slice() == whole_run_report());
 }
 
-/// Runs on failing devices: wherever a read fails, nothing is written.
+/// Runs on failing devices: where a read fails, of the policy, the marker line, the digits or at the end, nothing is written.
 #[test]
 fn runs_with_failing_reads(rt: HostRuntime) {
     let alloc = rt.alloc();
     let input = whole_run_input();
-    for reads in 0..=input.len() {
+    for reads in [0, 1, 21, 72, 74, 76, 130, 400, input.len()] {
         let mut reader = Drip {
             rest: input,
             reads,
