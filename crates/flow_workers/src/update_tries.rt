@@ -52,6 +52,7 @@ impl Tries for OneTry {
 
     ghost took = { TookByOneTry };
 
+    #[inline(always)]
     fn update_words<S: Shape, P: Patch, E: Expiry>(
         &self,
         table: &Sessions<S>,
