@@ -1,5 +1,6 @@
-"""Runs the tests that need no proof, the gate, the edits that must be refused and the checks, says how long each part took, and adds
-up what passed and failed. Where one of these tests fails the rest isn't run, so that a broken change is told in minutes.
+"""Runs the tests without a proof, the gate, the edits that must be refused and the checks, says how long each part took, and adds
+up what passed and failed. Where one of these tests fails the rest isn't run, so that a broken change is told in minutes. Rows,
+examples and corpus wait for the built programs, which checks/run compares them on with more workers than a trial has time for.
 
 The gate is `rt ci`, which leaves each library and program that it proved in crates/NAME/out, a program as LLVM builds it
 and as Rattle's own compiler does. Where all of it passed, the launcher takes the first one for the program of these
@@ -19,6 +20,7 @@ import kit
 PROGRAM = "crates/racl/out/racl"
 TABLE_PROGRAM = "crates/table_alloc_probe/out/table_alloc_probe"
 BY_RATTLE = ".by-rattle"
+CRATES_OF_TESTS = ("racl_tests", "filter_tests", "bihash_tests")
 COUNTS = re.compile(r"(\d+) passed, (\d+) failed")
 
 # What the gate says of a crate as it comes to it.
@@ -100,8 +102,8 @@ def used():
 
 def main():
     start = time.monotonic()
-    quick = counted(*followed([sys.executable, "checks/quick"], lambda _: None))
-    print(f"the tests that need no proof took {time.monotonic() - start:.0f} s and {used() / 60:.1f} processor minutes", flush=True)
+    quick = counted(*followed([sys.executable, "checks/quick", *CRATES_OF_TESTS], lambda _: None))
+    print(f"the tests without a proof took {time.monotonic() - start:.0f} s and {used() / 60:.1f} processor minutes", flush=True)
     if quick[1]:
         print(f"{quick[0]} passed, {quick[1]} failed")
         sys.exit(1)

@@ -78,6 +78,14 @@ class Files(Case):
         second = "" if name == "other" else SWAPPED
         self.compare(self.run_on(data + b"\xff", NAMES), wanted(stderr=f"racl: policy is not UTF-8\n{second}", status=1))
 
+    @each([(f"a line {it.decode()!r} in the policy's file", it) for it in (b"pcap", b"hex\r\nd4\n", b"hex 0\n", b"hex 255\nin deny\n")])
+    def marked_policy(self, line):
+        want = wanted(stderr="racl: policy line 3 is wrong\n", status=1)
+        self.compare(self.run_on(NAMES + line, CAPTURE), want, "one capture")
+        files = [self.hold("policy", NAMES + line), f"--interface=7={self.hold('capture', CAPTURE)}"]
+        self.compare(self.program.run(files), want, "an interface")
+        self.compare(self.run_on(b"in deny\n" + NAMES + line, CAPTURE), wanted(stderr="racl: policy line 1 is wrong\n", status=1))
+
     def test_out_rules_without_an_own_address(self):
         got = self.run_on(NAMES.partition(b"\n")[2] + b"interface 7\n" + RULES, CAPTURE)
         unlooked = (f"racl: {self.policy}: interface {it} has no mac line, so none of its out rules is looked at\n" for it in (0, 7))

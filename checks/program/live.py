@@ -1,11 +1,14 @@
 """Verdicts that are written as packets come."""
+import importlib.util
 import subprocess
 import threading
 
 from support.captures import (CAPTURE, DEFAULTS, MOST_BYTES, MOST_KEPT, NAMES, OTHERS, PUT_TOGETHER, RULES, header, parts_of, record,
                               report_of, udp)
-from support.cases import SECONDS, Case, each, wanted
+from support.cases import SECONDS, TOP, Case, each, wanted
 from support.large_inputs import LARGE
+
+EXAMPLE = importlib.util.spec_from_file_location("live_example", f"{TOP}/examples/python/live.py")
 
 ONE, TWO = udp(100, True, (1, 1000), (2, 53)), udp(105, False, (2, 53), (1, 1000))
 
@@ -41,6 +44,13 @@ class Live(Case):
             got = told_piece_by_piece(self.program, live, [*pieces, (last, 0)])
             lines = [b"", b"", b"1 pass rule 1 reflect\n", b"2 pass session\n", b"", told]
             self.compare(got, {"told": lines, "stderr": b"", "status": status}, f"status {status}")
+
+    def test_example_in_python(self):
+        example = importlib.util.module_from_spec(EXAMPLE)
+        EXAMPLE.loader.exec_module(example)
+        packets = [(second, made[16:]) for second, made in ((100, ONE), (105, TWO), (706, TWO))]
+        got = list(example.judged(self.hold("policy", NAMES), packets, self.program.path))
+        self.assertEqual(got, ["pass rule 1 reflect", "pass session", "drop default"])
 
     @each(LARGE)
     def large(self, made):

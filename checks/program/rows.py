@@ -14,5 +14,3 @@ class Rows(Case):
             for number in WORKERS if not row.has_fault else WORKERS[:1]:
                 got = self.program.run([*words, "--workers", number], data)
                 self.compare(got, want, shown(data), f"{number} workers")
-            if not row.has_fault:
-                self.compare_lines(words, data, want)

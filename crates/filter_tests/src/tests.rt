@@ -3,7 +3,6 @@ use session_state::Timeouts;
 use std::test::Fail;
 
 mod captures;
-mod dealing_by_flow;
 mod dealt_packets;
 mod filters;
 mod frames;

@@ -6,6 +6,7 @@ pub mod Judges
 pub mod JudgeStates
 pub mod Meetings
 pub mod Renewals
+pub mod RuleCounting
 pub mod Sweeps
 pub mod TablesShares
 pub mod Ways

@@ -79,4 +79,11 @@ impl<A: Shape, B: Shape> Judge<A, B> {
     {
         self.counts
     }
+
+    /// How long sessions live by which the judge judges.
+    pub fn times(&self) -> Timeouts
+        ensures { result ≡ self.now.times }
+    {
+        self.filter.times()
+    }
 }

@@ -13,7 +13,9 @@ mod judge_swept;
 mod judged;
 mod judges_met;
 mod judges_split_and_joined;
+mod loads_ahead;
 mod packet_bucket;
+mod rule_counts;
 mod swept;
 mod tables_share;
 
@@ -21,4 +23,5 @@ pub use counts::Counts;
 pub use judge::Judge;
 pub use judged::Judged;
 pub use packet_bucket::{FlowBucket, flow_bucket};
+pub use rule_counts::RuleCounts;
 pub use swept::Swept;

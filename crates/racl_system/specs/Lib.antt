@@ -1,5 +1,6 @@
 pub mod CheckStatuses
 pub mod FaultyCaptures
+pub mod MarkedPolicies
 pub mod NamedFiles
 pub mod Places
 pub mod Readers

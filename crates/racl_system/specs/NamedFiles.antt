@@ -1,9 +1,10 @@
 -- The names of an input's files, and the interfaces of its captures (this project's profile).
-use Rattle.std.specs.Prelude.{◌≡◌, ℕ, List, [], ◌∷◌, Option, codes, map, option_map, slice_get}
+use Rattle.std.specs.Prelude.{◌≡◌, ℕ, List, [], ◌∷◌, Option, IfSome, codes, map, option_map, slice_get}
 use Rattle.clap.specs.Words.{Text}
 use Rattle.racl_io.specs.Joined.{marked_bytes}
 use Rattle.racl_io.specs.declared.marker_line.Form.TheVariants.{Binary, Numbered}
 use Rattle.racl_options.specs.Origins.{CaptureFacts, OriginFacts, FromStandard, FromFiles, FromInterfaces}
+use Rattle.racl_system.specs.MarkedPolicies.{IsUnmarked}
 use Rattle.racl_system.specs.Readers.{IsHeld}
 
 -- what the policy comes from
@@ -37,8 +38,12 @@ marked_captures named FromStandard = []
 marked_captures named (FromFiles policy capture) = marked_bytes Binary (named capture) ∷ []
 marked_captures named (FromInterfaces policy captures) = interfaces_marked named captures
 
+-- what is held of a policy's file, in which no marker line stands
+abbrev pub IsFileText : Option (List ℕ) → Option (List ℕ) → Type 0
+IsFileText all left = IsHeld all left × IfSome left IsUnmarked
+
 -- what the policy's reader has left: all that standard input has, or what is held of the policy's file
 abbrev pub IsPolicyOf : (Text → Option (List ℕ)) → OriginFacts → Option (List ℕ) → Type 0
 IsPolicyOf named FromStandard left = left ≡ named (codes "-")
-IsPolicyOf named (FromFiles policy capture) left = IsHeld (named policy) left
-IsPolicyOf named (FromInterfaces policy captures) left = IsHeld (named policy) left
+IsPolicyOf named (FromFiles policy capture) left = IsFileText (named policy) left
+IsPolicyOf named (FromInterfaces policy captures) left = IsFileText (named policy) left

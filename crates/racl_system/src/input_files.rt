@@ -1,23 +1,25 @@
 //! The files of an input.
-ghost use Rattle.std.specs.Prelude.{◌≡◌, ◌∷◌, [], IfErr, IfOk, IfSome, map};
+ghost use Rattle.std.specs.Prelude.{◌≡◌, ◌∷◌, ◌⊎◌, [], IfErr, IfNone, IfOk, IfSome, map};
 ghost use Rattle.racl_io.specs.Joined.{marked_bytes};
 ghost use Rattle.racl_io.specs.Writings.{marked_left};
 ghost use Rattle.racl_io.specs.declared.marker_line.Form.TheVariants.{Binary};
 ghost use Rattle.racl_options.specs.Checks.{text_behind};
 ghost use Rattle.racl_options.specs.Origins.{capture_facts, origin_facts};
+ghost use Rattle.racl_system.specs.MarkedPolicies.{IsMarkedFault, IsUnmarked};
 ghost use Rattle.racl_system.specs.NamedFiles as named;
 ghost use Rattle.racl_system.specs.NamedFiles.{IsPolicyOf, interfaces_marked, marked_captures, policy_of};
-ghost use Rattle.racl_system.specs.Readers.{captures_left, left_in};
+ghost use Rattle.racl_system.specs.Readers.{IsHeld, captures_left, left_in};
 
-use crate::named_reader::{Reader, held_reader, opened_or_told};
+use crate::named_reader::{Reader, bytes_of, opened_or_told};
 use crate::say_and_answer_status::say_fault;
 use crate::system_files::SystemFiles;
-use racl_io::{Form, Marked, joined_capture};
+use acl_policy::read_policy;
+use racl_io::{Fault, Form, Marked, joined_capture, split_input};
 use racl_options::{CaptureFile, Origin};
 use racl_report::Hint;
 use std::alloc::Global;
 use std::io;
-use std::io::{Eprint, IsTerminal};
+use std::io::{Cursor, Eprint, IsTerminal, Read};
 
 /// The readers of an input.
 #[derive(Drop)]
@@ -166,8 +168,40 @@ fn say_where_terminal<S: SystemFiles + Eprint>(system: &S) {
     }
 }
 
-/// Opens the files of an input, and reads its policy where that is a file's. Where one can't be had that is told, and
-/// the status is answered.
+// The fault of a policy's file where a marker line stands in it: such a line is a wrong one.
+fn marked_policy_fault(alloc: Global, text: &[u8]) -> Option<Fault>
+    ensures none { IfNone result (IsUnmarked text.now) }
+    ensures some { IfSome result (IsMarkedFault text.now) }
+{
+    match split_input(text) {
+        None => None,
+        Some(_) => match read_policy(alloc, text) {
+            Ok(_) => None,
+            Err(cause) => Some(Fault::from(cause)),
+        },
+    }
+}
+
+// Reads a policy's file, and holds its text, so that it can be looked at again.
+fn held_policy<S: Read + Drop, F: Read + Drop>(
+    alloc: Global,
+    reader: Reader<S, F>,
+) -> Result<Reader<S, F>, Fault>
+    ensures held { IfOk result (λ held. IsHeld (left_in S.remaining F.remaining reader) (left_in S.remaining F.remaining held)) }
+    ensures unmarked { IfOk result (λ held. IfSome (left_in S.remaining F.remaining held) IsUnmarked) }
+{
+    let text = match bytes_of(alloc, reader) {
+        Ok(text) => text,
+        Err(fault) => return Err(fault),
+    };
+    match marked_policy_fault(alloc, &text) {
+        None => Ok(Reader::Held(Cursor::new(text))),
+        Some(fault) => Err(fault),
+    }
+}
+
+/// Opens the files of an input, and reads its policy where that is a file's, in which a marker line is a wrong line. Where
+/// one can't be had or is wrong so, that is told, and the status is answered.
 pub fn opened_input<S: SystemFiles + Eprint>(
     system: &S,
     alloc: Global,
@@ -177,7 +211,7 @@ pub fn opened_input<S: SystemFiles + Eprint>(
         IsPolicyOf (S.named system.now) (origin_facts origin.now) (left_in S.Input.remaining S.File.remaining parts.policy))) }
     ensures captures { IfOk result (λ found. IfOk found (λ parts.
         captures_left S.Input.remaining S.File.remaining parts.captures.items ≡ marked_captures (S.named system.now) (origin_facts origin.now))) }
-    ensures status { IfOk result (λ found. IfErr found (λ status. status ≡ 4)) }
+    ensures status { IfOk result (λ found. IfErr found (λ status. (status ≡ 1) ⊎ (status ≡ 4))) }
 {
     let Parts { policy, captures } = match opened_parts(system, alloc, origin) {
         Ok(Some(parts)) => parts,
@@ -188,7 +222,7 @@ pub fn opened_input<S: SystemFiles + Eprint>(
         say_where_terminal(system);
         return Ok(Ok(Parts { policy, captures }));
     }
-    let fault = match held_reader(alloc, policy) {
+    let fault = match held_policy(alloc, policy) {
         Ok(policy) => return Ok(Ok(Parts { policy, captures })),
         Err(fault) => fault,
     };

@@ -2,7 +2,7 @@
 ghost use Rattle.std.specs.Prelude.{◌≡◌, ◌+◌, ◌≤◌, ◌⊎◌, IfErr, IfOk, IfSome, length, take};
 ghost use Rattle.racl_io.specs.Inputs.{most_bytes};
 ghost use Rattle.racl_io.specs.declared.fault.Fault.TheVariants.{Memory, Read as ReadFault};
-ghost use Rattle.racl_system.specs.Readers.{IsHeld, left_in};
+ghost use Rattle.racl_system.specs.Readers.{left_in};
 
 use crate::system_files::SystemFiles;
 use racl_io::{Device, Fault, MOST_BYTES, read_until};
@@ -73,20 +73,6 @@ pub fn bytes_of<R: Read + Drop>(alloc: Global, reader: R) -> Result<Vec<u8>, Fau
     let mut bytes = Vec::new(alloc);
     match read_until(&mut Device::new(reader), &mut bytes, MOST_BYTES + 1) {
         Ok(_) => Ok(bytes),
-        Err(fault) => Err(fault),
-    }
-}
-
-/// Reads that from a named reader, and holds it, so that it can be looked at again.
-pub fn held_reader<S: Read + Drop, F: Read + Drop>(
-    alloc: Global,
-    reader: Reader<S, F>,
-) -> Result<Reader<S, F>, Fault>
-    ensures held { IfOk result (λ held. IsHeld (left_in S.remaining F.remaining reader) (left_in S.remaining F.remaining held)) }
-    ensures faults { IfErr result (λ fault. (fault ≡ Memory) ⊎ (fault ≡ ReadFault)) }
-{
-    match bytes_of(alloc, reader) {
-        Ok(bytes) => Ok(Reader::Held(Cursor::new(bytes))),
         Err(fault) => Err(fault),
     }
 }

@@ -3,12 +3,12 @@ use std::test::Fail;
 
 mod checks;
 mod command_line_words;
+mod devices;
 mod digits;
 mod explained_packets;
 mod hits_and_sessions;
 mod input_parts;
 mod joined_readers_and_first_bytes;
-mod reads_and_drains;
 mod reports;
 mod runs;
 mod saved;

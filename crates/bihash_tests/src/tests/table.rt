@@ -14,7 +14,6 @@ mod block_growth;
 mod closing;
 mod cut_blocks;
 mod exhaustion;
-mod open_reads;
 mod recycling;
 mod renewal;
 mod several_callers;

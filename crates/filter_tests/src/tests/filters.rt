@@ -1,13 +1,12 @@
-//! Rules of both directions, flows, and the verdicts that the rules alone give.
+//! Rules that are searched one by one and by their index, and those of each interface.
 ghost use Rattle.std.specs.Prelude.{IsTrue};
 ghost use Rattle.packet_view.specs.Addresses.{fields_suit};
 ghost use Rattle.packet_view.specs.declared.tuple.Family.TheVariants as Family;
 
 use super::{TIMES, filter_test_refused};
 use acl_policy::{Action, read_policy};
-use flow_filter::{Filter, verdict_of_rules};
+use flow_filter::Filter;
 use packet_view::{Direction, Family, Fields, Mac, Tuple};
-use session_state::Verdict;
 use std::alloc::{AllocError, Global};
 use std::test::Fail;
 
@@ -34,18 +33,6 @@ fn filter_of(alloc: Global, text: &[u8]) -> Option<Filter> {
         }),
         Err(_) => None,
     }
-}
-
-/// A filter that is ready has the own address of the policy's section, and the timeouts.
-#[test]
-fn a_filter_is_ready(rt: HostRuntime) -> Result<(), Fail> {
-    let Some(filter) = filter_of(rt.alloc(), b"mac 02:00:00:0a:0b:ff\n") else {
-        return filter_test_refused();
-    };
-    let ready = filter.ready(0);
-    assert!(rt; ready.own == Some(Mac([2, 0, 0, 10, 11, 255])));
-    assert!(rt; ready.times.transient == 120);
-    Ok(())
 }
 
 /// The policy of a test's filter: 70 times `in deny ipv4 any any tcp`, and then a rule for UDP.
@@ -111,43 +98,4 @@ fn filter_of_two_interfaces(rt: HostRuntime) -> Result<(), Fail> {
         assert!(rt; inbound.first_match(&udp) == rule);
     }
     Ok(())
-}
-
-/// The verdicts that a filter's rules alone give, by the place of the rule that decides.
-#[test]
-fn filter_rules_begin_at_1(rt: HostRuntime) {
-    assert!(rt; verdict_of_rules(None) == Verdict::ByDefault);
-    for (number, action, verdict) in [
-        (0, Action::Deny, Verdict::Deny(1)),
-        (4, Action::Permit, Verdict::Permit(5)),
-        (9, Action::Reflect, Verdict::Permit(10)),
-    ] {
-        assert!(rt; verdict_of_rules(Some((number, action))) == verdict);
-    }
-}
-
-/// Each verdict of a filter: whether its packet passes or is dropped.
-#[test]
-fn which_verdicts_pass(rt: HostRuntime) {
-    let passing = [
-        Verdict::Session,
-        Verdict::Reflect(1),
-        Verdict::Permit(1),
-        Verdict::NotIp,
-    ];
-    for verdict in passing {
-        assert!(rt; verdict.passes());
-    }
-    let dropped = [
-        Verdict::Deny(1),
-        Verdict::ByDefault,
-        Verdict::Worn,
-        Verdict::Full,
-        Verdict::NoPages,
-        Verdict::Malformed,
-        Verdict::Short,
-    ];
-    for verdict in dropped {
-        assert!(rt; !verdict.passes());
-    }
 }

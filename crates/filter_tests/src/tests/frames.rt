@@ -1,7 +1,5 @@
 //! Frames byte by byte, with the views that the standards give them, of which `checks/rows/frames.txt` has more.
-use packet_view::{
-    Direction, Family, Fields, Frame, Mac, PlainPacket, Tuple, plain, plain_frame, view,
-};
+use packet_view::{Direction, Family, Fields, Frame, Mac, PlainPacket, Tuple, plain, view};
 
 const OWN: Option<Mac> = Some(Mac([2, 0, 0, 0, 0, 1]));
 
@@ -74,37 +72,4 @@ fn reads_plain_frames(rt: HostRuntime) {
     ] {
         assert!(rt; plain(frame) == Some(packet));
     }
-}
-
-#[test]
-fn other_frames_are_not_plain(rt: HostRuntime) {
-    let tagged = [
-        0x02, 0, 0, 0, 0, 0x02, 0x02, 0, 0, 0, 0, 0x01, // addresses
-        0x88, 0xa8, 0x00, 0x02, 0x81, 0x00, 0x00, 0x01, 0x08, 0x00, // tags and type
-        0x45, 0, 0, 0x1c, 0, 0, 0, 0, 0x40, 0x11, 0, 0, 10, 0, 0, 1, 10, 0, 0, 2, // IPv4
-        0x03, 0xe8, 0x00, 0x35, 0x00, 0x08, 0, 0, // UDP
-    ];
-    let options = [
-        0x02, 0, 0, 0, 0, 0x02, 0x02, 0, 0, 0, 0, 0x01, 0x08, 0x00, // Ethernet
-        0x46, 0, 0, 0x20, 0, 0, 0, 0, 0x40, 0x11, 0, 0, 10, 0, 0, 1, 10, 0, 0, 2, // IPv4
-        0x01, 0x01, 0x01, 0x01, // options
-        0x03, 0xe8, 0x00, 0x35, 0x00, 0x08, 0, 0, // UDP
-    ];
-    let mut later = UDP;
-    later[21] = 1;
-    // and 13 bytes of TCP
-    for frame in [
-        tagged.as_slice(),
-        options.as_slice(),
-        later.as_slice(),
-        &TCP[..47],
-    ] {
-        assert!(rt; plain(frame) == None);
-    }
-}
-
-#[test]
-fn sees_plain_frames(rt: HostRuntime) {
-    assert!(rt; plain_frame(&UDP, 0, OWN) == Some(Frame::Ip(Direction::Outbound, UDP_TUPLE)));
-    assert!(rt; plain_frame(&TCP[..47], 0, None) == None);
 }

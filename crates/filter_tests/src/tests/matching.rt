@@ -24,22 +24,6 @@ pub fn rule(
     }
 }
 
-/// A packet from 10.0.0.2:80 to 10.0.0.1:1000 by TCP, for tests of matching.
-fn tcp(flags: u8) -> Tuple {
-    Tuple {
-        interface: 0,
-        family: Family::V4,
-        source: 0x0a000002,
-        dest: 0x0a000001,
-        proto: 6,
-        fields: Fields::Tcp {
-            from: 80,
-            to: 1000,
-            flags,
-        },
-    }
-}
-
 /// A packet from 10.0.0.2 to 10.0.0.1 by UDP, for tests of matching.
 pub fn udp(from: u16, to: u16) -> Tuple {
     Tuple {
@@ -61,15 +45,6 @@ pub fn later_fragment(proto: u8) -> Tuple {
         dest: 0x0a000001,
         proto,
         fields: Fields::Absent,
-    }
-}
-
-/// Matching by a rule for every protocol, whatever its ranges and flags are, which no policy's text sets.
-#[test]
-fn every_protocol(rt: HostRuntime) {
-    let all = [rule(Action::Permit, 0, (7, 7), (7, 7), (1, 1))];
-    for tuple in [udp(1, 2), tcp(0), later_fragment(47)] {
-        assert!(rt; first_match(&all, &tuple) == Some((0, Action::Permit)));
     }
 }
 

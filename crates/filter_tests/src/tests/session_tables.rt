@@ -5,8 +5,7 @@ use super::TIMES;
 use acl_policy::{PolicyFault, read_policy};
 use bihash_words::{Shape, ShapeV6, Tiny};
 use flow_workers::{
-    Callers, CloseFault, Filter, Tables, Unclosed, Verdict, close_tables, create_tables, judge,
-    renew_tables, try_judge,
+    Callers, Filter, Tables, Verdict, create_tables, judge, renew_tables, try_judge,
 };
 use packet_view::{Family, Packet};
 use std::alloc::Global;
@@ -112,35 +111,6 @@ fn first_wrong_of_renewed<A: Shape>(
     Some(wrong.or(first_wrong_over_tables(&filter, &tables, &mut callers, rows)))
 }
 
-// How many pairs each session table had behind these rows, where that of IPv6 has another caller when both are closed, and is
-// closed by itself once that one is joined.
-fn pairs_of_tables_closed_in_turn<A: Shape>(alloc: Global, rows: &[Row]) -> Option<(usize, usize)>
-    requires shapes { AreShapes ⟦<A as Shape>⟧ ⟦<ShapeV6 as Shape>⟧ }
-{
-    let Ok(filter) = filter_for_session_tables(alloc, NAMES) else {
-        return None;
-    };
-    let Ok((tables, mut callers)) = create_tables::<A, ShapeV6>(alloc) else {
-        return None;
-    };
-    let wrong = first_wrong_over_tables(&filter, &tables, &mut callers, rows);
-    let Callers { four, six } = callers;
-    let Ok((six, other)) = tables.six.split(alloc, six) else {
-        return None;
-    };
-    let callers = Callers { four, six };
-    let Err((CloseFault::Strangers, Unclosed::Six(pairs, table, six))) = close_tables(
-        alloc, tables, callers,
-    ) else {
-        return None;
-    };
-    let six = table.join(six, other);
-    match table.close(alloc, six) {
-        Ok(pairs_six) if wrong.is_none() => Some((pairs.len(), pairs_six.len())),
-        _ => None,
-    }
-}
-
 // The verdict on a frame over new session tables, by as many tries as it takes.
 fn verdict_over_session_tables<A: Shape, R: Wait>(
     rt: &R,
@@ -190,13 +160,6 @@ fn renewed_under_the_filter(rt: HostRuntime) {
     assert!(rt; wrong == Some(None));
 }
 
-// Where the session table of IPv6 can't be closed, the pairs of that of IPv4 aren't lost, and it is closed later.
-#[test]
-fn closed_in_turn_under_the_filter(rt: HostRuntime) {
-    let found = pairs_of_tables_closed_in_turn::<Tiny<8, 3>>(rt.alloc(), &WORN[..1]);
-    assert!(rt; found == Some((1, 0)));
-}
-
 // A request judged over new session tables, by as many tries as it takes.
 #[test]
 fn judges_over_session_tables(rt: HostRuntime) {
@@ -221,20 +184,6 @@ fn recycled_session(rt: HostRuntime) {
     rows[19] = (200, 8, true, Verdict::ByDefault);
     rows[20] = (200, 16, true, Verdict::Session);
     let wrong = first_wrong_of_new::<Tiny<8, 1000>>(rt.alloc(), &rows);
-    assert!(rt; wrong == Some(None));
-}
-
-// Packets judged over a session table of two pages.
-#[test]
-fn no_pages_under_the_filter(rt: HostRuntime) {
-    let rows = [
-        (100, 2, false, Verdict::Reflect(1)),
-        (100, 4, false, Verdict::Reflect(1)),
-        (100, 6, false, Verdict::Reflect(1)),
-        (100, 8, false, Verdict::Reflect(1)),
-        (100, 10, false, Verdict::NoPages),
-    ];
-    let wrong = first_wrong_of_new::<Tiny<2, 1000>>(rt.alloc(), &rows);
     assert!(rt; wrong == Some(None));
 }
 

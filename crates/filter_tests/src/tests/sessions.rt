@@ -43,18 +43,6 @@ fn session_tcp(source: u32, from: u16, dest: u32, to: u16, flags: u8) -> Tuple {
     }
 }
 
-// A packet of ICMP with this type and code 0, for tests of flow keys and sessions.
-fn session_icmp(source: u32, dest: u32, kind: u8) -> Tuple {
-    Tuple {
-        interface: 0,
-        family: Family::V4,
-        source: u128::from(source),
-        dest: u128::from(dest),
-        proto: 1,
-        fields: Fields::Icmp { kind, code: 0 },
-    }
-}
-
 // The flow of IPv4 that a test of sessions expects, by the words of its key.
 fn four(first: u64, last: u64, side: u8, starts: bool) -> Option<Flow> {
     Some(Flow {
@@ -62,20 +50,6 @@ fn four(first: u64, last: u64, side: u8, starts: bool) -> Option<Flow> {
         side,
         starts,
     })
-}
-
-// A UDP packet whose decision on its session is tested.
-fn of_udp(moment: u32, side: u8, reflects: bool) -> PacketPatch
-    requires { side < 2 }
-{
-    PacketPatch {
-        moment,
-        side,
-        flags: 0,
-        tcp: false,
-        reflects,
-        times: TIMES,
-    }
 }
 
 // A TCP packet whose decision on its session is tested.
@@ -115,18 +89,6 @@ fn keys_of_udp_and_tcp(rt: HostRuntime) {
     assert!(rt; sent == four(key, 0x03e8_0050_0600_0000, 1, true));
 }
 
-// Keys of sessions: of one address the lesser port stands first.
-#[test]
-fn keys_of_one_address(rt: HostRuntime) {
-    let both = 0x0a00_0001_0a00_0001;
-    let crossed = orient(&session_udp(NET + 1, 2000, NET + 1, 1000));
-    assert!(rt; crossed == four(both, 0x03e8_07d0_1100_0000, 1, true));
-    let tie = orient(&session_udp(NET + 1, 53, NET + 1, 53));
-    assert!(rt; tie == four(both, 0x0035_0035_1100_0000, 0, true));
-    let reply = orient(&session_icmp(NET + 1, NET + 1, 0));
-    assert!(rt; reply == four(both, 0x0000_0000_0100_0000, 0, false));
-}
-
 /// Keys of sessions, and the senders' sides, of plain packets by UDP and TCP.
 #[test]
 fn keys_of_plain_packets(rt: HostRuntime) {
@@ -155,31 +117,6 @@ fn keys_of_plain_packets(rt: HostRuntime) {
         0,
     );
     assert!(rt; Some(sent.flow()) == four(key, 0x03e8_0050_0600_0000, 1, true));
-}
-
-// Keys of sessions: a flow at another interface has another key, and both its directions have that one.
-#[test]
-fn interface_in_the_key(rt: HostRuntime) {
-    let key = 0x0a00_0001_0a00_0002;
-    let mut asked = session_udp(NET + 1, 1000, NET + 2, 53);
-    asked.interface = 2;
-    let asked = orient(&asked);
-    assert!(rt; asked == four(key, 0x03e8_0035_1100_0002, 0, true));
-    let mut answered = session_udp(NET + 2, 53, NET + 1, 1000);
-    answered.interface = 2;
-    let answered = orient(&answered);
-    assert!(rt; answered == four(key, 0x03e8_0035_1100_0002, 1, true));
-}
-
-/// Keys of sessions of ICMP: an echo reply has the key of its request, and starts no session.
-#[test]
-fn echo_both_ways(rt: HostRuntime) {
-    let asked = four(0x0a00_0001_0a00_0002, 0x0000_0000_0100_0000, 0, true);
-    assert!(rt; orient(&session_icmp(NET + 1, NET + 2, 8)) == asked);
-    let back = four(0x0a00_0002_0a00_0001, 0x0000_0000_0100_0000, 0, true);
-    assert!(rt; orient(&session_icmp(NET + 2, NET + 1, 8)) == back);
-    let replied = four(0x0a00_0001_0a00_0002, 0x0000_0000_0100_0000, 1, false);
-    assert!(rt; orient(&session_icmp(NET + 2, NET + 1, 0)) == replied);
 }
 
 /// Keys of sessions over IPv6: of a packet of UDP, and of an echo reply.
@@ -241,32 +178,6 @@ fn tcp_session(rt: HostRuntime) {
     assert!(rt; first == Change::Set(0x0001_0002_0000_03e8));
 }
 
-/// Sessions of UDP and of an echo: the last second, and seconds that go back and near their end.
-#[test]
-fn boundary_second(rt: HostRuntime) {
-    for (moment, is_answer, reflects, found, change) in [
-        (100, false, true, None, Change::Set(100)),
-        (100, false, true, Some(100), Change::Set(100)),
-        (700, true, false, Some(100), Change::Set(700)),
-        (701, true, false, Some(100), Change::Remove),
-        (701, false, true, Some(100), Change::Set(701)),
-        (701, true, false, None, Change::Keep),
-        (100, true, false, Some(500), Change::Set(500)),
-        (1100, true, false, Some(500), Change::Set(1100)),
-        (
-            4_294_967_295,
-            true,
-            false,
-            Some(4_294_967_000),
-            Change::Set(4_294_967_295),
-        ),
-    ] {
-        let side = if is_answer { 1 } else { 0 };
-        let packet = of_udp(moment, side, reflects);
-        assert!(rt; packet.decide(found) == change, "at {moment}");
-    }
-}
-
 /// The word of a session that is half open, the flags seen of its sides, and its last second.
 #[test]
 fn half_open_session_word(rt: HostRuntime) {
@@ -279,17 +190,4 @@ fn half_open_session_word(rt: HostRuntime) {
     // half open
     let ends = (session.live_at(1120, &TIMES), session.live_at(1121, &TIMES));
     assert!(rt; (session.timeout(&TIMES), ends) == (120, (true, false)));
-}
-
-/// Stored words that stand for no session.
-#[test]
-fn words_of_no_session(rt: HostRuntime) {
-    // A bit above the kind, and a flag that isn't kept on either side.
-    for word in [
-        0x0002_0000_0000_0000,
-        0x0001_0008_0000_03e8,
-        0x0001_2000_0000_03e8,
-    ] {
-        assert!(rt; Session::from_word(word) == None);
-    }
 }

@@ -147,7 +147,6 @@ struct Asked<'t> {
     filter: &'t Filter,
     workers: usize,
     dealing: Dealing,
-    ages: bool,
 }
 
 // The verdicts of a test's workers on two parts, one after the other, of which they hand over the first's; then the pairs
@@ -183,7 +182,7 @@ fn verdicts_on_parts<R: Threads + Wait + Sync, G: Gate + Sync>(
         dealing: asked.dealing,
         workers: asked.workers,
         many: 0,
-        ages: asked.ages,
+        ages: false,
     };
     let Ok(mut begun) = Workers::new(alloc, setup, callers) else {
         return Err(RunFault::Memory);
@@ -280,7 +279,6 @@ fn two_workers_at_once(rt: HostRuntime) -> Result<(), Fail> {
             filter: &filter,
             workers: 2,
             dealing,
-            ages: false,
         };
         let Ok((found, ..)) = verdicts_on_parts(&rt, alloc, asked, &gate, &packets, &packets) else {
             return filter_test_refused();
@@ -337,7 +335,6 @@ fn workers_judge_two_parts(rt: HostRuntime) -> Result<(), Fail> {
         filter: &filter,
         workers: 2,
         dealing: Dealing::Bucket,
-        ages: false,
     };
     let Ok((found, four, others)) = verdicts_on_parts(&rt, alloc, asked, &gate, &first, &second)
     else {
@@ -358,65 +355,5 @@ fn workers_judge_two_parts(rt: HostRuntime) -> Result<(), Fail> {
     assert!(rt; others == 0);
     assert!(rt; gate.before.load(Ordering::SeqCst) == 0x0101_0101);
     assert!(rt; gate.after.load(Ordering::SeqCst) == 0x0101_0101);
-    Ok(())
-}
-
-// A packet of a test with this frame.
-fn packet_at(moment: u32, frame: &[u8; 42]) -> Packet<'_> {
-    Packet {
-        interface: 0,
-        moment,
-        frame,
-    }
-}
-
-// Workers that age: a session of second 100 has ended in second 701, and is removed from second 761 on, that of second 200
-// stays. Each of four workers has a packet of the second part, and so looks at all of its own buckets.
-#[test]
-fn sessions_that_ended_are_removed(rt: HostRuntime) -> Result<(), Fail> {
-    let alloc = rt.alloc();
-    let Ok(filter) = filter_for_session_tables(alloc, NAMES) else {
-        return filter_test_refused();
-    };
-    let early = [request_for_tables(2), request_for_tables(3)];
-    let between = [request_for_tables(4), request_for_tables(5)];
-    let late = [request_for_tables(6), answer_for_tables(4)];
-    let rows = [
-        (1, true, 760, 5),
-        (1, true, 761, 3),
-        (4, true, 760, 5),
-        (4, true, 761, 3),
-        (4, false, 761, 5),
-    ];
-    for (workers, ages, moment, left) in rows {
-        let first = [
-            packet_at(100, &early[0]),
-            packet_at(100, &early[1]),
-            packet_at(200, &between[0]),
-            packet_at(200, &between[1]),
-        ];
-        let second = [
-            packet_at(moment, &late[0]),
-            packet_at(moment, &late[0]),
-            packet_at(moment, &late[1]),
-            packet_at(moment, &late[1]),
-        ];
-        let gate = Counts {
-            before: AtomicU64::new(0),
-            after: AtomicU64::new(0),
-        };
-        let asked = Asked {
-            filter: &filter,
-            workers,
-            dealing: Dealing::Round,
-            ages,
-        };
-        let Ok((found, four, _)) = verdicts_on_parts(&rt, alloc, asked, &gate, &first, &second)
-        else {
-            return filter_test_refused();
-        };
-        assert!(rt; found.as_slice().get(6).copied() == Some(Verdict::Session));
-        assert!(rt; four.len() == left);
-    }
     Ok(())
 }

@@ -2,10 +2,8 @@
 ghost use Rattle.std.specs.Prelude.{◌≡◌, IfSome};
 
 use super::racl_test_refused;
-use racl_cli::remark;
-use racl_io::{Fault, Form, FrontKept, Joined, Other, joined_capture, other_file, read_until};
+use racl_io::{Form, Joined, Other, joined_capture, other_file, read_until};
 use std::alloc::Global;
-use std::io::Read;
 use std::test::Fail;
 
 // For tests of first bytes: 24 bytes that begin with these and have this link field.
@@ -59,25 +57,6 @@ fn readers_are_one_source(rt: HostRuntime) -> Result<(), Fail> {
     Ok(())
 }
 
-// For tests of joined readers: how many bytes came by a read with room for 20.
-fn read_of(kept: &mut FrontKept<&'static [u8]>) -> Option<usize> {
-    let mut room = [0; 20];
-    match kept.read(&mut room) {
-        Ok(count) => Some(count),
-        Err(_) => None,
-    }
-}
-
-/// First bytes of what is read: they are there afterwards.
-#[test]
-fn first_bytes_are_kept(rt: HostRuntime) {
-    let mut kept = FrontKept::new(b"abcdefghijklmnopqrstuvwxyz".as_slice());
-    assert!(rt; read_of(&mut kept) == Some(20));
-    assert!(rt; kept.front() == b"abcdefghijklmnopqrst".as_slice());
-    assert!(rt; read_of(&mut kept) == Some(6));
-    assert!(rt; kept.front() == b"abcdefghijklmnopqrstuvwxyz".as_slice());
-}
-
 #[test]
 fn first_bytes_tell_other_files(rt: HostRuntime) {
     const CASES: [([u8; 4], [u8; 4], Option<Other>); 7] = [
@@ -98,13 +77,4 @@ fn first_bytes_tell_other_files(rt: HostRuntime) {
     }
     let pcapng = first_bytes([0x0a, 0x0d, 0x0d, 0x0a], [0; 4]);
     assert!(rt; told_of_fewer(&pcapng) == None);
-}
-
-/// First bytes of files that are no captures of Ethernet: after which faults this is told.
-#[test]
-fn first_bytes_make_a_remark(rt: HostRuntime) {
-    let pcapng = first_bytes([0x0a, 0x0d, 0x0d, 0x0a], [0; 4]);
-    assert!(rt; remark(&Err(Fault::Magic), &pcapng) == Some(Other::Pcapng));
-    assert!(rt; remark(&Err(Fault::LinkType), &pcapng) == Some(Other::Pcapng));
-    assert!(rt; remark(&Err(Fault::Short), &pcapng) == None);
 }

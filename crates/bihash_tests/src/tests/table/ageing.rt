@@ -8,8 +8,8 @@ use super::{
     BelowHundred, Row, add_keys_to_table, block, first_wrong, table_answer, table_refused,
     two_callers,
 };
-use bihash_table::{Caller, Sessions, create, create_cutting, stamp};
-use bihash_words::Reply::{Changed, Kept, NoPages, Worn};
+use bihash_table::{Caller, Sessions, create, create_cutting};
+use bihash_words::Reply::{Changed, Kept, NoPages};
 use bihash_words::Tiny;
 use std::sync::Wait;
 use std::test::Fail;
@@ -47,30 +47,6 @@ fn a_sweep_gives_pages_back(rt: HostRuntime) -> Result<(), Fail> {
     assert!(rt; block(&table, caller, 0) == (0, 0, false));
     const AGAIN: [Row; 1] = [(Add(9), [1, 0], Changed(None), (1, 1))];
     assert!(rt; first_wrong(&table, caller, &AGAIN) == None);
-    Ok(())
-}
-
-// Ageing, one try at a time: each removes one expired pair, or says that there is none, or that the bucket's writes are
-// used up.
-#[test]
-fn tries_to_expire(rt: HostRuntime) -> Result<(), Fail> {
-    let Ok((table, mut caller)) = create::<Tiny<8, 4>>(rt.alloc()) else {
-        return table_refused();
-    };
-    let caller = &mut caller;
-    assert!(rt; table.try_expire(caller, 0, &BelowHundred) == Ok(None));
-    const ADDED: [Row; 3] = [
-        (Add(7), [0, 0], Changed(None), (0, 1)),
-        (Add(107), [2, 0], Changed(None), (0, 2)),
-        (Add(8), [4, 0], Changed(None), (0, 3)),
-    ];
-    assert!(rt; first_wrong(&table, caller, &ADDED) == None);
-    assert!(rt; table.try_expire(caller, 0, &BelowHundred) == Ok(Some(Changed(Some(7)))));
-    assert!(rt; stamp(caller) == Some((0, 4)));
-    assert!(rt; table.try_expire(caller, 0, &BelowHundred) == Ok(Some(Worn(Some(8)))));
-    assert!(rt; stamp(caller) == Some((0, 4)));
-    assert!(rt; table.expire(&rt, caller, 1, &BelowHundred) == None);
-    assert!(rt; table.sweep(&rt, caller, 0, 2, &BelowHundred) == 0);
     Ok(())
 }
 

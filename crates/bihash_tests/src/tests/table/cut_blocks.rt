@@ -79,29 +79,3 @@ fn block_of_four_pages_stays_whole(rt: HostRuntime) -> Result<(), Fail> {
     assert!(rt; block(&table, &mut caller, 1) == (0, 0, false));
     Ok(())
 }
-
-// Cut blocks: a table of nine pages whose buckets have blocks of four pages each, then of two, then one of four again. Of
-// the blocks at pages 2 and 6 the last returned one is cut.
-#[test]
-fn load_changes_by_sizes(rt: HostRuntime) -> Result<(), Fail> {
-    let Ok((table, mut caller)) = create_cutting::<Tiny<9, 1000>>(rt.alloc()) else {
-        return table_refused();
-    };
-    const EVEN: [u32; 5] = [0, 4, 8, 12, 16];
-    const ODD: [u32; 5] = [1, 5, 9, 13, 17];
-    assert!(rt; add_keys_to_table(&table, &mut caller, &EVEN));
-    assert!(rt; block(&table, &mut caller, 0) == (2, 2, false));
-    assert!(rt; add_keys_to_table(&table, &mut caller, &ODD));
-    assert!(rt; block(&table, &mut caller, 1) == (6, 2, false));
-    assert!(rt; remove_keys_from_table(&table, &mut caller, &ODD));
-    assert!(rt; remove_keys_from_table(&table, &mut caller, &EVEN));
-    assert!(rt; add_keys_to_table(&table, &mut caller, &[0, 8, 16, 24, 32]));
-    assert!(rt; block(&table, &mut caller, 0) == (2, 1, true));
-    assert!(rt; add_keys_to_table(&table, &mut caller, &[1, 9, 17, 25, 33]));
-    assert!(rt; block(&table, &mut caller, 1) == (4, 1, true));
-    assert!(rt; remove_keys_from_table(&table, &mut caller, &[1, 9, 17, 25, 33]));
-    assert!(rt; add_keys_to_table(&table, &mut caller, &ODD));
-    assert!(rt; block(&table, &mut caller, 1) == (6, 2, false));
-    assert!(rt; has(&table, &mut caller, &[0, 8, 16, 24, 32, 1, 5, 9, 13, 17]));
-    Ok(())
-}

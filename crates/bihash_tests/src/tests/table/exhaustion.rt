@@ -1,48 +1,10 @@
 //! Tables that run out of writes and pages.
 use super::Call::{Add, AddIfAbsent, Remove, Search, Touch};
-use super::{Eight, Row, add_keys_to_table, block, first_wrong, has, table_refused};
+use super::{Row, add_keys_to_table, block, first_wrong, table_refused};
 use bihash_table::create;
 use bihash_words::Reply::{Changed, Kept, NoPages, Worn};
 use bihash_words::Tiny;
 use std::test::Fail;
-
-// Exhaustion of pages and writes: the one page of a table goes and comes with its bucket's writes, and stays with the
-// bucket whose writes are used up.
-#[test]
-fn one_page_worn(rt: HostRuntime) -> Result<(), Fail> {
-    let Ok((table, mut caller)) = create::<Tiny<1, 5>>(rt.alloc()) else {
-        return table_refused();
-    };
-    const ROWS: [Row; 7] = [
-        (Add(7), [0, 0], Changed(None), (0, 1)),
-        (Remove, [0, 0], Changed(Some(7)), (0, 2)),
-        (Add(7), [0, 0], Changed(None), (0, 3)),
-        (Remove, [0, 0], Changed(Some(7)), (0, 4)),
-        (Add(8), [0, 0], Changed(None), (0, 5)),
-        (Remove, [0, 0], Worn(Some(8)), (0, 5)),
-        (Add(9), [1, 0], NoPages { log2: 0, left: 0 }, (1, 0)),
-    ];
-    assert!(rt; first_wrong(&table, &mut caller, &ROWS) == None);
-    Ok(())
-}
-
-// Exhaustion of writes: a bucket whose writes are used up while it is empty leaves its page to the other.
-#[test]
-fn worn_then_page_free(rt: HostRuntime) -> Result<(), Fail> {
-    let Ok((table, mut caller)) = create::<Tiny<1, 4>>(rt.alloc()) else {
-        return table_refused();
-    };
-    const ROWS: [Row; 6] = [
-        (Add(7), [0, 0], Changed(None), (0, 1)),
-        (Remove, [0, 0], Changed(Some(7)), (0, 2)),
-        (Add(7), [0, 0], Changed(None), (0, 3)),
-        (Remove, [0, 0], Changed(Some(7)), (0, 4)),
-        (Add(8), [0, 0], Worn(None), (0, 4)),
-        (Add(9), [1, 0], Changed(None), (1, 1)),
-    ];
-    assert!(rt; first_wrong(&table, &mut caller, &ROWS) == None);
-    Ok(())
-}
 
 // Exhaustion of writes: a bucket whose writes are used up refuses changes alone, and the other one is written.
 #[test]
@@ -83,18 +45,5 @@ fn pages_used_up(rt: HostRuntime) -> Result<(), Fail> {
     ];
     assert!(rt; first_wrong(&table, &mut caller, &ROWS) == None);
     assert!(rt; block(&table, &mut caller, 1) == (2, 0, false));
-    Ok(())
-}
-
-// Exhaustion of pages: a block of four pages is refused where three are left, and all pairs stay.
-#[test]
-fn no_pages_at_the_limit(rt: HostRuntime) -> Result<(), Fail> {
-    let Ok((table, mut caller)) = create::<Eight>(rt.alloc()) else {
-        return table_refused();
-    };
-    assert!(rt; add_keys_to_table(&table, &mut caller, &[0, 4, 8, 12, 16, 24]));
-    const REFUSED: [Row; 1] = [(Add(32), [32, 0], NoPages { log2: 2, left: 3 }, (0, 6))];
-    assert!(rt; first_wrong(&table, &mut caller, &REFUSED) == None);
-    assert!(rt; has(&table, &mut caller, &[0, 4, 8, 12, 16, 24]));
     Ok(())
 }

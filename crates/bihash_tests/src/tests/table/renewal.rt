@@ -1,16 +1,16 @@
-//! Tables that are opened again: with versions used up, under a stranger, and after as many callers as there may be.
+//! A table that is opened again, with versions used up.
 ghost use Rattle.std.specs.Prelude.{◌≡◌, IfSome};
 ghost use Rattle.bihash_rule.specs.Views.{nothing_held};
 
 use super::Call::{Add, Search, Touch};
-use super::{Eight, Row, ends_with, first_wrong, table_refused, two_callers};
-use bihash_table::{Caller, RenewFault, Sessions, create, stamp};
+use super::{Row, first_wrong, table_refused};
+use bihash_table::{Caller, Sessions, create, stamp};
 use bihash_words::Reply::{Changed, Kept, Worn};
 use bihash_words::{Shape, Tiny};
 use std::alloc::Global;
 use std::test::Fail;
 
-// For tests of renewal: the table opened again, with its caller 1.
+// For the test of renewal: the table opened again, with its caller 1.
 fn renew<S: Shape>(
     alloc: Global,
     table: Sessions<S>,
@@ -58,64 +58,5 @@ fn renewed_worn_table(rt: HostRuntime) -> Result<(), Fail> {
     assert!(rt; stamp(&caller) == None);
     const AGAIN: [Row; 1] = [(Search, [0, 0], Kept(Some(10)), (0, 0))];
     assert!(rt; first_wrong(&table, &mut caller, &AGAIN) == None);
-    Ok(())
-}
-
-// For the test of a refused renewal: the table, which can't be renewed while there is the second caller, and both
-// callers joined. `None`: it was renewed.
-fn stays_worn(
-    alloc: Global,
-    table: Sessions<Eight>,
-    first: Caller<Eight>,
-    second: Caller<Eight>,
-) -> Option<(Sessions<Eight>, Caller<Eight>)>
-    requires own { (first.seat.row ≡ table.row) × (second.seat.row ≡ table.row) }
-    requires free { (first.seat.view.holds ≡ nothing_held) × (second.seat.view.holds ≡ nothing_held) }
-    ensures own { IfSome result (λ r. r.1.seat.row ≡ r.0.row) }
-    ensures free { IfSome result (λ r. r.1.seat.view.holds ≡ nothing_held) }
-{
-    match table.renew(alloc, first) {
-        Err((RenewFault::Strangers, table, first)) => {
-            let both = table.join(first, second);
-            Some((table, both))
-        }
-        _ => None,
-    }
-}
-
-// Renewal: refused while there is a second caller, and made once that is joined.
-#[test]
-fn renew_strangers(rt: HostRuntime) -> Result<(), Fail> {
-    let Some((table, mut first, second)) = two_callers::<Eight>(rt.alloc()) else {
-        return table_refused();
-    };
-    const ADDED: [Row; 1] = [(Add(5), [2, 0], Changed(None), (0, 1))];
-    assert!(rt; first_wrong(&table, &mut first, &ADDED) == None);
-    let Some((table, both)) = stays_worn(rt.alloc(), table, first, second) else {
-        return table_refused();
-    };
-    let Some((table, caller)) = renew(rt.alloc(), table, both) else {
-        return table_refused();
-    };
-    assert!(rt; ends_with(rt.alloc(), table, caller, &[([2, 0], 5)]));
-    Ok(())
-}
-
-// Renewal: as many callers as a table may have are joined, and the renewed table has as many numbers left.
-#[test]
-fn renew_after_many_callers(rt: HostRuntime) -> Result<(), Fail> {
-    let Ok((table, mut caller)) = create::<Eight>(rt.alloc()) else {
-        return table_refused();
-    };
-    'splits: for _ in 1..64u32 {
-        let Ok((old, new)) = table.split(rt.alloc(), caller) else {
-            return table_refused();
-        };
-        caller = table.join(old, new);
-    }
-    let Some((table, caller)) = renew(rt.alloc(), table, caller) else {
-        return table_refused();
-    };
-    assert!(rt; table.split(rt.alloc(), caller).is_ok());
     Ok(())
 }

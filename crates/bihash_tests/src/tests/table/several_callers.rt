@@ -1,34 +1,14 @@
 //! The worked rows of several callers.
-ghost use Rattle.std.specs.Prelude.{◌≡◌};
+ghost use Rattle.std.specs.Prelude.{◌≡◌, IfSome};
 ghost use Rattle.bihash_rule.specs.Views.{nothing_held};
 
-use super::Call::{Add, Remove, Search, Touch};
-use super::closing::table_stays_open;
+use super::Call::{Add, Remove, Search};
 use super::{Call, Eight, Row, ends_with, first_wrong, table_answer, table_refused, two_callers};
 use bihash_table::{Caller, CloseFault, Contended, Sessions, SplitFault, create, stamp};
 use bihash_words::Reply::{Changed, Kept};
+use bihash_words::Shape;
+use std::alloc::Global;
 use std::test::Fail;
-
-// Several callers: each finds what the other one wrote.
-#[test]
-fn two_callers_without_a_meeting(rt: HostRuntime) -> Result<(), Fail> {
-    let Some((table, mut first, mut second)) = two_callers::<Eight>(rt.alloc()) else {
-        return table_refused();
-    };
-    assert!(rt; stamp(&second) == None);
-    const ADDED: [Row; 1] = [(Add(7), [0, 0], Changed(None), (0, 1))];
-    assert!(rt; first_wrong(&table, &mut first, &ADDED) == None);
-    const TOUCHED: [Row; 2] = [
-        (Search, [0, 0], Kept(Some(7)), (0, 1)),
-        (Touch(8), [0, 0], Changed(Some(7)), (0, 2)),
-    ];
-    assert!(rt; first_wrong(&table, &mut second, &TOUCHED) == None);
-    const FOUND: [Row; 1] = [(Search, [0, 0], Kept(Some(8)), (0, 2))];
-    assert!(rt; first_wrong(&table, &mut first, &FOUND) == None);
-    let both = table.join(first, second);
-    assert!(rt; ends_with(rt.alloc(), table, both, &[([0, 0], 8)]));
-    Ok(())
-}
 
 // Several callers: as many splits as a table may have succeed at once, each after the other, and no further one.
 #[test]
@@ -47,6 +27,28 @@ fn all_callers_split(rt: HostRuntime) -> Result<(), Fail> {
     };
     assert!(rt; fault == SplitFault::Numbers);
     Ok(())
+}
+
+// For the test of callers that join: the table, which can't be closed while there is the second caller, and
+// both callers joined. `None`: it was closed.
+fn table_stays_open<S: Shape>(
+    alloc: Global,
+    table: Sessions<S>,
+    first: Caller<S>,
+    second: Caller<S>,
+) -> Option<(Sessions<S>, Caller<S>)>
+    requires own { (first.seat.row ≡ table.row) × (second.seat.row ≡ table.row) }
+    requires free { (first.seat.view.holds ≡ nothing_held) × (second.seat.view.holds ≡ nothing_held) }
+    ensures own { IfSome result (λ r. r.1.seat.row ≡ r.0.row) }
+    ensures free { IfSome result (λ r. r.1.seat.view.holds ≡ nothing_held) }
+{
+    match table.close(alloc, first) {
+        Err((CloseFault::Strangers, table, first)) => {
+            let both = table.join(first, second);
+            Some((table, both))
+        }
+        _ => None,
+    }
 }
 
 // Several callers: one is lone, and may end the table, once the other is joined into it.

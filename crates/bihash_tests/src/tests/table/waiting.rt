@@ -4,12 +4,12 @@ ghost use Rattle.bihash_rule.specs.Views.{nothing_held};
 
 use super::{Call, Eight, Row, table_refused};
 use bihash_table::{Caller, Sessions, create, stamp};
+use bihash_words::Reply;
 use bihash_words::Reply::{Changed, Kept};
-use bihash_words::{Add, AddIfAbsent, Delete, Reply, Touch};
 use std::sync::Wait;
 use std::test::Fail;
 
-// For tests of waiting: what a call answers that waits for its turn.
+// For the test of waiting: what a call answers that waits for its turn.
 fn waiting_by_name<R: Wait>(
     rt: &R,
     table: &Sessions<Eight>,
@@ -31,45 +31,11 @@ fn waiting_by_name<R: Wait>(
     }
 }
 
-// For tests of waiting: what a call answers that waits for its turn, made as an update by its patch, where it isn't a
-// search.
-fn waiting_by_patch<R: Wait>(
-    rt: &R,
-    table: &Sessions<Eight>,
-    caller: &mut Caller<Eight>,
-    call: Call,
-    key: &[u64; 2],
-) -> Reply
-    requires own { caller.old.seat.row ≡ table.now.row }
-    requires free { caller.old.seat.view.holds ≡ nothing_held }
-    ensures own { caller.new.seat.row ≡ table.now.row }
-    ensures free { caller.new.seat.view.holds ≡ nothing_held }
-{
-    match call {
-        Call::Add(value) => {
-            let value = u64::from(value);
-            table.update(rt, caller, key, &Add { value })
-        }
-        Call::AddIfAbsent(value) => {
-            let value = u64::from(value);
-            table.update(rt, caller, key, &AddIfAbsent { value })
-        }
-        Call::Touch(value) => {
-            let value = u64::from(value);
-            table.update(rt, caller, key, &Touch { value })
-        }
-        Call::Remove => table.update(rt, caller, key, &Delete),
-        Call::Search => Reply::Kept(table.search(rt, caller, key)),
-    }
-}
-
-// For tests of waiting: the number of the first row whose call is answered otherwise when it waits, by its name or as
-// an update, if one is.
+// For the test of waiting: the number of the first row whose call is answered otherwise when it waits, if one is.
 fn first_wrong_waiting<R: Wait>(
     rt: &R,
     table: &Sessions<Eight>,
     caller: &mut Caller<Eight>,
-    by_name: bool,
     rows: &[Row],
 ) -> Option<usize>
     requires own { caller.old.seat.row ≡ table.now.row }
@@ -78,11 +44,7 @@ fn first_wrong_waiting<R: Wait>(
     ensures free { caller.new.seat.view.holds ≡ nothing_held }
 {
     'rows: for (i, (call, key, reply, at)) in rows.iter().enumerate() {
-        let answered = if by_name {
-            waiting_by_name(rt, table, caller, *call, key)
-        } else {
-            waiting_by_patch(rt, table, caller, *call, key)
-        };
+        let answered = waiting_by_name(rt, table, caller, *call, key);
         if answered != *reply || stamp(caller) != Some(*at) {
             return Some(i);
         }
@@ -109,28 +71,6 @@ fn waiting_calls_by_name(rt: HostRuntime) -> Result<(), Fail> {
         (Call::Search, [0, 0], Kept(None), (0, 3)),
         (Call::Add(4), [0, 0], Changed(None), (0, 4)),
     ];
-    assert!(rt; first_wrong_waiting(&rt, &table, &mut caller, true, &ROWS) == None);
-    Ok(())
-}
-
-// Waiting: updates that are given one of the four fixed decisions, and a search.
-#[test]
-fn waiting_calls_by_patch(rt: HostRuntime) -> Result<(), Fail> {
-    let Ok((table, mut caller)) = create::<Eight>(rt.alloc()) else {
-        return table_refused();
-    };
-    const ROWS: [Row; 10] = [
-        (Call::Touch(2), [1, 5], Kept(None), (1, 0)),
-        (Call::Remove, [1, 5], Kept(None), (1, 0)),
-        (Call::Add(3), [1, 5], Changed(None), (1, 1)),
-        (Call::Add(3), [1, 5], Kept(Some(3)), (1, 1)),
-        (Call::AddIfAbsent(4), [1, 5], Kept(Some(3)), (1, 1)),
-        (Call::Touch(5), [1, 5], Changed(Some(3)), (1, 2)),
-        (Call::Add(6), [1, 5], Changed(Some(5)), (1, 3)),
-        (Call::Remove, [1, 5], Changed(Some(6)), (1, 4)),
-        (Call::AddIfAbsent(4), [1, 5], Changed(None), (1, 5)),
-        (Call::Search, [1, 5], Kept(Some(4)), (1, 5)),
-    ];
-    assert!(rt; first_wrong_waiting(&rt, &table, &mut caller, false, &ROWS) == None);
+    assert!(rt; first_wrong_waiting(&rt, &table, &mut caller, &ROWS) == None);
     Ok(())
 }

@@ -15,7 +15,7 @@ returns-in-Ok g c = record {
       let policy : policy_facts c.deref.result.now.policy ≡ c.args.self.now.policy = search rules in
       let own = ap (λ (p : PolicyFacts). (section_of c.args.interface p).own) (sym policy)
       ∙ ap (λ (section : SectionFacts). section.own) (sym c.at-filter.ensures.section) in
-      c.direction_of.ensures ∙ ap way_of (sym (c.view-seen.ensures.only view (subst (λ o. IsSeenAt o packet view) own seen)));
+      c.direction_of.ensures ∙ ap way_of (sym (c.in-Some.ensures.only view (subst (λ o. IsSeenAt o packet view) own seen)));
   counts = search rules;
   no_pages = search rules;
   refused = search rules;

@@ -1,0 +1,8 @@
+use Rattle.std.proofs.Common.{subst, sym, drop}
+use Rattle.racl_system.specs.MarkedPolicies.{IsUnmarked}
+use Rattle.racl_system.proofs.input_files.held_policy.Goals as goal
+
+pub returns-in-None-clause-unmarked : goal.returns-in-None-clause-unmarked
+returns-in-None-clause-unmarked g c =
+    subst (λ p. IsUnmarked (drop p c.new.result.inner.items)) (sym c.new.ensures.position)
+    (subst (λ v. IsUnmarked v.items) (sym c.new.ensures.inner) (subst IsUnmarked c.deref.ensures.value c.in-None.ensures.none))
