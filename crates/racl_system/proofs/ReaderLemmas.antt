@@ -1,9 +1,11 @@
 -- What is read from a source, as far as an input goes.
-use Rattle.std.proofs.Common.{◌∙◌, ◌≡◌, ◌≤◌, ◌++◌, ap, arith, refl, subst, sym, ℕ, Bool, true, false, List, [], Option, None, Some, length, take}
+use Rattle.std.proofs.Common.{◌∙◌, ◌≡◌, ◌+◌, ◌<◌, ◌≤◌, ◌++◌, ap, arith, refl, subst, sym, ℕ, Bool, true, false, List, [], Option, None, Some, length, take}
 use Rattle.std.specs.Prelude.{IfSome}
-use Rattle.std.proofs.lemmas.List.{append-nil, take_all, take_at}
+use Rattle.std.proofs.lemmas.List.{append-nil, length-take, take_all, take_at}
+use Rattle.racl_io.specs.Inputs.{most_bytes}
 use Rattle.racl_io.specs.Transfers.{HasRead}
 use Rattle.racl_io.specs.declared.device.Device.{Device}
+use Rattle.racl_system.specs.Readers.{IsLiveStatus}
 
 -- what was read up to so many bytes is the front of all
 pub read_front : (all after : Option (List ℕ)) (read : List ℕ) (least : ℕ) (at_end : Bool) → HasRead all after [] read least at_end
@@ -28,3 +30,12 @@ pub front_of_reader : {R : Type 0} (remaining : R → Option (List ℕ)) (reader
 front_of_reader remaining reader device after old read least at_end made none has =
     read_front (remaining reader) after read least at_end
     (subst (λ d. HasRead (remaining d.inner) after [] read least at_end) made (subst (λ o. HasRead (remaining device.inner) after o read least at_end) none has))
+
+-- where the front that was read has more bytes than an input may have, so has the text, and 1 is the status
+pub status_of_long : (text : Option (List ℕ)) (read : List ℕ) (status : ℕ) → status ≡ 1 → IfSome text (λ all. read ≡ take (most_bytes + 1) all)
+    → most_bytes < length read → IsLiveStatus text status
+status_of_long None read status one front long = subst (IsLiveStatus None) (sym one) tt
+status_of_long (Some all) read status one front long =
+    let count : length read ≡ length (take (most_bytes + 1) all) = ap length front in
+    let more : most_bytes < length all = omega (arith, long, count, length-take (most_bytes + 1) all) in
+    subst (IsLiveStatus (Some all)) (sym one) more

@@ -36,14 +36,16 @@ fn live_policy_text<S: SystemFiles + Eprint>(
         Ok(None) => return Ok(Err(4)),
         Err(error) => return Err(error),
     };
-    let fault = match bytes_of(alloc, policy) {
-        Ok(text) if text.len() <= MOST_BYTES => return Ok(Ok(text)),
-        Ok(_) => Fault::TooLarge,
-        Err(fault) => fault,
-    };
-    match say_fault(system, fault) {
-        Ok(status) => Ok(Err(status)),
-        Err(error) => Err(error),
+    match bytes_of(alloc, policy) {
+        Ok(text) if text.len() <= MOST_BYTES => Ok(Ok(text)),
+        Ok(_) => match say_fault(system, Fault::TooLarge) {
+            Ok(status) => Ok(Err(status)),
+            Err(error) => Err(error),
+        },
+        Err(fault) => match say_fault(system, fault) {
+            Ok(status) => Ok(Err(status)),
+            Err(error) => Err(error),
+        },
     }
 }
 

@@ -82,9 +82,13 @@ impl<S: SystemFiles> SaveFile<'_, S, S::File> {
         ensures bytes { saved_in S.emptied S.File.contents self.new ≡ saved_in S.emptied S.File.contents self.old }
         ensures synced { self.new.reason ≡ None → IsSynced S.synced S.File.contents self.new }
     {
-        if let (None, Some(file)) = (&self.reason, &mut self.file)
-            && let Err(reason) = S::sync(file)
-        {
+        if self.reason.is_some() {
+            return;
+        }
+        let Some(file) = &mut self.file else {
+            return;
+        };
+        if let Err(reason) = S::sync(file) {
             self.reason = Some(reason);
         }
     }

@@ -1,4 +1,4 @@
-use Rattle.std.specs.Prelude.{◌≡◌, ◌≢◌, ◌<◌, ℕ}
+use Rattle.std.specs.Prelude.{◌≢◌, ◌<◌, ℕ}
 use Rattle.racl_io.specs.Writings.{front_at}
 use Rattle.racl_io.specs.declared.fault.Fault.TheVariants.{LongRecord}
 use Rattle.racl_system.specs.FaultyCaptures.{IsFaultless}
