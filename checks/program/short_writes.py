@@ -63,7 +63,7 @@ class ShortWrites(Case):
     def test_failed_sync(self):
         for code in (errno.EIO, errno.ENOSPC, errno.EDQUOT):
             got = self.program.run(self.words, env={**self.env, "FAILED_SYNC": str(code)})
-            told = f"racl: {self.drops}: {os.strerror(code)} (os error {code})\n"
+            told = "".join(f"racl: {path}: {os.strerror(code)} (os error {code})\n" for path in (self.drops, self.passes))
             self.compare({**got, **self.saved()}, {**wanted(self.report, told, 4), **self.chosen}, code)
 
     def test_nothing_to_be_synced(self):
