@@ -165,7 +165,7 @@ fn lines_after<'a>(alloc: Global, words: &'a [&'a str]) -> Option<(Lines, bool)>
 /// Words of the command line: `--explain`, `--json` and `--live`.
 #[test]
 fn words_select_what_lines_tell(rt: HostRuntime) {
-    const CASES: [(&[&str], Option<(Lines, bool)>); 8] = [
+    const CASES: [(&[&str], Option<(Lines, bool)>); 9] = [
         (&["racl", "--explain"], Some((Lines::Explained, false))),
         (&["racl", "--explain", "--json"], Some((Lines::Json, false))),
         (
@@ -175,7 +175,14 @@ fn words_select_what_lines_tell(rt: HostRuntime) {
         (&["racl", "--json", "--hits"], Some((Lines::Json, false))),
         (&["racl", "--live", "--sessions", "p", "-"], None),
         (&["racl", "--live"], None),
-        (&["racl", "--live", "--explain", "p", "-"], None),
+        (
+            &["racl", "--live", "--explain", "p", "-"],
+            Some((Lines::Explained, true)),
+        ),
+        (
+            &["racl", "--live", "--json", "--only=drop", "p", "-"],
+            Some((Lines::Json, true)),
+        ),
         (&["racl", "--live", "--workers=2", "p", "-"], None),
     ];
     for (words, lines) in CASES {
