@@ -10,6 +10,9 @@ from support.large_inputs import LARGE
 
 EXAMPLE = importlib.util.spec_from_file_location("live_example", f"{TOP}/examples/python/live.py")
 
+# Words that ask for each form of lines, and for those of some packets.
+FORMS = (["--explain"], ["--json"], ["--only", "pass"], ["--only", "drop", "--explain"], ["--json", "--only=drop"], ["--summary"], ["--summary", "--json"])
+
 ONE, TWO = udp(100, True, (1, 1000), (2, 53)), udp(105, False, (2, 53), (1, 1000))
 
 
@@ -51,6 +54,23 @@ class Live(Case):
         packets = [(second, made[16:]) for second, made in ((100, ONE), (105, TWO), (706, TWO))]
         got = list(example.judged(self.hold("policy", NAMES), packets, self.program.path))
         self.assertEqual(got, ["pass rule 1 reflect", "pass session", "drop default"])
+
+    def test_forms(self):
+        """What a run on the files writes that ages too."""
+        policy = self.hold("policy", NAMES)
+        for capture in (header(), CAPTURE + udp(106, False, (3, 53), (1, 1000)), CAPTURE + ONE[:20]):
+            held = self.hold("capture", capture)
+            for words in FORMS:
+                whole = self.program.run(["--age", *words, policy, held])
+                self.compare(self.program.run(["--live", *words, policy, held]), whole, *words)
+                self.compare(self.program.run(["--live", *words, policy, "-"], capture), whole, *words)
+
+    def test_forms_as_packets_come(self):
+        policy, held = self.hold("policy", NAMES), self.hold("capture", CAPTURE)
+        for words in FORMS[:3]:
+            lines = self.program.run(["--age", *words, policy, held])["stdout"].splitlines(keepends=True)
+            got = told_piece_by_piece(self.program, ["--live", *words, policy, "-"], [(header(), 0), (ONE, 1), (TWO, 1)])
+            self.compare(got, {"told": [b"", lines[0], lines[1], b"".join(lines[2:])], "stderr": b"", "status": 0}, *words)
 
     @each(LARGE)
     def large(self, made):

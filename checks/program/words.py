@@ -48,6 +48,11 @@ WRONG_WORDS = [
     (["--tables", "huge", "-", "-"], "error: --tables takes standard or large\n" + USAGE + MORE),
     (["--tables"], None),
     (["--tables", "large", "--tables", "large"], None),
+    (["--passes", "saved"], None),
+    (["--live"], None),
+    (["--live", "--interface", "1=capture", "policy"], None),
+    *((["--live", *words, "policy", "-"], None)
+      for words in (["--workers=2"], ["--hits"], ["--sessions"], ["--drops=saved"], ["--passes=saved", "--explain"])),
 ]
 
 

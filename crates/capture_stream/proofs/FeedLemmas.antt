@@ -9,6 +9,7 @@ use Rattle.packet_view.specs.declared.capture.Order.{Order}
 use Rattle.packet_view.proofs.FrontLemmas.{records_appended, records_joined}
 use Rattle.packet_view.proofs.RecordListLemmas.{packets_count, records_within}
 use Rattle.session_state.specs.declared.verdict.Verdict.{Verdict}
+use Rattle.racl_io.specs.Buffers.{held_by}
 use Rattle.racl_io.specs.Transfers.{HasRead}
 use Rattle.capture_stream.specs.Found.{HaveFound, behind_of}
 use Rattle.capture_stream.specs.Histories.{AreRight, Follows, MayFollow}
@@ -145,16 +146,20 @@ module _ {J : Type 0} (Became : J → List PacketFacts → List Verdict → J �
       → HaveFound old.order (rest_in old) old.found
       → packets ≡ packets_at old.interface (records_from old.order old.found.count (rest_in old))
       → Follows Became old.judges packets vs new.judges → AreRight Became Judged old.judges packets vs
-      → rest_in new ≡ behind_of (rest_in old) old.found → new.packets ≡ old.packets + old.found.count
+      → rest_in new ≡ behind_of (rest_in old) old.found → held_by new.spare ≡ rest_in old → new.packets ≡ old.packets + old.found.count
       → new.order ≡ old.order → new.interface ≡ old.interface → HaveFound new.order (rest_in new) new.found
-      → HasSettled Became Judged old new vs old.found.stop
-  settled_found Judged old new packets vs have are follows right waits counted order interface found =
+      → HasSettled Became Judged old new vs old.found
+  settled_found Judged old new packets vs have are follows right waits kept counted order interface found =
       let fed = fed_found old new [] packets vs have are follows (waits ∙ sym (append-nil (behind_of (rest_in old) old.found))) counted order interface found in
       record {
         fed = fed.0;
         judged = subst (λ ps. AreRight Became Judged old.judges ps vs) fed.1 right;
         stops = subst (λ (b : List ℕ). Stops new.order b old.found.stop) (sym waits)
             (subst (λ (o : Order). Stops o (behind_of (rest_in old) old.found) old.found.stop) (sym order) have.stop);
+        at_hand = subst (λ (b : List ℕ). HaveFound new.order b old.found) (sym kept) (subst (λ (o : Order). HaveFound o (rest_in old) old.found) (sym order) have);
+        packets = ap (λ (b : List ℕ). packets_at new.interface (records_from new.order old.found.count b)) kept
+            ∙ ap (λ (o : Order). packets_at new.interface (records_from o old.found.count (rest_in old))) order
+            ∙ ap (λ n. packets_at n (records_from old.order old.found.count (rest_in old))) interface ∙ sym are ∙ fed.1;
       }
 
 -- the bytes of a list from a place on, as a part of it

@@ -1,7 +1,6 @@
 -- A capture whose packets are told while they come: what is told of it at each step, at its end and at a fault.
-use Rattle.std.proofs.Common.{◌≡◌, ◌∙◌, Err, Ok, Result, ◌≤◌, ◌<◌, ◌+◌, ◌^◌, ℕ, Bool, List, [], ◌∷◌, ◌++◌, None, Option, ap, append-nil, append_assoc, arith, inl, inr, length, refl, subst, sym, take, true, false}
-use Rattle.std.specs.Prelude.{⊤}
-use Rattle.std.proofs.lemmas.List.{length-append, length-map, take_all}
+use Rattle.std.proofs.Common.{◌≡◌, ◌∙◌, ◌≤◌, ◌<◌, ◌+◌, ◌^◌, ℕ, Bool, List, [], ◌∷◌, ◌++◌, Option, ap, append-nil, arith, inl, inr, length, refl, subst, sym, true, false}
+use Rattle.std.proofs.lemmas.List.{length-append, length-map}
 use Rattle.std.proofs.lemmas.List.Sums.{count_by-le-length}
 use Rattle.std.proofs.KnownBytes.{Appends-nil, Appends-trans, Consumes-kept, Consumes-nil, Consumes-trans}
 use Rattle.std.specs.Io.KnownBytes.{Appends, Consumes}
@@ -17,15 +16,18 @@ use Rattle.session_state.specs.declared.verdict.Verdict.{Verdict}
 use Rattle.racl_io.specs.declared.fault.Fault.{Fault}
 use Rattle.racl_io.specs.declared.fault.Fault.TheVariants as fault
 use Rattle.racl_io.specs.declared.totals_and_truncation.Totals.{Totals}
-use Rattle.racl_io.specs.Reports.{is_truncated, lines_from, passed, report_of, totals_line, totals_of, truncation_line, without_pages}
-use Rattle.racl_io.specs.Sinks.{GotFront, HasPutFront}
-use Rattle.racl_io.proofs.ReportLemmas.{cut_at, lines_of_both, passed_of_both, totals_counted, without_pages_of_both}
-use Rattle.capture_stream.specs.Lives.{AreCounted, HasToldAll, HasToldPart, HasToldSome, IsLiveFault, most_live, told_alone}
+use Rattle.racl_io.specs.Reports.{is_truncated, passed, totals_of, without_pages}
+use Rattle.racl_io.specs.Sinks.{GotFront}
+use Rattle.racl_io.specs.Tellings.{IsTellingFault, Wording, lines_in, report_in, told_alone}
+use Rattle.racl_io.proofs.ReportLemmas.{passed_of_both, totals_counted, without_pages_of_both}
+use Rattle.racl_io.proofs.TellingLemmas.{front_on, lines_in_both}
+use Rattle.capture_stream.specs.Lives.{AreCounted, HasToldAll, HasToldPart, HasToldSome, IsLiveFault, most_live}
 use Rattle.capture_stream.specs.Feeding.{HasSettled, MayFeed, rest_in}
 use Rattle.capture_stream.specs.declared.engine.Engine.{Engine}
 use Rattle.capture_stream.specs.declared.live_telling.Live.{Live}
+use Rattle.capture_stream.specs.declared.windows_of_records.Found.{Found}
 use Rattle.capture_stream.specs.inner.Feedings.{HasGot, IsBegun, IsCutAt, IsUnread}
-use Rattle.capture_stream.specs.inner.Tellings.{HasCutWaiting, HasToldWaiting, IsLive, IsTold, IsWaitingFault, MayTell, end_text, totals_with}
+use Rattle.capture_stream.specs.inner.Tellings.{HasCutWaiting, HasToldWaiting, IsLive, IsTold, IsWaitingFault, MayTell, lines_behind, totals_with}
 use Rattle.capture_stream.proofs.FeedLemmas.{packets_both}
 
 -- ---- What waits
@@ -43,6 +45,29 @@ live_feed Became live may =
       few = omega arith;
     }
 
+-- there are as many verdicts on it as packets
+pub waiting_count : {J : Type 0} (Became : J → List PacketFacts → List Verdict → J → Type 0) (Judged : J → List PacketFacts → List Verdict → Type 0)
+    (live : Live J) (engine : Engine J) (verdicts : List Verdict) (found : Found) → AreCounted Judged → MayTell Became live
+    → (settled : HasSettled Became Judged live.engine engine verdicts found) → length verdicts ≡ length (packets_at live.engine.interface settled.fed.more)
+waiting_count Became Judged live engine verdicts found counts may settled =
+    let more = packets_at live.engine.interface settled.fed.more in
+    let all = counts may.begun _ _ (settled.judged may.begun (packets_at 0 may.packets) may.said may.stand) in
+    let said = length-append may.said verdicts in
+    let packets = length-append (packets_at 0 may.packets) more in
+    let earlier = length-map may.packets (packet_at 0) in
+    let each = may.each in
+    omega arith
+
+-- it couldn't be told
+pub waiting_fault : {J : Type 0} (Became : J → List PacketFacts → List Verdict → J → Type 0) (Judged : J → List PacketFacts → List Verdict → Type 0)
+    (wording : Wording) (live : Live J) (before after : Option (List ℕ)) (engine : Engine J) (verdicts : List Verdict) (found : Found)
+    (settled : HasSettled Became Judged live.engine engine verdicts found) (which : Fault)
+    → IsTellingFault before after (lines_behind wording live.engine settled.fed.more verdicts) which → IsWaitingFault Became Judged wording live before after which
+waiting_fault Became Judged wording live before after engine verdicts found settled fault.Memory unwritten = unwritten
+waiting_fault Became Judged wording live before after engine verdicts found settled fault.Write front =
+    record { verdicts = verdicts; engine = engine; found = found; settled = settled; front = front }
+waiting_fault Became Judged wording live before after engine verdicts found settled which wrong = absurd wrong
+
 -- ---- The report
 
 cut : (n : ℕ) (truncated : Bool) → truncated ≡ is_truncated (told_alone n truncated)
@@ -55,40 +80,19 @@ totals_alone verdicts n passing lacking truncated count passes lack =
     ap (λ m. totals_with m passing lacking truncated) (sym count)
     ∙ totals_counted passing lacking verdicts (told_alone n truncated) truncated passes lack (cut n truncated)
 
--- the report on one capture is its lines, and what stands behind them
-pub report_alone : (verdicts : List Verdict) (n passing lacking : ℕ) (truncated : Bool) → length verdicts ≡ n → passing ≡ passed verdicts
-    → lacking ≡ without_pages verdicts
-    → lines_from None 1 verdicts ++ end_text (totals_with n passing lacking truncated) ≡ report_of verdicts (told_alone n truncated)
-report_alone verdicts n passing lacking truncated count passes lack =
-    let lines = lines_from None 1 verdicts in
-    let end = truncation_line None truncated n in
-    let all = totals_of verdicts (told_alone n truncated) in
-    ap (λ t. lines ++ (end ++ totals_line t)) (totals_alone verdicts n passing lacking truncated count passes lack)
-    ∙ sym (append_assoc lines end (totals_line all))
-    ∙ ap (λ b. b ++ totals_line all)
-    (ap (λ vs. lines_from None 1 vs ++ end) (sym (take_all n verdicts (omega arith)))
-    ∙ ap (λ e. lines_from None 1 (take n verdicts) ++ e) (sym (append-nil end)))
+-- all that is told of one capture is what is told of its packets, and what stands behind them
+pub report_alone : (wording : Wording) (packets : List PacketFacts) (verdicts : List Verdict) (n passing lacking : ℕ) (truncated : Bool) → length verdicts ≡ n
+    → length packets ≡ n → passing ≡ passed verdicts → lacking ≡ without_pages verdicts
+    → lines_in wording 1 packets verdicts ++ wording.end (totals_with n passing lacking truncated) ≡ report_in wording packets verdicts truncated
+report_alone wording packets verdicts n passing lacking truncated count each passes lack =
+    ap (λ t. lines_in wording 1 packets verdicts ++ wording.end t)
+    (totals_alone verdicts n passing lacking truncated count passes lack ∙ ap (λ m. totals_of verdicts (told_alone m truncated)) (sym each))
 
--- the lines of some packets and of those behind them
-lines_on : (xs ys : List Verdict) (n : ℕ) → n ≡ length xs
-    → lines_from None 1 xs ++ lines_from None (n + 1) ys ≡ lines_from None 1 (xs ++ ys)
-lines_on xs ys n count = sym (lines_of_both None 1 (n + 1) xs ys (omega arith))
-
--- a front of what follows a text is behind it
-pub front_on : (a b c : Option (List ℕ)) (text more : List ℕ) → Appends a b text → GotFront b c more → GotFront a c (text ++ more)
-front_on a b c text more wrote got = cut_at a b c text more [] (text ++ more) (append-nil (text ++ more)) wrote got
-
--- a front of a text is one of the text and more
-pub front_of_first : (a b : Option (List ℕ)) (text more : List ℕ) → GotFront a b text → GotFront a b (text ++ more)
-front_of_first a b text more (front, rest, same, got) = (front, rest ++ more, ap (λ t. t ++ more) same ∙ append_assoc front rest more, got)
-
--- one text after another
-pub put_more : {W : Type 0} (bytes : W → Option (List ℕ)) (failures : W → ℕ) (a b c : W) (text more : List ℕ) (result : Result ⊤ Fault)
-    → Appends (bytes a) (bytes b) text → failures b ≡ failures a → HasPutFront bytes failures b c more result → HasPutFront bytes failures a c (text ++ more) result
-put_more bytes failures a b c text more (Ok x) wrote same put =
-    (Appends-trans (bytes a) (bytes b) (bytes c) text more wrote put.0, put.1 ∙ same, tt, tt, tt)
-put_more bytes failures a b c text more (Err e) wrote same put =
-    (tt, tt, put.2 ∙ ap (λ n. n + 1) same, put.3, front_on (bytes a) (bytes b) (bytes c) text more wrote put.4)
+-- what is told of some packets and of those behind them
+lines_on : (wording : Wording) (ps qs all : List PacketFacts) (vs ws : List Verdict) (n : ℕ) → n ≡ length ps → length vs ≡ length ps → ps ++ qs ≡ all
+    → lines_in wording 1 ps vs ++ lines_in wording (n + 1) qs ws ≡ lines_in wording 1 all (vs ++ ws)
+lines_on wording ps qs all vs ws n count each both =
+    sym (lines_in_both wording 1 (n + 1) ps qs vs ws each (omega arith)) ∙ ap (λ rs. lines_in wording 1 rs (vs ++ ws)) both
 
 -- the totals where more bytes wait
 pub longer_totals : (old new : ℕ) (totals : Totals) {passing lacking : ℕ} (truncated : Bool) → new ≡ old → totals ≡ totals_with new passing lacking truncated
@@ -98,9 +102,9 @@ longer_totals old new totals {passing} {lacking} truncated same are = are ∙ ap
 -- ---- From one read to the next
 
 module _ {J : Type 0} (Became : J → List PacketFacts → List Verdict → J → Type 0) (Judged : J → List PacketFacts → List Verdict → Type 0)
-    (begun : J) (order : Order) (before old : Option (List ℕ)) where
+    (wording : Wording) (begun : J) (order : Order) (before old : Option (List ℕ)) where
   pub live_begun : (live : Live J) → Became begun [] [] begun → IsBegun begun order 0 live.engine → live.passed ≡ 0
-      → live.without_pages ≡ 0 → live.read ≡ 0 → IsLive Became Judged begun order before before old old live
+      → live.without_pages ≡ 0 → live.read ≡ 0 → IsLive Became Judged wording begun order before before old old live
   live_begun live stand is passing lacking size = record {
     told = record {
       read = [];
@@ -123,7 +127,7 @@ module _ {J : Type 0} (Became : J → List PacketFacts → List Verdict → J �
     found = is.found;
   }
 
-  pub live_may : (now after : Option (List ℕ)) (live : Live J) → IsLive Became Judged begun order before now old after live → live.read < most_live
+  pub live_may : (now after : Option (List ℕ)) (live : Live J) → IsLive Became Judged wording begun order before now old after live → live.read < most_live
       → MayTell Became live
   live_may now after live is below =
       let within = records_within order is.told.read is.told.packets (rest_in live.engine) is.told.records in
@@ -145,8 +149,8 @@ module _ {J : Type 0} (Became : J → List PacketFacts → List Verdict → J �
       }
 
   -- what was judged of all packets after what waited was
-  module _ (counts : AreCounted Judged) (now after : Option (List ℕ)) (live : Live J) (is : IsLive Became Judged begun order before now old after live)
-      (engine : Engine J) (verdicts : List Verdict) (stop : Stop) (settled : HasSettled Became Judged live.engine engine verdicts stop) where
+  module _ (counts : AreCounted Judged) (now after : Option (List ℕ)) (live : Live J) (is : IsLive Became Judged wording begun order before now old after live)
+      (engine : Engine J) (verdicts : List Verdict) (found : Found) (settled : HasSettled Became Judged live.engine engine verdicts found) where
     more_packets : packets_at 0 is.told.packets ++ packets_at live.engine.interface settled.fed.more ≡ packets_at 0 (is.told.packets ++ settled.fed.more)
     more_packets =
         ap (λ n. packets_at 0 is.told.packets ++ packets_at n settled.fed.more) is.unnamed ∙ sym (packets_both 0 is.told.packets settled.fed.more)
@@ -167,13 +171,13 @@ module _ {J : Type 0} (Became : J → List PacketFacts → List Verdict → J �
         (subst (λ (o : Order). AreRecords o (rest_in live.engine) settled.fed.more (rest_in engine)) is.same
         (subst (λ (b : List ℕ). AreRecords live.engine.order b settled.fed.more (rest_in engine)) (append-nil (rest_in live.engine)) settled.fed.records))
 
-  pub live_told : AreCounted Judged → (now mid after : Option (List ℕ)) (live new : Live J) (stop : Stop)
-      → IsLive Became Judged begun order before now old mid live
-      → live.read < most_live → HasToldWaiting Became Judged live mid after new stop → IsTold Became Judged begun order before now old after new stop
-  live_told counts now mid after live new stop is below waiting =
+  live_more_told : AreCounted Judged → (now mid after : Option (List ℕ)) (live new : Live J) (stop : Stop)
+      → IsLive Became Judged wording begun order before now old mid live
+      → live.read < most_live → HasToldWaiting Became Judged wording live mid after new stop → IsTold Became Judged wording begun order before now old after new stop
+  live_more_told counts now mid after live new stop is below waiting =
       let t = is.told in
       let fed = waiting.settled.fed in
-      let judged = more_judged counts now mid live is new.engine waiting.verdicts stop waiting.settled in
+      let judged = more_judged counts now mid live is new.engine waiting.verdicts waiting.found waiting.settled in
       let both = length-append t.packets fed.more in
       record {
         is = record {
@@ -181,15 +185,18 @@ module _ {J : Type 0} (Became : J → List PacketFacts → List Verdict → J �
             read = t.read;
             consumed = t.consumed;
             packets = t.packets ++ fed.more;
-            records = more_records counts now mid live is new.engine waiting.verdicts stop waiting.settled;
+            records = more_records counts now mid live is new.engine waiting.verdicts waiting.found waiting.settled;
             verdicts = t.verdicts ++ waiting.verdicts;
             judged = λ some. judged;
-            count = more_count counts now mid live is new.engine waiting.verdicts stop waiting.settled;
+            count = more_count counts now mid live is new.engine waiting.verdicts waiting.found waiting.settled;
             text = subst (λ (b : List ℕ). Appends old after b)
-                (lines_on t.verdicts waiting.verdicts live.engine.packets (let e = is.count in let f = t.count in omega arith))
-                (Appends-trans old mid after (lines_from None 1 t.verdicts) (lines_from None (live.engine.packets + 1) waiting.verdicts) t.text waiting.text);
+                (lines_on wording (packets_at 0 t.packets) (packets_at live.engine.interface fed.more) (packets_at 0 (t.packets ++ fed.more)) t.verdicts waiting.verdicts
+                live.engine.packets (let e = is.count in let f = length-map t.packets (packet_at 0) in omega arith)
+                (let e = t.count in let f = length-map t.packets (packet_at 0) in omega arith)
+                (more_packets counts now mid live is new.engine waiting.verdicts waiting.found waiting.settled))
+                (Appends-trans old mid after (lines_in wording 1 (packets_at 0 t.packets) t.verdicts) (lines_behind wording live.engine fed.more waiting.verdicts) t.text waiting.text);
           };
-          stand = more_stand counts now mid live is new.engine waiting.verdicts stop waiting.settled;
+          stand = more_stand counts now mid live is new.engine waiting.verdicts waiting.found waiting.settled;
           count = let e = is.count in let f = fed.packets in omega arith;
           passing = let e = is.passing in let f = waiting.passing in let g = passed_of_both t.verdicts waiting.verdicts in omega arith;
           lacking = let e = is.lacking in let f = waiting.lacking in let g = without_pages_of_both t.verdicts waiting.verdicts in omega arith;
@@ -200,9 +207,16 @@ module _ {J : Type 0} (Became : J → List PacketFacts → List Verdict → J �
           found = fed.found;
         };
         judged = judged;
-        stops = subst (λ (o : Order). Stops o (rest_in new.engine) stop) (fed.order ∙ is.same) waiting.settled.stops;
+        stops = subst (λ (o : Order). Stops o (rest_in new.engine) stop) (fed.order ∙ is.same)
+            (subst (Stops new.engine.order (rest_in new.engine)) waiting.stop_is waiting.settled.stops);
         below = let e = waiting.read in omega arith;
       }
+
+  pub live_told : AreCounted Judged → (now mid after : Option (List ℕ)) (live new : Live J) (stop : Stop)
+      → IsLive Became Judged wording begun order before now old mid live → live.read < most_live → (at : Wording) → at ≡ wording
+      → HasToldWaiting Became Judged at live mid after new stop → IsTold Became Judged wording begun order before now old after new stop
+  live_told counts now mid after live new stop is below at same waiting =
+      live_more_told counts now mid after live new stop is below (subst (λ (w : Wording). HasToldWaiting Became Judged w live mid after new stop) same waiting)
 
   -- where none was got, none was consumed
   got_none : (now then : Option (List ℕ)) (at longer : Engine J) (most : ℕ) (read : List ℕ) → Consumes before now read → HasGot now then at longer most 0
@@ -215,7 +229,7 @@ module _ {J : Type 0} (Became : J → List PacketFacts → List Verdict → J �
       empty [] none = refl
       empty (x ∷ xs) none = absurd (omega arith)
 
-  module _ (now after : Option (List ℕ)) (live : Live J) (stop : Stop) (is : IsTold Became Judged begun order before now old after live stop) where
+  module _ (now after : Option (List ℕ)) (live : Live J) (stop : Stop) (is : IsTold Became Judged wording begun order before now old after live stop) where
     pub told_few : live.engine.packets < 2 ^ 63
     told_few =
         let within = records_within order is.is.told.read is.is.told.packets (rest_in live.engine) is.is.told.records in
@@ -233,17 +247,17 @@ module _ {J : Type 0} (Became : J → List PacketFacts → List Verdict → J �
 
     -- a record is too long
     pub told_long : (found : Fault) → (stop ≡ TooLong) × (found ≡ fault.LongRecord (live.engine.packets + 1))
-        → IsLiveFault Judged begun order before now old after found
+        → IsLiveFault Judged wording begun order before now old after found
     told_long found (long, same) =
-        subst (IsLiveFault Judged begun order before now old after) (sym same)
+        subst (IsLiveFault Judged wording begun order before now old after) (sym same)
         (rest_in live.engine, is.is.told, subst (Stops order (rest_in live.engine)) long is.stops, ap (λ n. n + 1) is.is.count)
 
     -- nothing more could be read
     pub part_fault : (then : Option (List ℕ)) (truncated : Bool) (found : Fault) → IsCutAt stop truncated → IsUnread now then found
-        → IsLiveFault Judged begun order before then old after found
+        → IsLiveFault Judged wording begun order before then old after found
     part_fault then truncated found ends (kept, which) =
         let t = is.is.told in
-        let told : HasToldSome Judged begun order before then old after (rest_in live.engine) = record {
+        let told : HasToldSome Judged wording begun order before then old after (rest_in live.engine) = record {
           read = t.read;
           consumed = Consumes-kept before now then t.read t.consumed kept;
           packets = t.packets;
@@ -254,15 +268,15 @@ module _ {J : Type 0} (Became : J → List PacketFacts → List Verdict → J �
           text = t.text;
         } in
         elim which [
-          | inl memory ↦ subst (IsLiveFault Judged begun order before then old after) (sym memory) (rest_in live.engine, told)
-          | inr read ↦ subst (IsLiveFault Judged begun order before then old after) (sym read)
+          | inl memory ↦ subst (IsLiveFault Judged wording begun order before then old after) (sym memory) (rest_in live.engine, told)
+          | inr read ↦ subst (IsLiveFault Judged wording begun order before then old after) (sym read)
               (rest_in live.engine, told, truncated, ends order (rest_in live.engine) is.stops)
         ]
 
     -- more was read
     pub live_more : (then : Option (List ℕ)) (new : Live J) (count : ℕ) → HasGot now then live.engine new.engine 65536 count
         → new.passed ≡ live.passed → new.without_pages ≡ live.without_pages → new.read ≡ live.read + count
-        → IsLive Became Judged begun order before then old after new
+        → IsLive Became Judged wording begun order before then old after new
     live_more then new count got passing lacking size =
         let t = is.is.told in
         let longer = got.longer in
@@ -291,13 +305,14 @@ module _ {J : Type 0} (Became : J → List PacketFacts → List Verdict → J �
 
     -- no more is there
     pub told_all : (then last : Option (List ℕ)) (engine : Engine J) (truncated : Bool) (totals : Totals) → IsCutAt stop truncated
-        → HasGot now then live.engine engine 65536 0 → totals ≡ totals_with live.engine.packets live.passed live.without_pages truncated → Appends after last (end_text totals)
-        → HasToldAll Judged begun order before then old last totals
+        → HasGot now then live.engine engine 65536 0 → totals ≡ totals_with live.engine.packets live.passed live.without_pages truncated → Appends after last (wording.end totals)
+        → HasToldAll Judged wording begun order before then old last totals
     told_all then last engine truncated totals ends got same written =
         let t = is.is.told in
         let count : length t.verdicts ≡ live.engine.packets = t.count ∙ sym is.is.count in
         let told = totals_alone t.verdicts live.engine.packets live.passed live.without_pages truncated count is.is.passing is.is.lacking in
-        let report = report_alone t.verdicts live.engine.packets live.passed live.without_pages truncated count is.is.passing is.is.lacking in
+        let report = report_alone wording (packets_at 0 t.packets) t.verdicts live.engine.packets live.passed live.without_pages truncated count
+        (length-map t.packets (packet_at 0) ∙ sym is.is.count) is.is.passing is.is.lacking in
         record {
           read = t.read;
           consumed = got_none now then live.engine engine 65536 t.read t.consumed got;
@@ -310,20 +325,36 @@ module _ {J : Type 0} (Became : J → List PacketFacts → List Verdict → J �
           verdicts = t.verdicts;
           judged = is.judged;
           count = t.count;
-          text = subst (λ n. Appends old last (report_of t.verdicts (told_alone n truncated))) is.is.count
-              (subst (λ (b : List ℕ). Appends old last b) (ap (λ u. lines_from None 1 t.verdicts ++ end_text u) same ∙ report)
-              (Appends-trans old after last (lines_from None 1 t.verdicts) (end_text totals) t.text written));
+          text = subst (λ (b : List ℕ). Appends old last b) (ap (λ u. lines_in wording 1 (packets_at 0 t.packets) t.verdicts ++ wording.end u) same ∙ report)
+              (Appends-trans old after last (lines_in wording 1 (packets_at 0 t.packets) t.verdicts) (wording.end totals) t.text written);
           counted = subst (λ n. totals ≡ totals_of t.verdicts (told_alone n truncated)) is.is.count (same ∙ told);
         }
 
+    -- no more is there, and what stands at the end couldn't be told
+    end_unwritten : (then last : Option (List ℕ)) (engine : Engine J) → HasGot now then live.engine engine 65536 0 → last ≡ after
+        → HasToldSome Judged wording begun order before then old last (rest_in live.engine)
+    end_unwritten then last engine got same =
+        let t = is.is.told in
+        record {
+          read = t.read;
+          consumed = got_none now then live.engine engine 65536 t.read t.consumed got;
+          packets = t.packets;
+          records = t.records;
+          verdicts = t.verdicts;
+          judged = t.judged;
+          count = t.count;
+          text = subst (λ w. Appends old w (lines_in wording 1 (packets_at 0 t.packets) t.verdicts)) (sym same) t.text;
+        }
+
     -- no more is there, and a front of what stands at the end was written
-    pub end_fault : (then last : Option (List ℕ)) (engine : Engine J) (truncated : Bool) (totals : Totals) → IsCutAt stop truncated
-        → HasGot now then live.engine engine 65536 0 → totals ≡ totals_with live.engine.packets live.passed live.without_pages truncated → GotFront after last (end_text totals)
-        → IsLiveFault Judged begun order before then old last fault.Write
-    end_fault then last engine truncated totals ends got same written =
+    end_cut : (then last : Option (List ℕ)) (engine : Engine J) (truncated : Bool) (totals : Totals) → IsCutAt stop truncated
+        → HasGot now then live.engine engine 65536 0 → totals ≡ totals_with live.engine.packets live.passed live.without_pages truncated → GotFront after last (wording.end totals)
+        → HasToldPart Judged wording begun order before then old last
+    end_cut then last engine truncated totals ends got same written =
         let t = is.is.told in
         let count : length t.verdicts ≡ live.engine.packets = t.count ∙ sym is.is.count in
-        let report = report_alone t.verdicts live.engine.packets live.passed live.without_pages truncated count is.is.passing is.is.lacking in
+        let report = report_alone wording (packets_at 0 t.packets) t.verdicts live.engine.packets live.passed live.without_pages truncated count
+        (length-map t.packets (packet_at 0) ∙ sym is.is.count) is.is.passing is.is.lacking in
         record {
           read = t.read;
           consumed = got_none now then live.engine engine 65536 t.read t.consumed got;
@@ -337,15 +368,21 @@ module _ {J : Type 0} (Became : J → List PacketFacts → List Verdict → J �
             truncated,
             got.ended refl,
             ends order (rest_in live.engine) is.stops,
-            subst (λ n. GotFront old last (report_of t.verdicts (told_alone n truncated))) is.is.count
-                (subst (λ (b : List ℕ). GotFront old last b) (ap (λ u. lines_from None 1 t.verdicts ++ end_text u) same ∙ report)
-                (front_on old after last (lines_from None 1 t.verdicts) (end_text totals) t.text written)),
+            subst (λ (b : List ℕ). GotFront old last b) (ap (λ u. lines_in wording 1 (packets_at 0 t.packets) t.verdicts ++ wording.end u) same ∙ report)
+                (front_on old after last (lines_in wording 1 (packets_at 0 t.packets) t.verdicts) (wording.end totals) t.text written),
           );
         }
 
+    pub end_fault : (then last : Option (List ℕ)) (engine : Engine J) (truncated : Bool) (totals : Totals) (found : Fault) → IsCutAt stop truncated
+        → HasGot now then live.engine engine 65536 0 → totals ≡ totals_with live.engine.packets live.passed live.without_pages truncated
+        → IsTellingFault after last (wording.end totals) found → IsLiveFault Judged wording begun order before then old last found
+    end_fault then last engine truncated totals fault.Memory ends got same unwritten = (rest_in live.engine, end_unwritten then last engine got unwritten)
+    end_fault then last engine truncated totals fault.Write ends got same written = end_cut then last engine truncated totals ends got same written
+    end_fault then last engine truncated totals found ends got same wrong = absurd wrong
+
   -- what is told of all packets where a front of the lines was written
-  window_cut : AreCounted Judged → (now mid after : Option (List ℕ)) (live : Live J) → IsLive Became Judged begun order before now old mid live
-      → HasCutWaiting Became Judged live mid after → HasToldPart Judged begun order before now old after
+  window_cut : AreCounted Judged → (now mid after : Option (List ℕ)) (live : Live J) → IsLive Became Judged wording begun order before now old mid live
+      → HasCutWaiting Became Judged wording live mid after → HasToldPart Judged wording begun order before now old after
   window_cut counts now mid after live is cut =
       let t = is.told in
       record {
@@ -353,34 +390,42 @@ module _ {J : Type 0} (Became : J → List PacketFacts → List Verdict → J �
         consumed = t.consumed;
         packets = t.packets ++ cut.settled.fed.more;
         rest = rest_in cut.engine;
-        records = more_records counts now mid live is cut.engine cut.verdicts cut.stop cut.settled;
+        records = more_records counts now mid live is cut.engine cut.verdicts cut.found cut.settled;
         verdicts = t.verdicts ++ cut.verdicts;
-        judged = more_judged counts now mid live is cut.engine cut.verdicts cut.stop cut.settled;
-        count = more_count counts now mid live is cut.engine cut.verdicts cut.stop cut.settled;
+        judged = more_judged counts now mid live is cut.engine cut.verdicts cut.found cut.settled;
+        count = more_count counts now mid live is cut.engine cut.verdicts cut.found cut.settled;
         front = inl (subst (λ (b : List ℕ). GotFront old after b)
-            (lines_on t.verdicts cut.verdicts live.engine.packets (let e = is.count in let f = t.count in omega arith))
-            (front_on old mid after (lines_from None 1 t.verdicts) (lines_from None (live.engine.packets + 1) cut.verdicts) t.text cut.front));
+            (lines_on wording (packets_at 0 t.packets) (packets_at live.engine.interface cut.settled.fed.more) (packets_at 0 (t.packets ++ cut.settled.fed.more)) t.verdicts
+            cut.verdicts live.engine.packets (let e = is.count in let f = length-map t.packets (packet_at 0) in omega arith)
+            (let e = t.count in let f = length-map t.packets (packet_at 0) in omega arith)
+            (more_packets counts now mid live is cut.engine cut.verdicts cut.found cut.settled))
+            (front_on old mid after (lines_in wording 1 (packets_at 0 t.packets) t.verdicts) (lines_behind wording live.engine cut.settled.fed.more cut.verdicts) t.text cut.front));
       }
 
   -- memory ran out before a line was written, or a write failed
-  pub window_fault : AreCounted Judged → (now mid after : Option (List ℕ)) (live : Live J) (found : Fault) → IsLive Became Judged begun order before now old mid live
-      → IsWaitingFault Became Judged live mid after found → IsLiveFault Judged begun order before now old after found
-  window_fault counts now mid after live fault.Memory is same =
-      (rest_in live.engine, subst (λ w. HasToldSome Judged begun order before now old w (rest_in live.engine)) (sym same) is.told)
-  window_fault counts now mid after live fault.Write is cut = window_cut counts now mid after live is cut
-  window_fault counts now mid after live found is wrong = absurd wrong
+  window_fault_so : AreCounted Judged → (now mid after : Option (List ℕ)) (live : Live J) (found : Fault) → IsLive Became Judged wording begun order before now old mid live
+      → IsWaitingFault Became Judged wording live mid after found → IsLiveFault Judged wording begun order before now old after found
+  window_fault_so counts now mid after live fault.Memory is same =
+      (rest_in live.engine, subst (λ w. HasToldSome Judged wording begun order before now old w (rest_in live.engine)) (sym same) is.told)
+  window_fault_so counts now mid after live fault.Write is cut = window_cut counts now mid after live is cut
+  window_fault_so counts now mid after live found is wrong = absurd wrong
+
+  pub window_fault : AreCounted Judged → (now mid after : Option (List ℕ)) (live : Live J) (found : Fault) → IsLive Became Judged wording begun order before now old mid live
+      → (at : Wording) → at ≡ wording → IsWaitingFault Became Judged at live mid after found → IsLiveFault Judged wording begun order before now old after found
+  window_fault counts now mid after live found is at same which =
+      window_fault_so counts now mid after live found is (subst (λ (w : Wording). IsWaitingFault Became Judged w live mid after found) same which)
 
   -- so many bytes were read
-  pub live_large : (now after : Option (List ℕ)) (live : Live J) → IsLive Became Judged begun order before now old after live → most_live ≤ live.read
-      → IsLiveFault Judged begun order before now old after fault.TooLarge
+  pub live_large : (now after : Option (List ℕ)) (live : Live J) → IsLive Became Judged wording begun order before now old after live → most_live ≤ live.read
+      → IsLiveFault Judged wording begun order before now old after fault.TooLarge
   live_large now after live is many = (rest_in live.engine, is.told, let size = is.size in omega arith)
 
 -- ---- The same by what else is known of verdicts
 
-module _ {J K : Type 0} (Judged : J → List PacketFacts → List Verdict → Type 0) (Other : K → List PacketFacts → List Verdict → Type 0) (begun : J) (other : K)
+module _ {J K : Type 0} (Judged : J → List PacketFacts → List Verdict → Type 0) (Other : K → List PacketFacts → List Verdict → Type 0) (wording : Wording) (begun : J) (other : K)
     (tells : (packets : List PacketFacts) (verdicts : List Verdict) → Judged begun packets verdicts → Other other packets verdicts) (order : Order)
     (before after old new : Option (List ℕ)) where
-  pub some_as : (rest : List ℕ) → HasToldSome Judged begun order before after old new rest → HasToldSome Other other order before after old new rest
+  pub some_as : (rest : List ℕ) → HasToldSome Judged wording begun order before after old new rest → HasToldSome Other wording other order before after old new rest
   some_as rest told = record {
     read = told.read;
     consumed = told.consumed;
@@ -392,7 +437,7 @@ module _ {J K : Type 0} (Judged : J → List PacketFacts → List Verdict → Ty
     text = told.text;
   }
 
-  pub all_as : (totals : Totals) → HasToldAll Judged begun order before after old new totals → HasToldAll Other other order before after old new totals
+  pub all_as : (totals : Totals) → HasToldAll Judged wording begun order before after old new totals → HasToldAll Other wording other order before after old new totals
   all_as totals told = record {
     read = told.read;
     consumed = told.consumed;
@@ -409,7 +454,7 @@ module _ {J K : Type 0} (Judged : J → List PacketFacts → List Verdict → Ty
     counted = told.counted;
   }
 
-  pub fault_as : (found : Fault) → IsLiveFault Judged begun order before after old new found → IsLiveFault Other other order before after old new found
+  pub fault_as : (found : Fault) → IsLiveFault Judged wording begun order before after old new found → IsLiveFault Other wording other order before after old new found
   unfolding some_as
   fault_as fault.Memory (rest, told) = (rest, some_as rest told)
   fault_as fault.Read (rest, told, truncated, end) = (rest, some_as rest told, truncated, end)
@@ -429,9 +474,9 @@ module _ {J K : Type 0} (Judged : J → List PacketFacts → List Verdict → Ty
   fault_as found wrong = absurd wrong
 
 -- nothing was read or written
-pub none_told : {K : Type 0} (Other : K → List PacketFacts → List Verdict → Type 0) (other : K) (order : Order) (before old : Option (List ℕ))
-    → IsLiveFault Other other order before before old old fault.Memory
-none_told Other other order before old = (
+pub none_told : {K : Type 0} (Other : K → List PacketFacts → List Verdict → Type 0) (wording : Wording) (other : K) (order : Order) (before old : Option (List ℕ))
+    → IsLiveFault Other wording other order before before old old fault.Memory
+none_told Other wording other order before old = (
   [],
   record {
     read = [];

@@ -2,12 +2,13 @@
 use Rattle.std.specs.Prelude.{◌≡◌, ◌+◌, ◌<◌, ◌++◌, ◌^◌, ℕ, List, [], length}
 use Rattle.packet_view.specs.Captures.{AreRecords, PacketFacts, RecordFacts, packets_at}
 use Rattle.packet_view.specs.Fronts.{Stops}
-use Rattle.packet_view.specs.declared.records_at_front.Stop.{Stop}
+use Rattle.packet_view.specs.RecordLists.{records_from}
 use Rattle.session_state.specs.declared.verdict.Verdict.{Verdict}
 use Rattle.racl_io.specs.Buffers.{held_by}
 use Rattle.capture_stream.specs.Found.{HaveFound}
 use Rattle.capture_stream.specs.Histories.{AreRight, Follows, MayFollow}
 use Rattle.capture_stream.specs.declared.engine.Engine.{Engine}
+use Rattle.capture_stream.specs.declared.windows_of_records.Found.{Found}
 
 -- the bytes that were fed and are behind the last packet that was judged
 abbrev pub rest_in : {J : Type 0} → Engine J → List ℕ
@@ -31,9 +32,11 @@ pub record Fed {J : Type 0} (Became : J → List PacketFacts → List Verdict �
   pub interface : new.interface ≡ old.interface
   pub found : HaveFound new.order (rest_in new) new.found
 
--- the packets of all whole records that waited were judged, and no whole record waits
+-- the packets of all whole records that waited were judged, and no whole record waits; what waited is at hand
 pub record HasSettled {J : Type 0} (Became : J → List PacketFacts → List Verdict → J → Type 0) (Judged : J → List PacketFacts → List Verdict → Type 0)
-    (old new : Engine J) (verdicts : List Verdict) (stop : Stop) : Type 0 where
+    (old new : Engine J) (verdicts : List Verdict) (found : Found) : Type 0 where
   pub fed : Fed Became old new [] verdicts
   pub judged : AreRight Became Judged old.judges (packets_at old.interface fed.more) verdicts
-  pub stops : Stops new.order (rest_in new) stop
+  pub stops : Stops new.order (rest_in new) found.stop
+  pub at_hand : HaveFound new.order (held_by new.spare) found
+  pub packets : packets_at new.interface (records_from new.order found.count (held_by new.spare)) ≡ packets_at old.interface fed.more

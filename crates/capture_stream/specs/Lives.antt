@@ -1,15 +1,15 @@
 -- A capture whose packets are told while they come: what was read and written at its end, and where a fault ended it.
-use Rattle.std.specs.Prelude.{◌≡◌, ◌≢◌, ◌+◌, ◌≤◌, ◌⊎◌, ℕ, Bool, List, [], ◌∷◌, None, Option, length}
+use Rattle.std.specs.Prelude.{◌≡◌, ◌≢◌, ◌+◌, ◌≤◌, ◌⊎◌, ℕ, Bool, List, [], Option, length}
 use Rattle.std.specs.Io.KnownBytes.{Appends, Consumes, IsAtEnd}
 use Rattle.packet_view.specs.Captures.{AreRecords, IsEnd, IsTooLong, PacketFacts, RecordFacts, end_of, packets_at}
 use Rattle.packet_view.specs.declared.capture.Order.{Order}
 use Rattle.session_state.specs.declared.verdict.Verdict.{Verdict}
 use Rattle.racl_io.specs.declared.fault.Fault.{Fault}
 use Rattle.racl_io.specs.declared.fault.Fault.TheVariants.{LongRecord, Memory, Read, TooLarge, Write}
-use Rattle.racl_io.specs.declared.totals_and_truncation.Captured.{Captured}
 use Rattle.racl_io.specs.declared.totals_and_truncation.Totals.{Totals}
-use Rattle.racl_io.specs.Reports.{lines_from, report_of, totals_of}
+use Rattle.racl_io.specs.Reports.{totals_of}
 use Rattle.racl_io.specs.Sinks.{GotFront}
+use Rattle.racl_io.specs.Tellings.{Wording, lines_in, report_in, told_alone}
 
 -- once so many bytes were read, no more are
 abbrev pub most_live : ℕ
@@ -20,22 +20,13 @@ abbrev pub with_read : ℕ → Fault → ℕ
 with_read failures Read = failures + 1
 with_read failures fault = failures
 
--- and how often a sink did
-abbrev pub with_write : ℕ → Fault → ℕ
-with_write failures Write = failures + 1
-with_write failures fault = failures
-
--- what a report tells of a capture of so many packets, whose interface it doesn't name
-abbrev pub told_alone : ℕ → Bool → List Captured
-told_alone packets truncated = record { named = None; packets = packets; truncated = truncated } ∷ []
-
 -- where what was said is known to be right, it is as much as there are packets
 abbrev pub AreCounted : {J : Type 0} → (J → List PacketFacts → List Verdict → Type 0) → Type 0
 AreCounted {J} Judged = (begun : J) (packets : List PacketFacts) (said : List Verdict) → Judged begun packets said → length said ≡ length packets
 
--- Of the bytes that the source gave these are whole records at the front, before the rest, and the lines of their
--- packets were written, and no others.
-pub record HasToldSome {J : Type 0} (Judged : J → List PacketFacts → List Verdict → Type 0) (begun : J) (order : Order)
+-- Of the bytes that the source gave these are whole records at the front, before the rest, and what is told of their
+-- packets was written, and no more.
+pub record HasToldSome {J : Type 0} (Judged : J → List PacketFacts → List Verdict → Type 0) (wording : Wording) (begun : J) (order : Order)
     (before after old new : Option (List ℕ)) (rest : List ℕ) : Type 0 where
   pub read : List ℕ
   pub consumed : Consumes before after read
@@ -44,10 +35,10 @@ pub record HasToldSome {J : Type 0} (Judged : J → List PacketFacts → List Ve
   pub verdicts : List Verdict
   pub judged : packets ≢ [] → Judged begun (packets_at 0 packets) verdicts
   pub count : length verdicts ≡ length packets
-  pub text : Appends old new (lines_from None 1 verdicts)
+  pub text : Appends old new (lines_in wording 1 (packets_at 0 packets) verdicts)
 
--- the source gave all its bytes, and the report on the packets of all records was written
-pub record HasToldAll {J : Type 0} (Judged : J → List PacketFacts → List Verdict → Type 0) (begun : J) (order : Order)
+-- the source gave all its bytes, and all that is told of the packets of all records was written
+pub record HasToldAll {J : Type 0} (Judged : J → List PacketFacts → List Verdict → Type 0) (wording : Wording) (begun : J) (order : Order)
     (before after old new : Option (List ℕ)) (totals : Totals) : Type 0 where
   pub read : List ℕ
   pub consumed : Consumes before after read
@@ -60,12 +51,12 @@ pub record HasToldAll {J : Type 0} (Judged : J → List PacketFacts → List Ver
   pub verdicts : List Verdict
   pub judged : Judged begun (packets_at 0 packets) verdicts
   pub count : length verdicts ≡ length packets
-  pub text : Appends old new (report_of verdicts (told_alone (length packets) truncated))
+  pub text : Appends old new (report_in wording (packets_at 0 packets) verdicts truncated)
   pub counted : totals ≡ totals_of verdicts (told_alone (length packets) truncated)
 
--- Of the bytes that the source gave these are whole records at the front, and of the lines of their packets, or at the end of
--- the report on them, a front was written.
-pub record HasToldPart {J : Type 0} (Judged : J → List PacketFacts → List Verdict → Type 0) (begun : J) (order : Order)
+-- Of the bytes that the source gave these are whole records at the front, and of what is told of their packets, or at the end
+-- of all that is, a front was written.
+pub record HasToldPart {J : Type 0} (Judged : J → List PacketFacts → List Verdict → Type 0) (wording : Wording) (begun : J) (order : Order)
     (before after old new : Option (List ℕ)) : Type 0 where
   pub read : List ℕ
   pub consumed : Consumes before after read
@@ -75,18 +66,18 @@ pub record HasToldPart {J : Type 0} (Judged : J → List PacketFacts → List Ve
   pub verdicts : List Verdict
   pub judged : Judged begun (packets_at 0 packets) verdicts
   pub count : length verdicts ≡ length packets
-  pub front : GotFront old new (lines_from None 1 verdicts)
-      ⊎ ((truncated : Bool) × IsAtEnd after × IsEnd order rest (end_of truncated) × GotFront old new (report_of verdicts (told_alone (length packets) truncated)))
+  pub front : GotFront old new (lines_in wording 1 (packets_at 0 packets) verdicts)
+      ⊎ ((truncated : Bool) × IsAtEnd after × IsEnd order rest (end_of truncated) × GotFront old new (report_in wording (packets_at 0 packets) verdicts truncated))
 
 -- Why not all was told. Where a read failed, all whole records were told that were read before.
-abbrev pub IsLiveFault : {J : Type 0} → (J → List PacketFacts → List Verdict → Type 0) → J → Order
+abbrev pub IsLiveFault : {J : Type 0} → (J → List PacketFacts → List Verdict → Type 0) → Wording → J → Order
     → Option (List ℕ) → Option (List ℕ) → Option (List ℕ) → Option (List ℕ) → Fault → Type 0
-IsLiveFault Judged begun order before after old new Memory = (rest : List ℕ) × HasToldSome Judged begun order before after old new rest
-IsLiveFault Judged begun order before after old new Read =
-    (rest : List ℕ) × HasToldSome Judged begun order before after old new rest × (truncated : Bool) × IsEnd order rest (end_of truncated)
-IsLiveFault Judged begun order before after old new (LongRecord number) =
-    (rest : List ℕ) × (told : HasToldSome Judged begun order before after old new rest) × IsTooLong order rest × (number ≡ length told.packets + 1)
-IsLiveFault Judged begun order before after old new TooLarge =
-    (rest : List ℕ) × (told : HasToldSome Judged begun order before after old new rest) × (most_live ≤ length told.read)
-IsLiveFault Judged begun order before after old new Write = HasToldPart Judged begun order before after old new
-IsLiveFault Judged begun order before after old new fault = ⊥
+IsLiveFault Judged wording begun order before after old new Memory = (rest : List ℕ) × HasToldSome Judged wording begun order before after old new rest
+IsLiveFault Judged wording begun order before after old new Read =
+    (rest : List ℕ) × HasToldSome Judged wording begun order before after old new rest × (truncated : Bool) × IsEnd order rest (end_of truncated)
+IsLiveFault Judged wording begun order before after old new (LongRecord number) =
+    (rest : List ℕ) × (told : HasToldSome Judged wording begun order before after old new rest) × IsTooLong order rest × (number ≡ length told.packets + 1)
+IsLiveFault Judged wording begun order before after old new TooLarge =
+    (rest : List ℕ) × (told : HasToldSome Judged wording begun order before after old new rest) × (most_live ≤ length told.read)
+IsLiveFault Judged wording begun order before after old new Write = HasToldPart Judged wording begun order before after old new
+IsLiveFault Judged wording begun order before after old new fault = ⊥

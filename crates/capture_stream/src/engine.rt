@@ -44,9 +44,14 @@ pub fn is_cut(stop: Stop, packets: usize) -> Result<bool, Fault>
 impl<J: Judge> Engine<J> {
     ghost use Rattle.std.specs.Prelude.{◌≡◌, ◌⊎◌, ◌+◌, ◌-◌, ◌<◌, ◌≤◌, ◌^◌, IfOk, MatchResult, length};
     ghost use Rattle.racl_io.specs.declared.fault.Fault.TheVariants.{Memory, Read};
+    ghost use Rattle.packet_view.specs.Captures.{packets_at};
+    ghost use Rattle.packet_view.specs.CheckedCaptures.{remaining};
+    ghost use Rattle.packet_view.specs.RecordLists.{records_from};
+    ghost use Rattle.racl_io.specs.Buffers.{held_by};
     ghost use Rattle.racl_io.specs.Inputs.{most_bytes};
     ghost use Rattle.racl_io.specs.Transfers.{HasReadWithin};
     ghost use Rattle.capture_stream.specs.Feeding.{HasSettled, MayFeed, rest_in};
+    ghost use Rattle.capture_stream.specs.Found.{HaveFound};
     ghost use Rattle.capture_stream.specs.Lives.{with_read};
     ghost use Rattle.capture_stream.specs.inner.Feedings.{HasFed, HasGot, IsBegun, IsUnread};
 
@@ -67,26 +72,31 @@ impl<J: Judge> Engine<J> {
         }
     }
 
-    /// The packets of all whole records that wait are judged. It answers the verdicts that were handed over, and why the
-    /// records end there.
-    pub fn settle(&mut self) -> Result<(Vec<Verdict>, Stop), AllocError>
+    /// The packets of all whole records that wait are judged. It answers the verdicts that were handed over, and which records
+    /// these were.
+    pub fn settle(&mut self) -> Result<(Vec<Verdict>, Found), AllocError>
         requires { MayFeed J.became self.old 0 }
         ensures { IfOk result (λ r. HasSettled J.became J.judged self.old self.new r.0.items r.1) }
     {
         let bytes = self.window.bytes();
-        let Found {
-            count,
-            behind,
-            stop,
-            ..
-        } = self.found;
-        self.spare.hold(&bytes[bytes.len() - behind..])?;
-        let marked = found_records(bytes, self.order, self.interface, &self.found);
+        let found = self.found;
+        self.spare.hold(&bytes[bytes.len() - found.behind..])?;
+        let marked = found_records(bytes, self.order, self.interface, &found);
         let verdicts = self.judges.judge(Packets::Marked(marked))?;
-        self.packets += count;
+        self.packets += found.count;
         swap(&mut self.window, &mut self.spare);
         self.found = find_records(self.window.bytes(), self.order);
-        Ok((verdicts, stop))
+        Ok((verdicts, found))
+    }
+
+    /// The packets that were judged last, of these records.
+    pub fn judged<'a>(&'a self, found: &'a Found) -> Packets<'a>
+        requires { HaveFound self.now.order (held_by self.now.spare) found.now }
+        ensures { remaining result ≡ packets_at self.now.interface (records_from self.now.order found.now.count (held_by self.now.spare)) }
+    {
+        let bytes = self.spare.bytes();
+        let marked = found_records(bytes, self.order, self.interface, found);
+        Packets::Marked(marked)
     }
 
     /// Reads some bytes behind those that wait, so many at most, and none only at the source's end: how many they are. Nothing

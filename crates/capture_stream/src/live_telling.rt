@@ -1,16 +1,13 @@
 //! A capture whose packets are told while they come.
 ghost use Rattle.std.specs.Prelude.{◌≡◌, ◌-◌, ◌<◌, ◌≤◌, ◌^◌, [], MatchResult};
-ghost use Rattle.racl_io.specs.Sinks.{HasPutFront};
-ghost use Rattle.capture_stream.specs.Lives.{AreCounted, HasToldAll, IsLiveFault, with_read, with_write};
-ghost use Rattle.capture_stream.specs.inner.Tellings.{HasToldWaiting, IsWaitingFault, MayTell, end_text, totals_with};
+ghost use Rattle.racl_io.specs.Tellings.{with_write};
+ghost use Rattle.capture_stream.specs.Lives.{AreCounted, HasToldAll, IsLiveFault, with_read};
+ghost use Rattle.capture_stream.specs.inner.Tellings.{HasToldWaiting, IsWaitingFault, MayTell, totals_with};
 
 use crate::engine::{Engine, is_cut};
 use crate::judge::Judge;
 use packet_view::{Order, Stop};
-use racl_io::{
-    Captured, Fault, Piece, Place, Sink, Source, Totals, without_pages, write_lines_whole,
-    write_totals, write_truncation,
-};
+use racl_io::{Fault, Sink, Source, Teller, Totals, without_pages};
 use std::alloc::Global;
 
 /// How many bytes are read at once, at most: what a pipe holds.
@@ -32,33 +29,33 @@ pub struct Live<J> {
     pub read: usize,
 }
 
-// Of a live capture the packets of whole records that wait are judged, and their lines written.
-fn tell_waiting<J: Judge, W: Sink>(
+// Of a live capture the packets of whole records that wait are judged and told.
+fn tell_waiting<J: Judge, L: Teller, W: Sink>(
     writer: &mut W,
-    piece: &mut Piece,
+    teller: &mut L,
     live: &mut Live<J>,
 ) -> Result<Stop, Fault>
     requires may { MayTell J.became live.old }
     requires counts { AreCounted J.judged }
     requires sound { W.failures writer.old < 2 ^ 64 - 1 }
-    ensures told { MatchResult result (HasToldWaiting J.became J.judged live.old (W.bytes writer.old) (W.bytes writer.new) live.new) (IsWaitingFault J.became J.judged live.old (W.bytes writer.old) (W.bytes writer.new)) }
+    ensures told { let old = W.bytes writer.old in let new = W.bytes writer.new in let wording = L.wording teller.old in
+        MatchResult result (HasToldWaiting J.became J.judged wording live.old old new live.new) (IsWaitingFault J.became J.judged wording live.old old new) }
     ensures failures { MatchResult result (λ _. W.failures writer.new ≡ W.failures writer.old) (λ fault. W.failures writer.new ≡ with_write (W.failures writer.old) fault) }
+    ensures same { L.wording teller.new ≡ L.wording teller.old }
 {
-    let place = Place {
-        named: None,
-        others: live.engine.packets,
-    };
-    let (verdicts, stop) = match live.engine.settle() {
+    let others = live.engine.packets;
+    let (verdicts, found) = match live.engine.settle() {
         Ok(settled) => settled,
         Err(_) => return Err(Fault::Memory),
     };
-    let more = match write_lines_whole(writer, piece, place, &verdicts) {
+    let packets = live.engine.judged(&found);
+    let more = match teller.tell(writer, others, packets, &verdicts) {
         Ok(more) => more,
         Err(fault) => return Err(fault),
     };
     live.passed += more;
     live.without_pages += without_pages(&verdicts);
-    Ok(stop)
+    Ok(found.stop)
 }
 
 // The totals over the packets of a live capture that were told.
@@ -76,30 +73,15 @@ fn totals_at<J>(live: &Live<J>, truncated: bool) -> Totals
     }
 }
 
-// Live telling ends with what stands behind the lines of all packets of a capture.
-fn write_live_end<W: Sink>(writer: &mut W, piece: &mut Piece, totals: &Totals) -> Result<(), Fault>
-    requires { W.failures writer.old < 2 ^ 64 - 1 }
-    ensures { HasPutFront W.bytes W.failures writer.old writer.new (end_text totals.now) result }
-{
-    let captured = Captured {
-        named: None,
-        packets: totals.packets as usize,
-        truncated: totals.truncated,
-    };
-    match write_truncation(writer, piece, &captured) {
-        Ok(()) => write_totals(writer, piece, totals),
-        Err(fault) => Err(fault),
-    }
-}
-
-/// Those who judge packets judge all of a capture behind its header, of which its numbers have this order. After each read the lines
-/// of all packets whose records were read whole are written, and at the end what stands behind them in a report. A fault
+/// Those who judge packets judge all of a capture behind its header, of which its numbers have this order. After each read
+/// the packets are told whose records were read whole, and at the end what stands behind them in a report. A fault
 /// leaves what was written. No verdict is kept, and of the bytes only those that belong to no whole record. TooLarge:
 /// 2^62 bytes were read.
-pub fn tell_live<J: Judge + Drop, R: Source, W: Sink>(
+pub fn tell_live<J: Judge + Drop, L: Teller, R: Source, W: Sink>(
     alloc: Global,
     reader: &mut R,
     writer: &mut W,
+    teller: &mut L,
     judges: J,
     order: Order,
 ) -> Result<Totals, Fault>
@@ -107,14 +89,11 @@ pub fn tell_live<J: Judge + Drop, R: Source, W: Sink>(
     requires counts { AreCounted J.judged }
     requires reader { R.failures reader.old < 2 ^ 64 - 1 }
     requires writer { W.failures writer.old < 2 ^ 64 - 1 }
-    ensures told { MatchResult result (HasToldAll J.judged judges order (R.bytes reader.old) (R.bytes reader.new) (W.bytes writer.old) (W.bytes writer.new)) (IsLiveFault J.judged judges order (R.bytes reader.old) (R.bytes reader.new) (W.bytes writer.old) (W.bytes writer.new)) }
+    ensures told { let wording = L.wording teller.old in let before = R.bytes reader.old in let after = R.bytes reader.new in
+        MatchResult result (HasToldAll J.judged wording judges order before after (W.bytes writer.old) (W.bytes writer.new)) (IsLiveFault J.judged wording judges order before after (W.bytes writer.old) (W.bytes writer.new)) }
     ensures read { MatchResult result (λ _. R.failures reader.new ≡ R.failures reader.old) (λ fault. R.failures reader.new ≡ with_read (R.failures reader.old) fault) }
     ensures write { MatchResult result (λ _. W.failures writer.new ≡ W.failures writer.old) (λ fault. W.failures writer.new ≡ with_write (W.failures writer.old) fault) }
 {
-    let mut piece = match Piece::new(alloc) {
-        Ok(piece) => piece,
-        Err(_) => return Err(Fault::Memory),
-    };
     let mut live = Live {
         engine: Engine::new(alloc, judges, order, 0),
         passed: 0,
@@ -122,7 +101,7 @@ pub fn tell_live<J: Judge + Drop, R: Source, W: Sink>(
         read: 0,
     };
     'reads: while live.read < MOST_LIVE {
-        let stop = match tell_waiting(writer, &mut piece, &mut live) {
+        let stop = match tell_waiting(writer, teller, &mut live) {
             Ok(stop) => stop,
             Err(fault) => return Err(fault),
         };
@@ -136,7 +115,7 @@ pub fn tell_live<J: Judge + Drop, R: Source, W: Sink>(
         };
         if n == 0 {
             let totals = totals_at(&live, truncated);
-            match write_live_end(writer, &mut piece, &totals) {
+            match teller.tell_end(writer, &totals) {
                 Ok(()) => return Ok(totals),
                 Err(fault) => return Err(fault),
             }

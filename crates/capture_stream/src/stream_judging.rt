@@ -156,10 +156,10 @@ fn last_window<J: Judge + Drop>(walk: Walk<J>) -> Result<Streamed<J>, Fault>
     ensures { MatchResult result (HasEnded J.became walk) (IsLastFault walk) }
 {
     let Walk { mut engine, .. } = walk;
-    let Ok((_, stop)) = engine.settle() else {
+    let Ok((_, found)) = engine.settle() else {
         return Err(Fault::Memory);
     };
-    let truncated = match is_cut(stop, engine.packets) {
+    let truncated = match is_cut(found.stop, engine.packets) {
         Ok(truncated) => truncated,
         Err(fault) => return Err(fault),
     };

@@ -13,7 +13,6 @@ mod judge_swept;
 mod judged;
 mod judges_met;
 mod judges_split_and_joined;
-mod loads_ahead;
 mod packet_bucket;
 mod rule_counts;
 mod swept;

@@ -1,7 +1,6 @@
 -- A run over a capture that is told while it comes.
-use Rattle.std.specs.Io.KnownBytes.{Appends}
 use Rattle.std.proofs.KnownBytes.{Consumes-all, Consumes-trans}
-use Rattle.std.proofs.Common.{◌≡◌, ◌∙◌, ◌≤◌, ◌++◌, ℕ, List, [], Option, ap, arith, inl, inr, refl, subst, sym, drop, true}
+use Rattle.std.proofs.Common.{◌≡◌, ◌∙◌, ◌≤◌, ◌++◌, ℕ, List, [], Option, ap, arith, inl, inr, map, refl, subst, sym, drop, true}
 use Rattle.std.proofs.lemmas.List.{drop_all, length-map}
 use Rattle.packet_view.specs.Captures.{AreRecords, PacketFacts, packet_at, packets_at}
 use Rattle.packet_view.specs.declared.capture.Order.{Order}
@@ -9,13 +8,26 @@ use Rattle.packet_view.proofs.FrontLemmas.{behind_header_appended, header_append
 use Rattle.acl_policy.specs.Policies.{IsPolicyText, PolicyFacts, policy_facts}
 use Rattle.flow_filter.specs.declared.interface_filters.InterfaceFilters.{InterfaceFilters}
 use Rattle.session_state.specs.declared.verdict.Verdict.{Verdict}
+use Rattle.racl_options.specs.declared.settings.Lines.{Lines}
+use Rattle.racl_options.specs.declared.settings.Lines.TheVariants.{Explained, Json, Plain}
 use Rattle.racl_options.specs.declared.settings.Options.{Options}
+use Rattle.session_state.specs.declared.shown_verdicts.Shown.{Shown}
 use Rattle.racl_io.specs.declared.fault.Fault.{Fault}
 use Rattle.racl_io.specs.declared.totals_and_truncation.Totals.{Totals}
-use Rattle.racl_io.specs.Reports.{report_of, totals_of}
-use Rattle.capture_stream.specs.Lives.{HasToldAll, told_alone}
+use Rattle.racl_io.specs.Reports.{totals_of}
+use Rattle.racl_io.specs.Tellings.{Wording, plain_wording, report_in, told_alone}
+use Rattle.racl_io.proofs.TellingLemmas.{plain_lines, plain_report}
+use Rattle.racl_views.specs.PartTellings.{TellsRun, ToldBy}
+use Rattle.racl_views.specs.RuleTexts.{shown_of}
+use Rattle.racl_views.specs.declared.json_report.ObjectLines.{ObjectLines}
+use Rattle.racl_views.specs.declared.writing_explained_lines.ExplainedLines.{ExplainedLines}
+use Rattle.racl_views.specs.inner.PartWordings.{explained_wording, objects_wording}
+use Rattle.racl_views.specs.inner.Tellings.{IsTableOf}
+use Rattle.racl_views.proofs.PartLemmas.{explained_tells, objects_tell, some_explained, some_objects}
+use Rattle.racl_report.specs.RunReports.{AreLines}
+use Rattle.capture_stream.specs.Lives.{HasToldAll}
 use Rattle.racl_cli.specs.Crews.{AreRestingWith, AreSaid, IsAloneAfter, Orders, cuts_four, orders_for, orders_of, size_of}
-use Rattle.racl_cli.specs.LiveRuns.{ByOneWorker, HasRunLive, IsEarlyFault}
+use Rattle.racl_cli.specs.LiveRuns.{AreFirstLines, ByOneWorker, HasRunLive, IsEarlyFault, TellsAsAsked}
 use Rattle.racl_cli.specs.inner.Heads.{HasReadHeader, IsHeadless}
 use Rattle.racl_cli.specs.declared.sized_tables_and_workers.SizedTables.{SizedTables}
 use Rattle.racl_cli.specs.declared.sized_tables_and_workers.SizedWorkers.{SizedWorkers}
@@ -48,11 +60,63 @@ early_fault text before after fault policy says (gave, inr (inl failed)) = (gave
 early_fault text before after fault policy says (gave, inr (inr (cause, header, consumed, all, wrong, same))) =
     (gave, inr (inr (inr (policy, says, cause, header, consumed, all, wrong, same))))
 
+-- ---- How packets are told
+
+abbrev told_by : Options → List ℕ → PolicyFacts → ToldBy
+told_by options text policy = record { policy = policy; text = text; shown = options.shown }
+
+-- in this form
+in_form : (options : Options) (text : List ℕ) (policy : PolicyFacts) (form : Lines) (wording : Wording) → options.lines ≡ form
+    → TellsRun (AreFirstLines form) (AreLines form) (told_by options text policy) wording → TellsAsAsked options text policy wording
+in_form options text policy form wording is tells =
+    subst (λ (l : Lines). TellsRun (AreFirstLines l) (AreLines l) (told_by options text policy) wording) (sym is) tells
+
+-- in plain lines
+pub plain_as_asked : (options : Options) (text : List ℕ) (policy : PolicyFacts) (shown : Shown) → options.lines ≡ Plain → shown ≡ options.shown
+    → TellsAsAsked options text policy (plain_wording shown)
+plain_as_asked options text policy shown form same =
+    let tells : TellsRun (AreFirstLines Plain) (AreLines Plain) (told_by options text policy) (plain_wording options.shown) = record {
+      lines = λ packets verdicts each. plain_lines options.shown 1 packets verdicts each;
+      report = λ packets verdicts truncated each. plain_report options.shown packets verdicts truncated each;
+    } in
+    subst (λ (s : Shown). TellsAsAsked options text policy (plain_wording s)) (sym same) (in_form options text policy Plain _ form tells)
+
+-- in explained lines
+pub explained_as_asked : (options : Options) (text : List ℕ) (policy : PolicyFacts) (lines : ExplainedLines) → options.lines ≡ Explained → lines.shown ≡ options.shown
+    → policy_facts lines.policy.now ≡ policy → IsTableOf text lines.table → IsPolicyText text policy
+    → TellsAsAsked options text policy (explained_wording lines.shown (policy_facts lines.policy.now) lines.table.rules.items (map shown_of lines.table.texts.items))
+explained_as_asked options text policy lines form shown same table says =
+    let rules = lines.table.rules.items in
+    let is = table policy says in
+    subst (λ (s : Shown). TellsAsAsked options text policy (explained_wording s (policy_facts lines.policy.now) rules (map shown_of lines.table.texts.items))) (sym shown)
+    (subst (λ (p : PolicyFacts). TellsAsAsked options text policy (explained_wording options.shown p rules (map shown_of lines.table.texts.items))) (sym same)
+    (subst (λ (t : List (List ℕ)). TellsAsAsked options text policy (explained_wording options.shown policy rules t)) (sym is.1)
+    (in_form options text policy Explained _ form (explained_tells (told_by options text policy) rules is.0))))
+
+-- in objects
+pub objects_as_asked : (options : Options) (text : List ℕ) (policy : PolicyFacts) (lines : ObjectLines) → options.lines ≡ Json → lines.shown ≡ options.shown
+    → policy_facts lines.policy.now ≡ policy → IsTableOf text lines.table → IsPolicyText text policy
+    → TellsAsAsked options text policy (objects_wording lines.shown (policy_facts lines.policy.now) lines.table.rules.items)
+objects_as_asked options text policy lines form shown same table says =
+    let rules = lines.table.rules.items in
+    subst (λ (s : Shown). TellsAsAsked options text policy (objects_wording s (policy_facts lines.policy.now) rules)) (sym shown)
+    (subst (λ (p : PolicyFacts). TellsAsAsked options text policy (objects_wording options.shown p rules)) (sym same)
+    (in_form options text policy Json _ form (objects_tell (told_by options text policy) rules (table policy says).0)))
+
+-- there is a way, in each form
+pub some_way : (options : Options) (text : List ℕ) (policy : PolicyFacts) (form : Lines) → options.lines ≡ form → IsPolicyText text policy
+    → (wording : Wording) × TellsAsAsked options text policy wording
+some_way options text policy Plain form says = (plain_wording options.shown, plain_as_asked options text policy options.shown form refl)
+some_way options text policy Explained form says =
+    let (wording, tells) = some_explained (told_by options text policy) says in (wording, in_form options text policy Explained wording form tells)
+some_way options text policy Json form says =
+    let (wording, tells) = some_objects (told_by options text policy) says in (wording, in_form options text policy Json wording form tells)
+
 -- all bytes were read, and the report was written
-pub live_run : (options : Options) (text : List ℕ) (before left after old new : Option (List ℕ)) (policy : PolicyFacts) (order : Order) (totals : Totals)
-    → IsPolicyText text policy → HasReadHeader before left order → HasToldAll (ByOneWorker options) policy order left after old new totals
-    → HasRunLive options text before old new totals
-live_run options text before left after old new policy order totals says head told =
+pub live_run : (options : Options) (text : List ℕ) (before left after old new : Option (List ℕ)) (policy : PolicyFacts) (order : Order) (wording : Wording) (totals : Totals)
+    → IsPolicyText text policy → TellsAsAsked options text policy wording → HasReadHeader before left order
+    → HasToldAll (ByOneWorker options) wording policy order left after old new totals → HasRunLive options text before old new totals
+live_run options text before left after old new policy order wording totals says tells head told =
     let bytes = head.header ++ told.read in
     let header = header_appended order head.header told.read (record { right = head.headed.right; one = head.headed.one; none = head.headed.none }) in
     let whole = head.whole in
@@ -73,6 +137,8 @@ live_run options text before left after old new policy order totals says head to
       );
       verdicts = told.verdicts;
       by_one_worker = told.judged;
-      written = subst (λ n. Appends old new (report_of told.verdicts (told_alone n told.truncated))) (sym size) told.text;
+      report = report_in wording (packets_at 0 told.packets) told.verdicts told.truncated;
+      told = tells.report (packets_at 0 told.packets) told.verdicts told.truncated (told.count ∙ sym size);
+      written = told.text;
       counted = subst (λ n. totals ≡ totals_of told.verdicts (told_alone n told.truncated)) (sym size) told.counted;
     }

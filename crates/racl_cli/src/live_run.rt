@@ -1,8 +1,9 @@
 //! One run over a capture that is told while it comes.
 ghost use Rattle.std.specs.Prelude.{◌≡◌, ◌-◌, ◌<◌, ◌^◌, MatchResult};
-ghost use Rattle.acl_policy.specs.Policies.{policy_facts};
-ghost use Rattle.capture_stream.specs.Lives.{HasToldAll, IsLiveFault, with_read, with_write};
-ghost use Rattle.racl_cli.specs.LiveRuns.{ByOneWorker, HasRunLive, IsLiveRunFault};
+ghost use Rattle.acl_policy.specs.Policies.{IsPolicyText, policy_facts};
+ghost use Rattle.racl_io.specs.Tellings.{Wording, with_write};
+ghost use Rattle.capture_stream.specs.Lives.{with_read};
+ghost use Rattle.racl_cli.specs.LiveRuns.{HasRunLive, IsLiveRunFault, TellsAsAsked, TellsBehind};
 
 use crate::capture_header_reading::read_header;
 use crate::sized_tables_and_workers::{Manner, SizedWorkers, create_sized};
@@ -12,8 +13,9 @@ use capture_stream::tell_live;
 use flow_filter::InterfaceFilters;
 use flow_workers::Filter;
 use packet_view::Order;
-use racl_io::{Fault, Sink, Source, Totals};
-use racl_options::Options;
+use racl_io::{Fault, PlainLines, Sink, Source, Teller, Totals};
+use racl_options::{Lines, Options};
+use racl_views::{ExplainedLines, ObjectLines};
 use std::alloc::Global;
 use std::sync::Wait;
 use std::thread::Threads;
@@ -21,30 +23,30 @@ use std::thread::Threads;
 /// For how many packets rules are prepared.
 const EXPECTED: usize = 16_777_216;
 
-/// What stands before the records of a capture: rules that are ready, and the order of its numbers.
+/// What a live run goes by: its options, rules that are ready, and the order of the capture's numbers.
 #[derive(Clone, Copy)]
 pub struct LiveHead<'t, 'f> {
+    pub options: &'t Options,
     pub filter: &'t InterfaceFilters<'f>,
     pub order: Order,
 }
 
-// In a live run one worker tells the packets of the capture behind its header while they come. Its tables cut blocks, and it
-// removes sessions that have ended, as the run may never end.
-fn tell_capture<R: Source, W: Sink, T: Threads + Wait + Sync>(
+// In a live run one worker judges the packets of the capture behind its header, and they are told, while they come. Its tables
+// cut blocks, and it removes sessions that have ended, as the run may never end.
+fn tell_capture<L: Teller, R: Source, W: Sink, T: Threads + Wait + Sync>(
     rt: &T,
     alloc: Global,
-    options: &Options,
     head: LiveHead<'_, '_>,
     reader: &mut R,
     writer: &mut W,
+    teller: &mut L,
 ) -> Result<Totals, Fault>
-    requires times { head.filter.now.times ≡ options.now.times }
-    requires sound { (R.failures reader.old < 2 ^ 64 - 1) × (W.failures writer.old < 2 ^ 64 - 1) }
-    ensures told { MatchResult result (HasToldAll (ByOneWorker options.now) (policy_facts head.entry.filter.now.policy.now) head.entry.order (R.bytes reader.old) (R.bytes reader.new) (W.bytes writer.old) (W.bytes writer.new)) (IsLiveFault (ByOneWorker options.now) (policy_facts head.entry.filter.now.policy.now) head.entry.order (R.bytes reader.old) (R.bytes reader.new) (W.bytes writer.old) (W.bytes writer.new)) }
+    requires sound { (head.filter.now.times ≡ head.options.now.times) × (R.failures reader.old < 2 ^ 64 - 1) × (W.failures writer.old < 2 ^ 64 - 1) }
+    ensures told { TellsBehind head.entry.options.now (L.wording teller.old) (policy_facts head.entry.filter.now.policy.now) head.entry.order (R.bytes reader.old) (R.bytes reader.new) (W.bytes writer.old) (W.bytes writer.new) result }
     ensures read { MatchResult result (λ _. R.failures reader.new ≡ R.failures reader.old) (λ fault. R.failures reader.new ≡ with_read (R.failures reader.old) fault) }
     ensures write { MatchResult result (λ _. W.failures writer.new ≡ W.failures writer.old) (λ fault. W.failures writer.new ≡ with_write (W.failures writer.old) fault) }
 {
-    let Ok((tables, callers)) = create_sized(alloc, options.tables, true) else {
+    let Ok((tables, callers)) = create_sized(alloc, head.options.tables, true) else {
         return Err(Fault::Memory);
     };
     let manner = Manner {
@@ -54,29 +56,65 @@ fn tell_capture<R: Source, W: Sink, T: Threads + Wait + Sync>(
     let Ok(workers) = SizedWorkers::new(rt, alloc, manner, &tables, callers) else {
         return Err(Fault::Memory);
     };
-    tell_live(alloc, reader, writer, Lone { alloc, workers }, head.order)
+    let judges = Lone { alloc, workers };
+    tell_live(alloc, reader, writer, teller, judges, head.order)
 }
 
-/// Filters a capture by this policy while it comes, and writes the report: after each read the lines of all packets whose
-/// records were read whole, and at its end what stands behind them. One worker judges, which keeps no verdict and removes
-/// sessions that have ended, so that a capture may be of any length. A fault leaves what was written.
+// In a live run packets are told in the form that is asked for, by rules with this text.
+fn tell_as_asked<R: Source, W: Sink, T: Threads + Wait + Sync>(
+    rt: &T,
+    alloc: Global,
+    head: LiveHead<'_, '_>,
+    text: &[u8],
+    reader: &mut R,
+    writer: &mut W,
+) -> Result<Totals, Fault>
+    requires ready { IsPolicyText text.now (policy_facts head.filter.now.policy.now)
+        × (head.filter.now.times ≡ head.options.now.times) × (R.failures reader.old < 2 ^ 64 - 1) × (W.failures writer.old < 2 ^ 64 - 1) }
+    ensures told { let options = head.entry.options.now in let policy = policy_facts head.entry.filter.now.policy.now in (wording : Wording) × TellsAsAsked options text.now policy wording
+        × TellsBehind options wording policy head.entry.order (R.bytes reader.old) (R.bytes reader.new) (W.bytes writer.old) (W.bytes writer.new) result }
+    ensures read { MatchResult result (λ _. R.failures reader.new ≡ R.failures reader.old) (λ fault. R.failures reader.new ≡ with_read (R.failures reader.old) fault) }
+    ensures write { MatchResult result (λ _. W.failures writer.new ≡ W.failures writer.old) (λ fault. W.failures writer.new ≡ with_write (W.failures writer.old) fault) }
+{
+    let shown = head.options.shown;
+    let policy = head.filter.policy;
+    match head.options.lines {
+        Lines::Plain => match PlainLines::new(alloc, shown) {
+            Ok(mut lines) => tell_capture(rt, alloc, head, reader, writer, &mut lines),
+            Err(_) => Err(Fault::Memory),
+        },
+        Lines::Explained => match ExplainedLines::new(alloc, shown, policy, text) {
+            Ok(mut lines) => tell_capture(rt, alloc, head, reader, writer, &mut lines),
+            Err(_) => Err(Fault::Memory),
+        },
+        Lines::Json => match ObjectLines::new(alloc, shown, policy, text) {
+            Ok(mut lines) => tell_capture(rt, alloc, head, reader, writer, &mut lines),
+            Err(_) => Err(Fault::Memory),
+        },
+    }
+}
+
+/// Filters a capture by a policy with this text while it comes, and writes the report that the options ask for: after each read
+/// what is told of all packets whose records were read whole, and at its end what stands behind them. One worker judges, which
+/// keeps no verdict and removes sessions that have ended, so that a capture may be of any length. A fault leaves what was
+/// written.
 pub fn run_live<R: Source, W: Sink, T: Threads + Wait + Sync>(
     rt: &T,
     alloc: Global,
     options: &Options,
-    policy: &[u8],
+    text: &[u8],
     reader: &mut R,
     writer: &mut W,
 ) -> Result<Totals, Fault>
     requires reader { R.failures reader.old < 2 ^ 64 - 1 }
     requires writer { W.failures writer.old < 2 ^ 64 - 1 }
-    ensures told { MatchResult result (HasRunLive options.now policy.now (R.bytes reader.old) (W.bytes writer.old) (W.bytes writer.new)) (IsLiveRunFault options.now policy.now (R.bytes reader.old) (R.bytes reader.new) (W.bytes writer.old) (W.bytes writer.new)) }
+    ensures told { MatchResult result (HasRunLive options.now text.now (R.bytes reader.old) (W.bytes writer.old) (W.bytes writer.new)) (IsLiveRunFault options.now text.now (R.bytes reader.old) (R.bytes reader.new) (W.bytes writer.old) (W.bytes writer.new)) }
 
     // A device's fault is answered where it failed, and it failed once.
     ensures read { MatchResult result (λ _. R.failures reader.new ≡ R.failures reader.old) (λ fault. R.failures reader.new ≡ with_read (R.failures reader.old) fault) }
     ensures write { MatchResult result (λ _. W.failures writer.new ≡ W.failures writer.old) (λ fault. W.failures writer.new ≡ with_write (W.failures writer.old) fault) }
 {
-    let policy = match read_policy(alloc, policy) {
+    let policy = match read_policy(alloc, text) {
         Ok(policy) => policy,
         Err(cause) => return Err(Fault::from(cause)),
     };
@@ -95,8 +133,9 @@ pub fn run_live<R: Source, W: Sink, T: Threads + Wait + Sync>(
         return Err(Fault::Memory);
     };
     let head = LiveHead {
+        options,
         filter: &ready,
         order,
     };
-    tell_capture(rt, alloc, options, head, reader, writer)
+    tell_as_asked(rt, alloc, head, text, reader, writer)
 }

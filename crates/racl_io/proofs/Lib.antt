@@ -8,4 +8,5 @@ pub mod PartingLemmas
 pub mod PieceLemmas
 pub mod ReportLemmas
 pub mod ShownLemmas
+pub mod TellingLemmas
 pub mod TransferLemmas

@@ -37,7 +37,7 @@ more_captures_shown shown front text n m rest xs ys captured left after told par
     ∙ ap (captures_shown shown n rest) (sym parted))
     ∙ told
 
-every_line : (named : Option ℕ) (n : ℕ) (verdicts : List Verdict) → lines_shown Every named n verdicts ≡ lines_from named n verdicts
+pub every_line : (named : Option ℕ) (n : ℕ) (verdicts : List Verdict) → lines_shown Every named n verdicts ≡ lines_from named n verdicts
 every_line named n [] = refl
 every_line named n (v ∷ vs) = ap (λ l. line_of named n v ++ l) (every_line named (n + 1) vs)
 

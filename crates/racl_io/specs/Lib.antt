@@ -8,6 +8,7 @@ pub mod Others
 pub mod Reports
 pub mod ShownReports
 pub mod Sinks
+pub mod Tellings
 pub mod Transfers
 pub mod Writings
 pub mod inner

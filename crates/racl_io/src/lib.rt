@@ -14,11 +14,13 @@ mod lines_in_threads;
 mod marker_line;
 mod number_printing;
 mod packet_lines;
+mod plain_lines;
 mod read_buffer;
 mod readers_in_turn;
 mod reading_and_writing;
 mod report_piece;
 mod shown_lines_report;
+mod teller;
 mod totals_and_truncation;
 mod whole_report;
 
@@ -31,11 +33,13 @@ pub use interface_name::push_name;
 pub use joined_source::{Joined, Marked, joined_capture};
 pub use marker_line::{Digits, Form, Input, Numbered, cut_at_numbered_marker, split_input};
 pub use number_printing::Numeral;
+pub use plain_lines::PlainLines;
 pub use read_buffer::ReadBuffer;
 pub use reading_and_writing::{MOST_BYTES, drain, read_until, write_all};
 pub use report_piece::Piece;
 pub use shown_lines_report::write_shown;
+pub use teller::Teller;
 pub use totals_and_truncation::{
-    Captured, Totals, totals_on, without_pages, write_totals, write_truncation,
+    Captured, Totals, totals_on, without_pages, write_end, write_totals, write_truncation,
 };
 pub use whole_report::{Place, write_lines_whole, write_report};

@@ -1,9 +1,9 @@
 //! The report with the lines of some packets alone, written in pieces.
-ghost use Rattle.std.specs.Prelude.{◌≡◌, ◌+◌, ◌-◌, ◌<◌, ◌≤◌, ◌^◌, ◌++◌, [], length};
+ghost use Rattle.std.specs.Prelude.{◌≡◌, ◌+◌, ◌-◌, ◌<◌, ◌≤◌, ◌^◌, ◌++◌, [], OnErr, length};
 ghost use Rattle.racl_io.specs.Reports;
 ghost use Rattle.racl_io.specs.Reports.{packets_in, totals_of};
 ghost use Rattle.racl_io.specs.ShownReports.{captures_shown, line_shown, lines_shown, report_shown};
-ghost use Rattle.racl_io.specs.Sinks.{Writes};
+ghost use Rattle.racl_io.specs.Sinks.{GotFront, Writes};
 ghost use Rattle.racl_io.specs.inner.Lines.{HasTold};
 
 use crate::device::Sink;
@@ -57,8 +57,8 @@ fn push_shown(
     passed
 }
 
-// Writes the lines among the packets at this place, and answers how many of these packets pass.
-fn write_lines_shown<W: Sink>(
+/// Writes the lines among the packets at this place, and answers how many of these packets pass.
+pub fn write_lines_shown<W: Sink>(
     writer: &mut W,
     piece: &mut Piece,
     shown: Shown,
@@ -67,7 +67,8 @@ fn write_lines_shown<W: Sink>(
 ) -> Result<u64, Fault>
     requires sound { W.failures writer.old < 2 ^ 64 - 1 }
     requires fits { place.others + length verdicts.now < 2 ^ 64 }
-    ensures { HasTold W.bytes W.failures writer.old writer.new (lines_shown shown place.named (place.others + 1) verdicts.now) (Reports.passed verdicts.now) result }
+    ensures told { HasTold W.bytes W.failures writer.old writer.new (lines_shown shown place.named (place.others + 1) verdicts.now) (Reports.passed verdicts.now) result }
+    ensures front { OnErr result (GotFront (W.bytes writer.old) (W.bytes writer.new) (lines_shown shown place.named (place.others + 1) verdicts.now)) }
 {
     let mut number = Counter::at(place.others as u64);
     let name = Name::of(place.named);

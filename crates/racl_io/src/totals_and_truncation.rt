@@ -3,6 +3,7 @@ ghost use Rattle.std.specs.Prelude.{◌≡◌, ◌-◌, ◌<◌, ◌^◌, [], tr
 ghost use Rattle.racl_io.specs.Reports;
 ghost use Rattle.racl_io.specs.Reports.{totals_line, totals_of, truncation_line};
 ghost use Rattle.racl_io.specs.Sinks.{HasPutFront};
+ghost use Rattle.racl_io.specs.Tellings.{end_text};
 
 use crate::device::Sink;
 use crate::fault::Fault;
@@ -121,4 +122,20 @@ pub fn write_totals<W: Sink>(
     piece.clear();
     push_totals(piece, totals);
     write_all(writer, piece.as_slice())
+}
+
+/// Writes what stands in a report behind the lines of the packets of one capture, whose interface isn't named.
+pub fn write_end<W: Sink>(writer: &mut W, piece: &mut Piece, totals: &Totals) -> Result<(), Fault>
+    requires { W.failures writer.old < 2 ^ 64 - 1 }
+    ensures { HasPutFront W.bytes W.failures writer.old writer.new (end_text totals.now) result }
+{
+    let captured = Captured {
+        named: None,
+        packets: totals.packets as usize,
+        truncated: totals.truncated,
+    };
+    match write_truncation(writer, piece, &captured) {
+        Ok(()) => write_totals(writer, piece, totals),
+        Err(fault) => Err(fault),
+    }
 }

@@ -2,8 +2,6 @@
 use Rattle.std.specs.Prelude.{◌≡◌, ◌&&◌, ◌||◌, ◌==◌, Bool, true, false, not, is_some, List, [], Option, None, Some, option_map, codes}
 use Rattle.std.specs.Str.{bytes_eq}
 use Rattle.clap.specs.Words.{Text, fault_of}
-use Rattle.session_state.specs.declared.shown_verdicts.Shown.{Shown}
-use Rattle.session_state.specs.declared.shown_verdicts.Shown.TheVariants.{Every, Passing, Dropped, Nothing}
 use Rattle.racl_options.specs.CommandLine.{OptionFacts, SetOptions, Values, option_facts, racl, values_at}
 use Rattle.racl_options.specs.Origins.{Name, OriginFacts, FromStandard, FromFiles, FromInterfaces, origin_facts}
 use Rattle.racl_options.specs.declared.settings.Asked.{Asked}
@@ -46,17 +44,11 @@ is_plain Plain = true
 is_plain Explained = false
 is_plain Json = false
 
-abbrev pub is_every : Shown → Bool
-is_every Every = true
-is_every Passing = false
-is_every Dropped = false
-is_every Nothing = false
-
--- the options beside which verdicts can be written as packets come: one worker, and a plain line for every packet alone
+-- the options beside which verdicts can be written as packets come: one worker, and nothing is told behind the totals
 abbrev pub is_simple_run : OptionFacts → Bool
-is_simple_run options = (options.workers == 1) && (is_every options.shown && (is_plain options.lines && not (options.hits || options.sessions)))
+is_simple_run options = (options.workers == 1) && not (options.hits || options.sessions)
 
--- verdicts can be written as packets come: of the capture in a file, and nothing is told beside them
+-- verdicts can be written as packets come: of the capture in a file, and no packet is saved
 abbrev pub can_be_live : AskedFacts → Bool
 can_be_live asked = are_files asked.origin && (not (is_saved asked) && is_simple_run asked.options)
 

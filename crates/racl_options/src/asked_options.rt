@@ -12,7 +12,7 @@ ghost use Rattle.racl_options.specs.inner.Naming.{IsRefused, SpellOptions, value
 
 use crate::named_files::{Refusal, origin_named};
 use crate::selected_output::{is_given, lines_named, saved_named, shown_named};
-use crate::settings::{Asked, Lines, Options, Origin, Saved, TableSize};
+use crate::settings::{Asked, Options, Origin, Saved, TableSize};
 use crate::table_size::size_named;
 use clap::ArgMatches;
 use session_state::{Shown, Timeouts};
@@ -27,7 +27,7 @@ const NOT_SAVED: &str = "--drops and --passes are of one capture: they need POLI
 const ONE_FILE: &str = "--drops and --passes need a file each";
 
 const NOT_LIVE: &str =
-    "--live needs POLICY CAPTURE, and goes with --age, --tables and timeouts alone";
+    "--live needs POLICY CAPTURE, and no --workers, --hits, --sessions, --drops or --passes";
 
 /// What the matches ask for.
 pub fn asked_by<'a>(alloc: Global, matches: &ArgMatches<'a>) -> Result<Asked<'a>, Refusal>
@@ -66,10 +66,7 @@ fn are_files_asked(origin: &Origin<'_>) -> bool
 fn is_simple_run_asked(options: &Options) -> bool
     ensures { result ≡ asking.is_simple_run (option_facts options.now) }
 {
-    options.workers == 1
-        && matches!(options.shown, Shown::Every)
-        && matches!(options.lines, Lines::Plain)
-        && !(options.hits || options.sessions)
+    options.workers == 1 && !(options.hits || options.sessions)
 }
 
 // Whether the options that are asked save packets, by `--drops` or `--passes`.

@@ -11,5 +11,7 @@ pub mod LineFeeds
 pub mod LineLemmas
 pub mod ObjectDepths
 pub mod ObjectLemmas
+pub mod PartLemmas
+pub mod PutLemmas
 pub mod RuleTextLemmas
 pub mod TextLemmas

@@ -11,7 +11,7 @@ object_lines-append [] b = refl
 object_lines-append (value ∷ a) b =
     ap (λ (t : List ℕ). object_line value ++ t) (object_lines-append a b) ∙ sym (append_assoc (object_line value) (object_lines a) (object_lines b))
 
-lines_from : (tell : ℕ → EntryFacts → List Json) (n : ℕ) (entries : List EntryFacts)
+pub lines_from : (tell : ℕ → EntryFacts → List Json) (n : ℕ) (entries : List EntryFacts)
     → object_lines (told_from tell n entries) ≡ told_from (λ m entry. object_lines (tell m entry)) n entries
 lines_from tell n [] = refl
 lines_from tell n (entry ∷ entries) =

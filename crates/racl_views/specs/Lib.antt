@@ -7,6 +7,7 @@ pub mod Hits
 pub mod Objects
 pub mod PacketObjects
 pub mod PacketWords
+pub mod PartTellings
 pub mod RuleLines
 pub mod RuleTexts
 pub mod RunEntries

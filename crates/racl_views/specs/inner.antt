@@ -3,6 +3,7 @@ pub mod ChosenBytes
 pub mod Counts
 pub mod EntryLists
 pub mod Fields
+pub mod PartWordings
 pub mod Places
 pub mod Spots
 pub mod Tellings

@@ -1,4 +1,4 @@
-//! The report in objects of JSON, made whole before any of it is written.
+//! The report in objects of JSON, made whole before any of it is written, or one part of the packets after the other.
 ghost use Rattle.std.specs.Prelude.{◌≡◌, ◌+◌, ◌-◌, ◌<◌, ◌^◌, ◌++◌, ℕ, List, IfOk, OnOk, drop, length};
 ghost use Rattle.packet_view.specs.Captures.{packet_facts};
 ghost use Rattle.packet_view.specs.CheckedCaptures.{remaining};
@@ -7,17 +7,20 @@ ghost use Rattle.racl_io.specs.Reports.{packets_in, totals_of};
 ghost use Rattle.racl_io.specs.Sinks.{Writes};
 ghost use Rattle.racl_views.specs.PacketObjects.{IsToldInObjects};
 ghost use Rattle.racl_views.specs.RunEntries.{captures_told, run_facts, told_from};
-ghost use Rattle.racl_views.specs.inner.Tellings.{entries_by, entry_by, object_by, truncation_by};
+ghost use Rattle.racl_views.specs.inner.PartWordings.{end_objects, objects_wording};
+ghost use Rattle.racl_views.specs.inner.Tellings.{IsTableOf, entries_by, entry_by, object_by, truncation_by};
 
 use crate::json_objects::{push_packet, push_totals, push_truncation};
 use crate::packet_entry::entry_of;
 use crate::packet_telling::Telling;
 use crate::passed_count::passed;
 use crate::rule_lines_by_place::rule_table_by_place;
+use crate::rule_table::RuleTable;
 use crate::run_and_verdicts::Run;
+use acl_policy::Policy;
 use packet_view::{Packet, Packets};
-use racl_io::{Captured, Fault, Sink, Totals, totals_on, write_all};
-use session_state::{Verdict, has_line};
+use racl_io::{Captured, Fault, Sink, Teller, Totals, totals_on, write_all};
+use session_state::{Shown, Verdict, has_line};
 use std::alloc::{AllocError, Global};
 
 // The object of a packet behind the text of the report in JSON, where it is shown.
@@ -140,5 +143,93 @@ pub fn write_objects<W: Sink>(alloc: Global, writer: &mut W, run: Run<'_>) -> Re
             Ok(totals)
         }
         Err(_) => Err(Fault::Memory),
+    }
+}
+
+/// What tells packets in objects of JSON, one a line, and of these those that are shown. Those of each part are made whole
+/// before any of them is written.
+#[derive(Drop)]
+pub struct ObjectLines<'a> {
+    pub shown: Shown,
+    pub policy: &'a Policy,
+    pub table: RuleTable<'a>,
+    pub address: String,
+    pub alloc: Global,
+}
+
+impl<'a> ObjectLines<'a> {
+    /// Those under this policy, which the text says.
+    pub fn new(
+        alloc: Global,
+        shown: Shown,
+        policy: &'a Policy,
+        text: &'a [u8],
+    ) -> Result<ObjectLines<'a>, AllocError>
+        ensures { IfOk result (λ lines. (lines.shown ≡ shown) × (lines.policy.now ≡ policy.now) × IsTableOf text.now lines.table) }
+    {
+        let table = rule_table_by_place(alloc, text)?;
+        Ok(ObjectLines {
+            shown,
+            policy,
+            table,
+            address: String::new(alloc),
+            alloc,
+        })
+    }
+}
+
+// The objects behind those of the packets of a capture whose interface isn't named.
+fn objects_at_end(alloc: Global, totals: &Totals) -> Result<Vec<u8>, AllocError>
+    ensures { IfOk result (λ text. text.items ≡ end_objects totals.now) }
+{
+    let captured = Captured {
+        named: None,
+        packets: totals.packets as usize,
+        truncated: totals.truncated,
+    };
+    let text = tell_truncation_in_json(Vec::new(alloc), &captured)?;
+    push_totals(text, totals)
+}
+
+impl<'a> Teller for ObjectLines<'a> {
+    ghost wording = { λ lines. objects_wording lines.shown (policy_facts lines.policy.now) lines.table.rules.items };
+
+    fn tell<W: Sink>(
+        &mut self,
+        writer: &mut W,
+        others: usize,
+        packets: Packets<'_>,
+        verdicts: &[Verdict],
+    ) -> Result<u64, Fault> {
+        let telling = Telling {
+            shown: self.shown,
+            policy: self.policy,
+            table: &self.table,
+        };
+        let first = others as u64 + 1;
+        let mut packets = packets;
+        let text = Vec::new(self.alloc);
+        let told = match tell_packets_in_json(
+            text,
+            &mut self.address,
+            telling,
+            first,
+            &mut packets,
+            verdicts,
+        ) {
+            Ok(told) => told,
+            Err(_) => return Err(Fault::Memory),
+        };
+        match write_all(writer, &told) {
+            Ok(()) => Ok(passed(verdicts)),
+            Err(fault) => Err(fault),
+        }
+    }
+
+    fn tell_end<W: Sink>(&mut self, writer: &mut W, totals: &Totals) -> Result<(), Fault> {
+        match objects_at_end(self.alloc, totals) {
+            Ok(text) => write_all(writer, &text),
+            Err(_) => Err(Fault::Memory),
+        }
     }
 }

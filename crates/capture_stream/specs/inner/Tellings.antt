@@ -1,5 +1,5 @@
 -- A capture of which the first packets were told.
-use Rattle.std.specs.Prelude.{◌≡◌, ◌+◌, ◌-◌, ◌<◌, ◌≤◌, ◌++◌, ◌^◌, ℕ, Bool, List, None, Option, length}
+use Rattle.std.specs.Prelude.{◌≡◌, ◌+◌, ◌-◌, ◌<◌, ◌≤◌, ◌^◌, ℕ, Bool, List, Option, length}
 use Rattle.std.specs.Io.KnownBytes.{Appends}
 use Rattle.packet_view.specs.Captures.{PacketFacts, RecordFacts, packets_at}
 use Rattle.packet_view.specs.Fronts.{Stops}
@@ -9,12 +9,14 @@ use Rattle.session_state.specs.declared.verdict.Verdict.{Verdict}
 use Rattle.racl_io.specs.declared.fault.Fault.{Fault}
 use Rattle.racl_io.specs.declared.fault.Fault.TheVariants.{Memory, Write}
 use Rattle.racl_io.specs.declared.totals_and_truncation.Totals.{Totals}
-use Rattle.racl_io.specs.Reports.{lines_from, passed, totals_line, truncation_line, without_pages}
+use Rattle.racl_io.specs.Reports.{passed, without_pages}
 use Rattle.racl_io.specs.Sinks.{GotFront}
+use Rattle.racl_io.specs.Tellings.{Wording, lines_in}
 use Rattle.capture_stream.specs.Lives.{HasToldSome, most_live}
 use Rattle.capture_stream.specs.Feeding.{HasSettled, rest_in}
 use Rattle.capture_stream.specs.Found.{HaveFound}
 use Rattle.capture_stream.specs.declared.engine.Engine.{Engine}
+use Rattle.capture_stream.specs.declared.windows_of_records.Found.{Found}
 use Rattle.capture_stream.specs.declared.live_telling.Live.{Live}
 
 -- where telling may go on from: no more packets were told than bytes were read before those that wait
@@ -32,44 +34,46 @@ pub record MayTell {J : Type 0} (Became : J → List PacketFacts → List Verdic
   pub unnamed : live.engine.interface ≡ 0
   pub found : HaveFound live.engine.order (rest_in live.engine) live.engine.found
 
--- the packets of the whole records that waited were judged, and their lines written
+-- what is told of packets behind those before
+abbrev pub lines_behind : {J : Type 0} → Wording → Engine J → List RecordFacts → List Verdict → List ℕ
+lines_behind wording engine more verdicts = lines_in wording (engine.packets + 1) (packets_at engine.interface more) verdicts
+
+-- the packets of the whole records that waited were judged and told
 pub record HasToldWaiting {J : Type 0} (Became : J → List PacketFacts → List Verdict → J → Type 0) (Judged : J → List PacketFacts → List Verdict → Type 0)
-    (old : Live J) (before after : Option (List ℕ)) (new : Live J) (stop : Stop) : Type 0 where
+    (wording : Wording) (old : Live J) (before after : Option (List ℕ)) (new : Live J) (stop : Stop) : Type 0 where
   pub verdicts : List Verdict
-  pub settled : HasSettled Became Judged old.engine new.engine verdicts stop
-  pub text : Appends before after (lines_from None (old.engine.packets + 1) verdicts)
+  pub found : Found
+  pub settled : HasSettled Became Judged old.engine new.engine verdicts found
+  pub stop_is : found.stop ≡ stop
+  pub text : Appends before after (lines_behind wording old.engine settled.fed.more verdicts)
   pub passing : new.passed ≡ old.passed + passed verdicts
   pub lacking : new.without_pages ≡ old.without_pages + without_pages verdicts
   pub read : new.read ≡ old.read
 
--- they were judged, and a front of their lines was written
+-- they were judged, and a front of what is told of them was written
 pub record HasCutWaiting {J : Type 0} (Became : J → List PacketFacts → List Verdict → J → Type 0) (Judged : J → List PacketFacts → List Verdict → Type 0)
-    (old : Live J) (before after : Option (List ℕ)) : Type 0 where
+    (wording : Wording) (old : Live J) (before after : Option (List ℕ)) : Type 0 where
   pub verdicts : List Verdict
   pub engine : Engine J
-  pub stop : Stop
-  pub settled : HasSettled Became Judged old.engine engine verdicts stop
-  pub front : GotFront before after (lines_from None (old.engine.packets + 1) verdicts)
+  pub found : Found
+  pub settled : HasSettled Became Judged old.engine engine verdicts found
+  pub front : GotFront before after (lines_behind wording old.engine settled.fed.more verdicts)
 
--- memory ran out before a line was written, or a write failed
+-- memory ran out before any of it was written, or a write failed
 abbrev pub IsWaitingFault : {J : Type 0} → (J → List PacketFacts → List Verdict → J → Type 0) → (J → List PacketFacts → List Verdict → Type 0)
-    → Live J → Option (List ℕ) → Option (List ℕ) → Fault → Type 0
-IsWaitingFault Became Judged old before after Memory = after ≡ before
-IsWaitingFault Became Judged old before after Write = HasCutWaiting Became Judged old before after
-IsWaitingFault Became Judged old before after fault = ⊥
+    → Wording → Live J → Option (List ℕ) → Option (List ℕ) → Fault → Type 0
+IsWaitingFault Became Judged wording old before after Memory = after ≡ before
+IsWaitingFault Became Judged wording old before after Write = HasCutWaiting Became Judged wording old before after
+IsWaitingFault Became Judged wording old before after fault = ⊥
 
 abbrev pub totals_with : ℕ → ℕ → ℕ → Bool → Totals
 totals_with packets passing lacking truncated =
     record { packets = packets; passed = passing; dropped = packets - passing; without_pages = lacking; truncated = truncated }
 
--- what stands behind the lines of all packets
-abbrev pub end_text : Totals → List ℕ
-end_text totals = truncation_line None totals.truncated totals.packets ++ totals_line totals
-
 -- all that was read after the header is records that were told and what waits
 pub record IsLive {J : Type 0} (Became : J → List PacketFacts → List Verdict → J → Type 0) (Judged : J → List PacketFacts → List Verdict → Type 0)
-    (begun : J) (order : Order) (before now old new : Option (List ℕ)) (live : Live J) : Type 0 where
-  pub told : HasToldSome Judged begun order before now old new (rest_in live.engine)
+    (wording : Wording) (begun : J) (order : Order) (before now old new : Option (List ℕ)) (live : Live J) : Type 0 where
+  pub told : HasToldSome Judged wording begun order before now old new (rest_in live.engine)
   pub stand : Became begun (packets_at 0 told.packets) told.verdicts live.engine.judges
   pub count : live.engine.packets ≡ length told.packets
   pub passing : live.passed ≡ passed told.verdicts
@@ -82,8 +86,8 @@ pub record IsLive {J : Type 0} (Became : J → List PacketFacts → List Verdict
 
 -- and no whole record waits, and the bytes that do end so
 pub record IsTold {J : Type 0} (Became : J → List PacketFacts → List Verdict → J → Type 0) (Judged : J → List PacketFacts → List Verdict → Type 0)
-    (begun : J) (order : Order) (before now old new : Option (List ℕ)) (live : Live J) (stop : Stop) : Type 0 where
-  pub is : IsLive Became Judged begun order before now old new live
+    (wording : Wording) (begun : J) (order : Order) (before now old new : Option (List ℕ)) (live : Live J) (stop : Stop) : Type 0 where
+  pub is : IsLive Became Judged wording begun order before now old new live
   pub judged : Judged begun (packets_at 0 is.told.packets) is.told.verdicts
   pub stops : Stops order (rest_in live.engine) stop
   pub below : live.read < most_live

@@ -1,10 +1,12 @@
-//! A judge of packets that sweeps, and of which each family's table is closed. What is expected is worked out by hand.
+//! A judge of packets that sweeps, and of which each family's table is closed; and counts by rule. What is expected is worked out
+//! by hand.
 use super::TIMES;
 use super::session_tables::{NAMES, request_for_tables};
+use acl_policy::read_policy;
 use bihash_words::{ShapeV4, ShapeV6};
-use flow_judge::Judge;
+use flow_judge::{Judge, RuleCounts};
 use flow_workers::Verdict;
-use packet_view::Family;
+use packet_view::{Direction, Family};
 use std::alloc::Global;
 
 // The verdict on a request, how many sessions each family's table gives then, and the verdict on the same request over the new
@@ -65,4 +67,29 @@ fn swept_after_a_request(alloc: Global, moment: u32) -> Option<(bool, u64, u64, 
 fn a_judge_sweeps_what_has_ended(rt: HostRuntime) {
     let found = swept_after_a_request(rt.alloc(), 700);
     assert!(rt; found == Some((true, 0, 1, 16_383)));
+}
+
+// How many packets were counted for the policy's one rule, for one behind it and for no rule, where one of each came. `None`:
+// memory was refused.
+fn counts_by_rule(alloc: Global) -> Option<(u64, u64, u64)> {
+    let Ok(policy) = read_policy(alloc, NAMES.as_bytes()) else {
+        return None;
+    };
+    let Ok(mut counts) = RuleCounts::of(alloc, &policy) else {
+        return None;
+    };
+    counts.count(0, Direction::Outbound, 1);
+    counts.count(0, Direction::Outbound, 2);
+    counts.count(0, Direction::Inbound, 0);
+    Some((
+        counts.at(0, Direction::Outbound, 1),
+        counts.at(0, Direction::Outbound, 2),
+        counts.at(0, Direction::Inbound, 0),
+    ))
+}
+
+#[test]
+fn packets_are_counted_by_rule(rt: HostRuntime) {
+    let found = counts_by_rule(rt.alloc());
+    assert!(rt; found == Some((1, 0, 1)));
 }

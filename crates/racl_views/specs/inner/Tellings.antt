@@ -8,6 +8,7 @@ use Rattle.racl_io.specs.declared.fault.Fault.{Fault}
 use Rattle.racl_io.specs.declared.fault.Fault.TheVariants.{Write}
 use Rattle.racl_io.specs.declared.totals_and_truncation.Captured.{Captured}
 use Rattle.racl_io.specs.Reports.{truncation_line}
+use Rattle.racl_io.specs.Sinks.{GotFront}
 use Rattle.racl_views.specs.declared.rule_table.RuleTable.{RuleTable}
 use Rattle.racl_views.specs.declared.packet_telling.Telling.{Telling}
 use Rattle.racl_views.specs.Entries.{EntryFacts}
@@ -52,10 +53,11 @@ IsTableOf text table =
     (policy : PolicyFacts) → IsPolicyText text policy → AreRules text table.rules.items × (map shown_of table.texts.items ≡ rule_texts text)
 
 -- A sink and a piece got this text: what the piece had and the text were written, up to what it has now. Or the sink failed
--- once more.
+-- once more, and got a front of what the piece had.
 abbrev pub HasPushed : {W : Type 0} → (W → Option (List ℕ)) → (W → ℕ) → W → W → List ℕ → List ℕ → List ℕ → Result ⊤ Fault → Type 0
 HasPushed bytes failures old new before after text result =
     OnOk result ((written : List ℕ) × Appends (bytes old) (bytes new) written × (before ++ text ≡ written ++ after))
     × OnOk result (failures new ≡ failures old)
     × OnErr result (failures new ≡ failures old + 1)
     × IfErr result (λ e. e ≡ Write)
+    × OnErr result (GotFront (bytes old) (bytes new) before)

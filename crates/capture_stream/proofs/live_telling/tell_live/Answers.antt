@@ -1,105 +1,106 @@
-use Rattle.std.proofs.Common.{◌∙◌, arith, refl, subst, sym}
-use Rattle.capture_stream.specs.Lives.{IsLiveFault}
+use Rattle.std.proofs.Common.{◌∙◌, arith, refl, subst}
+use Rattle.std.specs.Io.KnownBytes.{Appends}
+use Rattle.racl_io.specs.Tellings.{IsTellingFault, Wording}
 use Rattle.capture_stream.specs.inner.Feedings.{HasGot}
-use Rattle.capture_stream.proofs.TellLemmas.{end_fault, live_begun, live_large, live_may, live_more, live_told, longer_totals, none_told, part_fault, told_all, told_few, told_long, told_passing, told_short, window_fault}
+use Rattle.capture_stream.proofs.TellLemmas.{end_fault, live_begun, live_large, live_may, live_more, live_told, longer_totals, part_fault, told_all, told_few, told_long, told_passing, told_short, window_fault}
 use Rattle.capture_stream.proofs.live_telling.tell_live.Goals as goal
-
-pub returns-in-Err-clause-told : goal.returns-in-Err-clause-told
-returns-in-Err-clause-told g c = none_told g.J.Judge.judged c.args.judges c.args.order (g.R.Source.bytes c.args.reader.now) (g.W.Sink.bytes c.args.writer.now)
 
 pub reads-init : goal.reads-init
 reads-init g c = record {
-  live = live_begun g.J.Judge.became g.J.Judge.judged c.args.judges c.args.order _ _ _ c.requires.begun c.new-2.ensures refl refl refl;
+  live = live_begun g.J.Judge.became g.J.Judge.judged (g.L.Teller.wording c.args.teller.now) c.args.judges c.args.order _ _ _ c.requires.begun c.new.ensures refl refl refl;
   reads = refl;
+  same = refl;
   writes = refl;
 }
 
 pub tell_waiting-requires-clause-may : goal.tell_waiting-requires-clause-may
-tell_waiting-requires-clause-may g c = live_may _ g.J.Judge.judged c.args.judges c.args.order _ _ _ _ c.reads.live c.reads.invariant.live c.reads-test.true
+tell_waiting-requires-clause-may g c = live_may _ g.J.Judge.judged (g.L.Teller.wording c.args.teller.now) c.args.judges c.args.order _ _ _ _ c.reads.live c.reads.invariant.live c.reads-test.true
 
-pub returns-in-Err-tell_waiting-clause-told : goal.returns-in-Err-tell_waiting-clause-told
-returns-in-Err-tell_waiting-clause-told g c =
-    window_fault g.J.Judge.became g.J.Judge.judged c.args.judges c.args.order _ _ c.requires.counts _ _ _ c.reads.live c.in-Err-tell_waiting.fault
-    c.reads.invariant.live c.in-Err-tell_waiting.ensures.told
+pub returns-in-Err-clause-told : goal.returns-in-Err-clause-told
+returns-in-Err-clause-told g c =
+    window_fault g.J.Judge.became g.J.Judge.judged (g.L.Teller.wording c.args.teller.now) c.args.judges c.args.order _ _ c.requires.counts _ _ _ c.reads.live c.in-Err.fault
+    c.reads.invariant.live _ c.reads.invariant.same c.in-Err.ensures.told
 
 pub is_cut-requires : goal.is_cut-requires
 is_cut-requires g c =
-    let told = live_told g.J.Judge.became g.J.Judge.judged c.args.judges c.args.order (g.R.Source.bytes c.args.reader.now) (g.W.Sink.bytes c.args.writer.now)
-    c.requires.counts _ _ _ c.reads.live c.tell_waiting.new.live c.in-Ok-tell_waiting.stop c.reads.invariant.live c.reads-test.true
-    c.in-Ok-tell_waiting.ensures.told in
-    told_few _ _ _ _ _ _ _ _ _ _ told
+    let told = live_told g.J.Judge.became g.J.Judge.judged (g.L.Teller.wording c.args.teller.now) c.args.judges c.args.order (g.R.Source.bytes c.args.reader.now) (g.W.Sink.bytes c.args.writer.now)
+    c.requires.counts _ _ _ c.reads.live c.tell_waiting.new.live c.in-Ok.stop c.reads.invariant.live c.reads-test.true
+    _ c.reads.invariant.same c.in-Ok.ensures.told in
+    told_few _ _ _ _ _ _ _ _ _ _ _ told
 
 pub returns-in-Err-is_cut-clause-told : goal.returns-in-Err-is_cut-clause-told
 returns-in-Err-is_cut-clause-told g c =
-    let told = live_told g.J.Judge.became g.J.Judge.judged c.args.judges c.args.order (g.R.Source.bytes c.args.reader.now) (g.W.Sink.bytes c.args.writer.now)
-    c.requires.counts _ _ _ c.reads.live c.tell_waiting.new.live c.in-Ok-tell_waiting.stop c.reads.invariant.live c.reads-test.true
-    c.in-Ok-tell_waiting.ensures.told in
-    told_long _ _ _ _ _ _ _ _ _ _ told c.in-Err-is_cut.fault c.in-Err-is_cut.ensures
+    let told = live_told g.J.Judge.became g.J.Judge.judged (g.L.Teller.wording c.args.teller.now) c.args.judges c.args.order (g.R.Source.bytes c.args.reader.now) (g.W.Sink.bytes c.args.writer.now)
+    c.requires.counts _ _ _ c.reads.live c.tell_waiting.new.live c.in-Ok.stop c.reads.invariant.live c.reads-test.true
+    _ c.reads.invariant.same c.in-Ok.ensures.told in
+    told_long _ _ _ _ _ _ _ _ _ _ _ told c.in-Err-is_cut.fault c.in-Err-is_cut.ensures
 
 pub read_some-requires-clause-few : goal.read_some-requires-clause-few
 read_some-requires-clause-few g c =
-    let told = live_told g.J.Judge.became g.J.Judge.judged c.args.judges c.args.order (g.R.Source.bytes c.args.reader.now) (g.W.Sink.bytes c.args.writer.now)
-    c.requires.counts _ _ _ c.reads.live c.tell_waiting.new.live c.in-Ok-tell_waiting.stop c.reads.invariant.live c.reads-test.true
-    c.in-Ok-tell_waiting.ensures.told in
-    told_short _ _ _ _ _ _ _ _ _ _ told
+    let told = live_told g.J.Judge.became g.J.Judge.judged (g.L.Teller.wording c.args.teller.now) c.args.judges c.args.order (g.R.Source.bytes c.args.reader.now) (g.W.Sink.bytes c.args.writer.now)
+    c.requires.counts _ _ _ c.reads.live c.tell_waiting.new.live c.in-Ok.stop c.reads.invariant.live c.reads-test.true
+    _ c.reads.invariant.same c.in-Ok.ensures.told in
+    told_short _ _ _ _ _ _ _ _ _ _ _ told
 
 pub returns-in-Err-read_some-clause-told : goal.returns-in-Err-read_some-clause-told
 returns-in-Err-read_some-clause-told g c =
-    let told = live_told g.J.Judge.became g.J.Judge.judged c.args.judges c.args.order (g.R.Source.bytes c.args.reader.now) (g.W.Sink.bytes c.args.writer.now)
-    c.requires.counts _ _ _ c.reads.live c.tell_waiting.new.live c.in-Ok-tell_waiting.stop c.reads.invariant.live c.reads-test.true
-    c.in-Ok-tell_waiting.ensures.told in
-    part_fault _ _ _ _ _ _ _ _ _ _ told (g.R.Source.bytes c.read_some.new.reader) c.in-Ok-is_cut.truncated c.in-Err-read_some.fault c.in-Ok-is_cut.ensures
+    let told = live_told g.J.Judge.became g.J.Judge.judged (g.L.Teller.wording c.args.teller.now) c.args.judges c.args.order (g.R.Source.bytes c.args.reader.now) (g.W.Sink.bytes c.args.writer.now)
+    c.requires.counts _ _ _ c.reads.live c.tell_waiting.new.live c.in-Ok.stop c.reads.invariant.live c.reads-test.true
+    _ c.reads.invariant.same c.in-Ok.ensures.told in
+    part_fault _ _ _ _ _ _ _ _ _ _ _ told (g.R.Source.bytes c.read_some.new.reader) c.in-Ok-is_cut.truncated c.in-Err-read_some.fault c.in-Ok-is_cut.ensures
     c.in-Err-read_some.ensures.got
 
 pub totals_at-totals-requires : goal.totals_at-totals-requires
 totals_at-totals-requires g c =
-    let told = live_told g.J.Judge.became g.J.Judge.judged c.args.judges c.args.order (g.R.Source.bytes c.args.reader.now) (g.W.Sink.bytes c.args.writer.now)
-    c.requires.counts _ _ _ c.reads.live c.tell_waiting.new.live c.in-Ok-tell_waiting.stop c.reads.invariant.live c.reads-test.true
-    c.in-Ok-tell_waiting.ensures.told in
-    let few = told_passing _ _ _ _ _ _ _ _ _ _ told in
+    let told = live_told g.J.Judge.became g.J.Judge.judged (g.L.Teller.wording c.args.teller.now) c.args.judges c.args.order (g.R.Source.bytes c.args.reader.now) (g.W.Sink.bytes c.args.writer.now)
+    c.requires.counts _ _ _ c.reads.live c.tell_waiting.new.live c.in-Ok.stop c.reads.invariant.live c.reads-test.true
+    _ c.reads.invariant.same c.in-Ok.ensures.told in
+    let few = told_passing _ _ _ _ _ _ _ _ _ _ _ told in
     let got = c.in-Ok-read_some.ensures.got in
     let same = got.longer.packets in
     omega arith
 
-pub returns-in-Ok-write_live_end-clause-told : goal.returns-in-Ok-write_live_end-clause-told
-returns-in-Ok-write_live_end-clause-told g c =
+pub returns-in-Ok-tell_end-clause-told : goal.returns-in-Ok-tell_end-clause-told
+returns-in-Ok-tell_end-clause-told g c =
     let now = g.R.Source.bytes c.reads.reader in
     let end = g.R.Source.bytes c.read_some.new.reader in
     let mid = g.W.Sink.bytes c.tell_waiting.new.writer in
-    let last = g.W.Sink.bytes c.write_live_end.new.writer in
+    let last = g.W.Sink.bytes c.tell_end.new.writer in
     let next = c.tell_waiting.new.live in
-    let told = live_told g.J.Judge.became g.J.Judge.judged c.args.judges c.args.order (g.R.Source.bytes c.args.reader.now) (g.W.Sink.bytes c.args.writer.now)
-    c.requires.counts now _ mid c.reads.live next c.in-Ok-tell_waiting.stop c.reads.invariant.live c.reads-test.true c.in-Ok-tell_waiting.ensures.told in
+    let told = live_told g.J.Judge.became g.J.Judge.judged (g.L.Teller.wording c.args.teller.now) c.args.judges c.args.order (g.R.Source.bytes c.args.reader.now) (g.W.Sink.bytes c.args.writer.now)
+    c.requires.counts now _ mid c.reads.live next c.in-Ok.stop c.reads.invariant.live c.reads-test.true _ c.reads.invariant.same c.in-Ok.ensures.told in
     let got = subst (HasGot now end next.engine c.read_some.new.self 65536) c.if-n-eq0.true c.in-Ok-read_some.ensures.got in
-    told_all _ _ _ _ _ _ now mid next _ told end last c.read_some.new.self c.in-Ok-is_cut.truncated c.totals_at-totals.result c.in-Ok-is_cut.ensures got
-    (longer_totals _ _ c.totals_at-totals.result c.in-Ok-is_cut.truncated got.longer.packets c.totals_at-totals.ensures) c.in-Ok-write_live_end.ensures.0
+    told_all _ _ _ _ _ _ _ now mid next _ told end last c.read_some.new.self c.in-Ok-is_cut.truncated c.totals_at-totals.result c.in-Ok-is_cut.ensures got
+    (longer_totals _ _ c.totals_at-totals.result c.in-Ok-is_cut.truncated got.longer.packets c.totals_at-totals.ensures)
+    (subst (λ (w : Wording). Appends mid last (w.end c.totals_at-totals.result)) (c.in-Ok.ensures.same ∙ c.reads.invariant.same) c.in-Ok-tell_end.ensures.told.0)
 
-pub returns-in-Err-write_live_end-clause-told : goal.returns-in-Err-write_live_end-clause-told
-returns-in-Err-write_live_end-clause-told g c =
+pub returns-in-Err-tell_end-clause-told : goal.returns-in-Err-tell_end-clause-told
+returns-in-Err-tell_end-clause-told g c =
     let now = g.R.Source.bytes c.reads.reader in
     let end = g.R.Source.bytes c.read_some.new.reader in
     let mid = g.W.Sink.bytes c.tell_waiting.new.writer in
-    let last = g.W.Sink.bytes c.write_live_end.new.writer in
+    let last = g.W.Sink.bytes c.tell_end.new.writer in
     let next = c.tell_waiting.new.live in
-    let told = live_told g.J.Judge.became g.J.Judge.judged c.args.judges c.args.order (g.R.Source.bytes c.args.reader.now) (g.W.Sink.bytes c.args.writer.now)
-    c.requires.counts now _ mid c.reads.live next c.in-Ok-tell_waiting.stop c.reads.invariant.live c.reads-test.true c.in-Ok-tell_waiting.ensures.told in
+    let told = live_told g.J.Judge.became g.J.Judge.judged (g.L.Teller.wording c.args.teller.now) c.args.judges c.args.order (g.R.Source.bytes c.args.reader.now) (g.W.Sink.bytes c.args.writer.now)
+    c.requires.counts now _ mid c.reads.live next c.in-Ok.stop c.reads.invariant.live c.reads-test.true _ c.reads.invariant.same c.in-Ok.ensures.told in
     let got = subst (HasGot now end next.engine c.read_some.new.self 65536) c.if-n-eq0.true c.in-Ok-read_some.ensures.got in
-    subst (IsLiveFault g.J.Judge.judged c.args.judges c.args.order (g.R.Source.bytes c.args.reader.now) end (g.W.Sink.bytes c.args.writer.now) last)
-    (sym c.in-Err-write_live_end.ensures.3)
-    (end_fault _ _ _ _ _ _ now mid next _ told end last c.read_some.new.self c.in-Ok-is_cut.truncated c.totals_at-totals.result c.in-Ok-is_cut.ensures got
-    (longer_totals _ _ c.totals_at-totals.result c.in-Ok-is_cut.truncated got.longer.packets c.totals_at-totals.ensures) c.in-Err-write_live_end.ensures.4)
+    end_fault _ _ _ _ _ _ _ now mid next _ told end last c.read_some.new.self c.in-Ok-is_cut.truncated c.totals_at-totals.result c.in-Err-tell_end.fault c.in-Ok-is_cut.ensures got
+    (longer_totals _ _ c.totals_at-totals.result c.in-Ok-is_cut.truncated got.longer.packets c.totals_at-totals.ensures)
+    (subst (λ (w : Wording). IsTellingFault mid last (w.end c.totals_at-totals.result) c.in-Err-tell_end.fault) (c.in-Ok.ensures.same ∙ c.reads.invariant.same)
+    c.in-Err-tell_end.ensures.told.0)
 
 pub reads-preserved : goal.reads-preserved
 reads-preserved g c =
-    let told = live_told g.J.Judge.became g.J.Judge.judged c.args.judges c.args.order (g.R.Source.bytes c.args.reader.now) (g.W.Sink.bytes c.args.writer.now)
-    c.requires.counts _ _ _ c.reads.live c.tell_waiting.new.live c.in-Ok-tell_waiting.stop c.reads.invariant.live c.reads-test.true
-    c.in-Ok-tell_waiting.ensures.told in
+    let told = live_told g.J.Judge.became g.J.Judge.judged (g.L.Teller.wording c.args.teller.now) c.args.judges c.args.order (g.R.Source.bytes c.args.reader.now) (g.W.Sink.bytes c.args.writer.now)
+    c.requires.counts _ _ _ c.reads.live c.tell_waiting.new.live c.in-Ok.stop c.reads.invariant.live c.reads-test.true
+    _ c.reads.invariant.same c.in-Ok.ensures.told in
     record {
-      live = live_more _ _ _ _ _ _ _ _ _ _ told _ _ c.in-Ok-read_some.n c.in-Ok-read_some.ensures.got refl refl refl;
+      live = live_more _ _ _ _ _ _ _ _ _ _ _ told _ _ c.in-Ok-read_some.n c.in-Ok-read_some.ensures.got refl refl refl;
+      same = c.in-Ok.ensures.same ∙ c.reads.invariant.same;
       reads = c.in-Ok-read_some.ensures.failures ∙ c.reads.invariant.reads;
-      writes = c.in-Ok-tell_waiting.ensures.failures ∙ c.reads.invariant.writes;
+      writes = c.in-Ok.ensures.failures ∙ c.reads.invariant.writes;
     }
 
 pub returns-clause-told : goal.returns-clause-told
 returns-clause-told g c =
-    live_large g.J.Judge.became g.J.Judge.judged c.args.judges c.args.order _ _ _ _ c.reads.live c.reads.invariant.live (let many = c.reads-test.false in omega arith)
+    live_large g.J.Judge.became g.J.Judge.judged (g.L.Teller.wording c.args.teller.now) c.args.judges c.args.order _ _ _ _ c.reads.live c.reads.invariant.live (let many = c.reads-test.false in omega arith)

@@ -6,9 +6,10 @@ use Rattle.capture_stream.proofs.live_telling.tell_live.Given as goal
 -- all that was read is records that were told and what waits, and no device failed
 abbrev pub invariant-reads : goal.invariant-reads
 invariant-reads g l = record {
-  live : IsLive g.J.Judge.became g.J.Judge.judged l.fn.judges l.fn.order (g.R.Source.bytes l.fn.reader) (g.R.Source.bytes l.reader)
+  live : IsLive g.J.Judge.became g.J.Judge.judged (g.L.Teller.wording l.fn.teller) l.fn.judges l.fn.order (g.R.Source.bytes l.fn.reader) (g.R.Source.bytes l.reader)
       (g.W.Sink.bytes l.fn.writer) (g.W.Sink.bytes l.writer) l.live;
   reads : g.R.Source.failures l.reader ≡ g.R.Source.failures l.fn.reader;
+  same : g.L.Teller.wording l.teller ≡ g.L.Teller.wording l.fn.teller;
   writes : g.W.Sink.failures l.writer ≡ g.W.Sink.failures l.fn.writer;
 }
 

@@ -1,4 +1,4 @@
-use Rattle.std.proofs.Common.{inl, inr, refl, subst, sym}
+use Rattle.std.proofs.Common.{inl, inr, refl, rules, subst, sym}
 use Rattle.std.proofs.lemmas.Result.{MatchResult-weaker}
 use Rattle.acl_policy.specs.Policies.{IsPolicyText, policy_facts}
 use Rattle.acl_policy.specs.declared.policy.Policy.{Policy}
@@ -8,17 +8,22 @@ use Rattle.racl_cli.proofs.live_run.run_live.Goals as goal
 pub returns-in-Err-read_header-clause-told : goal.returns-in-Err-read_header-clause-told
 returns-in-Err-read_header-clause-told g c =
     inl (
-      early_fault c.args.policy.now _ _ c.in-Err-read_header.fault (policy_facts c.in-Ok.policy) c.in-Ok.ensures.ok c.in-Err-read_header.ensures.header,
+      early_fault c.args.text.now _ _ c.in-Err-read_header.fault (policy_facts c.in-Ok.policy) c.in-Ok.ensures.ok c.in-Err-read_header.ensures.header,
       refl,
     )
+
+pub tell_as_asked-requires-clause-ready : goal.tell_as_asked-requires-clause-ready
+tell_as_asked-requires-clause-ready g c =
+    (subst (λ (p : Policy). IsPolicyText c.args.text.now (policy_facts p)) (sym c.in-Ok-ready_with.ensures.policy) c.in-Ok.ensures.ok, search rules)
 
 pub returns-clause-told : goal.returns-clause-told
 returns-clause-told g c =
     let policy = policy_facts c.in-Ok-ready_with.ready.policy.now in
-    let says = subst (λ (p : Policy). IsPolicyText c.args.policy.now (policy_facts p)) (sym c.in-Ok-ready_with.ensures.policy) c.in-Ok.ensures.ok in
+    let says = subst (λ (p : Policy). IsPolicyText c.args.text.now (policy_facts p)) (sym c.in-Ok-ready_with.ensures.policy) c.in-Ok.ensures.ok in
     let header = c.in-Ok-read_header.ensures.header in
-    MatchResult-weaker c.tell_capture.result c.tell_capture.ensures.told
-    (λ totals told. live_run c.args.options.now c.args.policy.now _ _ _ _ _ policy c.in-Ok-read_header.order totals says header told)
+    let (wording, tells, told) = c.tell_as_asked.ensures.told in
+    MatchResult-weaker c.tell_as_asked.result told
+    (λ totals told. live_run c.args.options.now c.args.text.now _ _ _ _ _ policy c.in-Ok-read_header.order wording totals says tells header told)
     (λ found told. inr (
       record {
         policy = policy;
@@ -30,5 +35,7 @@ returns-clause-told g c =
         left = g.R.Source.bytes c.read_header.new.reader;
         consumed = header.consumed;
       },
+      wording,
+      tells,
       told,
     ))

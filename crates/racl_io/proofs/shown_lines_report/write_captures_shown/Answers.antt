@@ -18,11 +18,11 @@ each-preserved g c =
     record {
       counted = omega (arith, inv.counted, ap length cut, length-append first behind, c.split_at.ensures.front_len);
       fits = omega (arith, counted_behind c.each.rest.now captured c.each.left.now c.in-Some.after.now inv.fits parted, c.split_at.ensures.back_len);
-      passing = omega (arith, inv.passing, c.in_ok-passed.ensures.1, ap passed cut, passed_of_both first behind);
+      passing = omega (arith, inv.passing, c.in_ok-passed.ensures.told.1, ap passed cut, passed_of_both first behind);
       written = (
         inv.written.0 ++ told,
         more_captures_shown c.args.shown inv.written.0 _ _ _ c.each.rest.now first behind captured c.each.left.now c.in-Some.after.now inv.written.1 parted c.split_at.ensures.front c.split_at.ensures.back (omega arith),
-        Appends-trans _ _ _ _ _ inv.written.2 (Appends-trans _ _ _ _ _ c.in_ok-passed.ensures.0 c.in_ok-write_truncation.ensures.0),
+        Appends-trans _ _ _ _ _ inv.written.2 (Appends-trans _ _ _ _ _ c.in_ok-passed.ensures.told.0 c.in_ok-write_truncation.ensures.0),
       );
-      sound = c.in_ok-write_truncation.ensures.1 ∙ c.in_ok-passed.ensures.2 ∙ inv.sound;
+      sound = c.in_ok-write_truncation.ensures.1 ∙ c.in_ok-passed.ensures.told.2 ∙ inv.sound;
     }

@@ -1,8 +1,9 @@
 //! A capture that is told while it comes.
 use super::DEFAULTS;
 use super::slow_and_failing_devices::{Drip, trickling};
-use racl_cli::{Fault, run_live};
+use racl_cli::{Fault, Lines, Options, run_live};
 use racl_io::decode_digits;
+use session_state::Shown;
 use std::test::Fail;
 
 const POLICY: &[u8] = b"\
@@ -79,6 +80,67 @@ fn lines_are_written_as_soon_as_their_records_are_there(rt: HostRuntime) -> Resu
         let (told, behind) = writer.taken.split_at(lines.len().min(writer.taken.len()));
         assert!(rt; told == lines.as_bytes(), "of {count} bytes");
         assert!(rt; behind == end.as_bytes(), "of {count} bytes");
+    }
+    Ok(())
+}
+
+/// What a live run writes in each form: of which packets, and what.
+const FORMS: [(Lines, Shown, &str); 4] = [
+    (
+        Lines::Plain,
+        Shown::Dropped,
+        "3 drop default\npackets 3 pass 2 drop 1\n",
+    ),
+    (
+        Lines::Explained,
+        Shown::Every,
+        "\
+1 pass rule 1 reflect | interface 0 out time 100 udp 10.0.0.1 port 1000 to 10.0.0.2 port 53 | line 2 out permit+reflect ipv4 10.0.0.1 any udp dport 53
+2 pass session | interface 0 in time 105 udp 10.0.0.2 port 53 to 10.0.0.1 port 1000
+3 drop default | interface 0 in time 106 udp 10.0.0.3 port 53 to 10.0.0.1 port 1000
+packets 3 pass 2 drop 1
+",
+    ),
+    (
+        Lines::Json,
+        Shown::Passing,
+        "\
+{\"packet\":1,\"verdict\":\"pass\",\"reason\":\"rule\",\"rule\":1,\"reflect\":true,\"line\":2,\"interface\":0,\"direction\":\"out\",\"time\":100,\"protocol\":17,\"source\":\"10.0.0.1\",\"source_port\":1000,\"destination\":\"10.0.0.2\",\"destination_port\":53}
+{\"packet\":2,\"verdict\":\"pass\",\"reason\":\"session\",\"interface\":0,\"direction\":\"in\",\"time\":105,\"protocol\":17,\"source\":\"10.0.0.2\",\"source_port\":53,\"destination\":\"10.0.0.1\",\"destination_port\":1000}
+{\"packets\":3,\"pass\":2,\"drop\":1}
+",
+    ),
+    (
+        Lines::Json,
+        Shown::Nothing,
+        "{\"packets\":3,\"pass\":2,\"drop\":1}\n",
+    ),
+];
+
+// For tests of live runs: the options where words ask for a form of lines, and for some packets.
+fn asked_form(lines: Lines, shown: Shown) -> Options {
+    let mut options = DEFAULTS;
+    options.lines = lines;
+    options.shown = shown;
+    options
+}
+
+/// Live runs on a capture, which is told in each form.
+#[test]
+fn live_runs_tell_in_each_form(rt: HostRuntime) -> Result<(), Fail> {
+    let alloc = rt.alloc();
+    let bytes = decode_digits(alloc, CAPTURE)?;
+    for (lines, shown, wanted) in FORMS {
+        let mut reader = Drip {
+            rest: &bytes,
+            reads: usize::MAX,
+            failures: 0,
+        };
+        let mut writer = trickling(alloc, usize::MAX);
+        let options = asked_form(lines, shown);
+        let outcome = run_live(&rt, alloc, &options, POLICY, &mut reader, &mut writer);
+        assert!(rt; outcome.is_ok() == true);
+        assert!(rt; writer.taken.as_slice() == wanted.as_bytes());
     }
     Ok(())
 }

@@ -13,7 +13,7 @@ returns g c =
     let before = c.args.piece.now in
     let line = explained_line (texts_by telling) place.named place.number in
     let there = entry_by telling (packet_facts c.args.packet) c.args.verdict in
-    let room = c.in_ok-make_room_for_explained.ensures.pushed in
+    let room = c.in-Ok.ensures.pushed in
     let mid = c.make_room_for_explained.new.piece in
     let entry : entry_facts c.entry_of-entry.result ≡ there = search rules in
     let shown : is_shown telling.shown c.args.verdict ≡ true = search rules in
@@ -25,6 +25,7 @@ returns g c =
             ∙ append_assoc room.0.0 mid _ ∙ ap (λ (t : List ℕ). room.0.0 ++ t) (sym (rw c.deref-2.ensures.value at c.push_explained.ensures.text)),
       ),
       room.1,
+      tt,
       tt,
       tt,
     )

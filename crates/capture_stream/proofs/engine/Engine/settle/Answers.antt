@@ -25,5 +25,5 @@ returns g c =
     let are : packets_of c.found_records-marked.result.records ≡ packets_at engine.interface (records_from engine.order engine.found.count (rest_in engine)) =
     c.found_records-marked.ensures.packets ∙ ap (λ b. packets_at engine.interface (records_from engine.order engine.found.count b)) c.bytes-bytes.ensures in
     let behind = ap held_by c.swap.ensures.x_after ∙ c.in_ok-hold.ensures.held ∙ behind_held c.bytes-bytes.result.now (rest_in engine) engine.found c.bytes-bytes.ensures in
-    settled_found g.J.Judge.became g.J.Judge.judged engine _ _ _ c.requires.found are c.in_ok-verdicts.ensures.follows c.in_ok-verdicts.ensures.right behind refl refl
-    refl (subst (λ b. HaveFound engine.order b c.find_records-self.result) c.bytes.ensures c.find_records-self.ensures)
+    settled_found g.J.Judge.became g.J.Judge.judged engine _ _ _ c.requires.found are c.in_ok-verdicts.ensures.follows c.in_ok-verdicts.ensures.right behind
+    (ap held_by c.swap.ensures.y_after) refl refl refl (subst (λ b. HaveFound engine.order b c.find_records-self.result) c.bytes.ensures c.find_records-self.ensures)

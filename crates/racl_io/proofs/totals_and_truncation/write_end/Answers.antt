@@ -1,7 +1,7 @@
-use Rattle.racl_io.specs.Reports.{totals_line, truncation_line}
 use Rattle.std.proofs.Common.{None}
-use Rattle.capture_stream.proofs.TellLemmas.{front_of_first, put_more}
-use Rattle.capture_stream.proofs.live_telling.write_live_end.Goals as goal
+use Rattle.racl_io.specs.Reports.{totals_line, truncation_line}
+use Rattle.racl_io.proofs.TellingLemmas.{front_of_first, put_more}
+use Rattle.racl_io.proofs.totals_and_truncation.write_end.Goals as goal
 
 pub returns-in-Ok : goal.returns-in-Ok
 returns-in-Ok g c =
