@@ -69,8 +69,9 @@ fn tell_as_asked<R: Source, W: Sink, T: Threads + Wait + Sync>(
     reader: &mut R,
     writer: &mut W,
 ) -> Result<Totals, Fault>
-    requires ready { IsPolicyText text.now (policy_facts head.filter.now.policy.now)
-        × (head.filter.now.times ≡ head.options.now.times) × (R.failures reader.old < 2 ^ 64 - 1) × (W.failures writer.old < 2 ^ 64 - 1) }
+    requires says { IsPolicyText text.now (policy_facts head.filter.now.policy.now) }
+    requires times { head.filter.now.times ≡ head.options.now.times }
+    requires sound { (R.failures reader.old < 2 ^ 64 - 1) × (W.failures writer.old < 2 ^ 64 - 1) }
     ensures told { let options = head.entry.options.now in let policy = policy_facts head.entry.filter.now.policy.now in (wording : Wording) × TellsAsAsked options text.now policy wording
         × TellsBehind options wording policy head.entry.order (R.bytes reader.old) (R.bytes reader.new) (W.bytes writer.old) (W.bytes writer.new) result }
     ensures read { MatchResult result (λ _. R.failures reader.new ≡ R.failures reader.old) (λ fault. R.failures reader.new ≡ with_read (R.failures reader.old) fault) }

@@ -1,4 +1,4 @@
-use Rattle.std.proofs.Common.{inl, inr, refl, rules, subst, sym}
+use Rattle.std.proofs.Common.{inl, inr, refl, subst, sym}
 use Rattle.std.proofs.lemmas.Result.{MatchResult-weaker}
 use Rattle.acl_policy.specs.Policies.{IsPolicyText, policy_facts}
 use Rattle.acl_policy.specs.declared.policy.Policy.{Policy}
@@ -12,9 +12,9 @@ returns-in-Err-read_header-clause-told g c =
       refl,
     )
 
-pub tell_as_asked-requires-clause-ready : goal.tell_as_asked-requires-clause-ready
-tell_as_asked-requires-clause-ready g c =
-    (subst (λ (p : Policy). IsPolicyText c.args.text.now (policy_facts p)) (sym c.in-Ok-ready_with.ensures.policy) c.in-Ok.ensures.ok, search rules)
+pub tell_as_asked-requires-clause-says : goal.tell_as_asked-requires-clause-says
+tell_as_asked-requires-clause-says g c κs lives =
+    subst (λ (p : Policy). IsPolicyText c.args.text.now (policy_facts p)) (sym c.in-Ok-ready_with.ensures.policy) c.in-Ok.ensures.ok
 
 pub returns-clause-told : goal.returns-clause-told
 returns-clause-told g c =
