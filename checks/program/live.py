@@ -53,7 +53,7 @@ class Live(Case):
         EXAMPLE.loader.exec_module(example)
         packets = [(second, made[16:]) for second, made in ((100, ONE), (105, TWO), (706, TWO))]
         got = list(example.judged(self.hold("policy", NAMES), packets, self.program.path))
-        self.assertEqual(got, ["pass rule 1 reflect", "pass session", "drop default"])
+        self.compare({"verdicts": got}, {"verdicts": ["pass rule 1 reflect", "pass session", "drop default"]})
 
     def test_forms(self):
         """What a run on the files writes that ages too."""
