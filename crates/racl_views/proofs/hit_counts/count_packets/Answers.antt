@@ -1,12 +1,13 @@
-use Rattle.std.proofs.Common.{◌≡◌, ◌∙◌, ◌++◌, ◌+◌, [], ◌∷◌, arith, ap, cond, drop, refl, subst, sym}
+use Rattle.std.proofs.Common.{◌≡◌, ◌∙◌, ◌++◌, ◌+◌, [], ◌∷◌, append-nil, arith, ap, drop, get_or, refl, subst, sym}
 use Rattle.std.proofs.Math.ListN.{drop_of_length-le}
 use Rattle.std.proofs.lemmas.List.{length_push}
 use Rattle.packet_view.specs.CheckedCaptures.{remaining}
 use Rattle.packet_view.specs.Captures.{packet_facts}
 use Rattle.acl_policy.specs.Policies.{policy_facts}
-use Rattle.racl_views.specs.Deciding.{AreDecided, decided_by}
-use Rattle.racl_views.proofs.CountLemmas.{counted_all, decided_more, hits_more, none_left}
-use Rattle.racl_views.proofs.rule_counts.count_packets.Goals as goal
+use Rattle.racl_views.specs.Deciding.{AreDecided, hits_on}
+use Rattle.racl_views.specs.inner.Places.{place_of}
+use Rattle.racl_views.proofs.CountLemmas.{decided_more, hits_more, none_left}
+use Rattle.racl_views.proofs.hit_counts.count_packets.Goals as goal
 
 pub verdicts-preserved : goal.verdicts-preserved
 verdicts-preserved c =
@@ -18,10 +19,14 @@ verdicts-preserved c =
       goes_on = λ others after. decided_more (policy_facts c.args.policy.now) [] (remaining c.args.packets) (remaining c.verdicts.left) (remaining c.next.new.self)
           (packet_facts c.in-Some.packet) c.args.verdicts.now c.verdicts.verdict-index _ h.rules others rule c.verdicts-test.true c.in-Some.ensures
           c.deciding_rule.ensures.decided h.goes_on after;
-      counted = λ name small. c.in_ok-count_decided.ensures.counted name small
-          ∙ ap (λ n. n + cond (decided_by name rule) 1 0) (h.counted name small) ∙ sym (hits_more name h.rules rule);
+      counted = λ name small.
+          let now = c.in_ok-count_decided.ensures.counted name small in
+          let old = h.counted name small in
+          let one = hits_more name h.rules rule in
+          omega arith;
       few = λ place. let now = c.in_ok-count_decided.ensures.few place in let old = h.few place in omega arith;
       within = let old = h.within in omega arith;
+      most = let old = h.within in let below = c.verdicts-test.true in omega arith;
     }
 
 pub returns : goal.returns
@@ -32,7 +37,8 @@ returns c =
     record {
       rules = h.rules ++ [];
       decided = h.goes_on [] (subst (λ vs. AreDecided policy (remaining c.verdicts.left) vs []) (sym left) (none_left policy (remaining c.verdicts.left)));
-      counted = counted_all c.verdicts.counts.items h.rules h.counted;
+      counted = λ name small. h.counted name small ∙ ap (λ rs. get_or c.args.counts.now.items (place_of name) 0 + hits_on name rs) (sym (append-nil h.rules));
+      few = λ place. let few = h.few place in let most = h.most in omega arith;
     }
 
 pub returns-in_default : goal.returns-in_default
@@ -42,5 +48,6 @@ returns-in_default c =
     record {
       rules = h.rules ++ [];
       decided = h.goes_on [] (subst (λ ps. AreDecided policy ps (drop c.verdicts.verdict-index c.args.verdicts.now) []) (sym c.in_default.ensures.0) refl);
-      counted = counted_all c.verdicts.counts.items h.rules h.counted;
+      counted = λ name small. h.counted name small ∙ ap (λ rs. get_or c.args.counts.now.items (place_of name) 0 + hits_on name rs) (sym (append-nil h.rules));
+      few = λ place. let few = h.few place in let most = h.most in omega arith;
     }
