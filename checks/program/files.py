@@ -100,8 +100,9 @@ class Files(Case):
         self.compare(got, wanted(b"1 drop default\npackets 1 pass 0 drop 1\n"))
 
     def test_too_many_bytes(self):
-        got = self.run_on(b" " * (MOST_BYTES - len(CAPTURE)), CAPTURE)
-        self.compare(got, wanted(stderr="racl: input over 67108864 bytes\n", status=1))
+        for policy in (b" " * (MOST_BYTES - len(CAPTURE)), b"pcap\n" + b" " * MOST_BYTES):
+            got = self.run_on(policy, CAPTURE)
+            self.compare(got, wanted(stderr="racl: input over 67108864 bytes\n", status=1))
 
     @each(OTHERS)
     def others(self, data, fault, said):
