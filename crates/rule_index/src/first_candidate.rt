@@ -1,5 +1,5 @@
 //! The first rule that matches, among those that rows of bits leave.
-ghost use Rattle.std.specs.Prelude.{◌≡◌, ◌≤◌, ◌<◌, ◌*◌, ◌+◌, List, map, length, slice_index, MatchOption};
+ghost use Rattle.std.specs.Prelude.{◌≡◌, ◌≤◌, ◌<◌, ◌*◌, ◌+◌, List, map, length, slice_index, true, MatchOption};
 ghost use Rattle.acl_policy.specs.Matching.{Decides, IsRuling};
 ghost use Rattle.acl_policy.specs.Rules.{RuleFacts, rule_facts};
 ghost use Rattle.packet_view.specs.Tuples.{TupleFacts, tuple_facts};
@@ -52,12 +52,26 @@ fn word_at(row: &[u64], i: usize) -> u64
     row[i]
 }
 
-/// The candidates that all rows leave among 64 rules, as a word. The addresses, which rules differ in most, come
-/// first, and then the second port.
+// Whether a packet's flags leave none of 64 rules.
+fn flags_leave_none(rows: &Candidates<'_>, i: usize) -> bool
+    requires { AreLong rows.now (i + 1) }
+    ensures { result ≡ true → (rules : List RuleFacts) (tuple : TupleFacts) → AllSift rules tuple rows.now → KeepsMatches rules tuple (i * 64) 0 }
+{
+    match rows.flags {
+        Some(flags) => word_at(flags, i) == 0,
+        None => false,
+    }
+}
+
+/// The candidates that all rows leave among 64 rules, as a word. The flags, whose rows are few, come first, then the
+/// addresses, which rules differ in most, and then the second port.
 fn word_of(rows: &Candidates<'_>, i: usize) -> u64
     requires { AreLong rows.now (i + 1) }
     ensures { (rules : List RuleFacts) (tuple : TupleFacts) → AllSift rules tuple rows.now → KeepsMatches rules tuple (i * 64) result }
 {
+    if flags_leave_none(rows, i) {
+        return 0;
+    }
     let addresses = rows.source.word(i) & rows.dest.word(i);
     if addresses == 0 {
         return 0;

@@ -7,6 +7,9 @@ use Rattle.rule_index.proofs.first_candidate.word_of.Goals as goal
 pub word_at-requires : goal.word_at-requires
 word_at-requires c = let more = c.requires.flags c.in-Some.flags c.in-Some.is in omega (arith, more)
 
+pub returns-then-flags_leave_none : goal.returns-then-flags_leave_none
+returns-then-flags_leave_none c = λ rules tuple sift. c.flags_leave_none.ensures c.if-flags_leave_none.true rules tuple sift
+
 pub returns-then-addresses-eq0 : goal.returns-then-addresses-eq0
 returns-then-addresses-eq0 c = λ rules tuple sift.
     let rows = c.args.rows.now in
