@@ -8,9 +8,9 @@ use racl_cli::{run, run_live, run_saving};
 use racl_io::{Device, FrontKept, Joined, Source};
 use racl_options::{Asked, Files, Options, Origin};
 use racl_system::{
-    LiveFiles, LiveInput, Output, Parts, Ran, Watched, asked_or_status, failure_status,
-    opened_input, opened_live, saves_to, say_end_of_live, say_end_of_run, say_unsaved,
-    say_used_twice, settled, texts_of, words_of,
+    LiveFiles, LiveInput, Output, Parts, Ran, Watched, asked_or_status, expansion_status,
+    failure_status, opened_input, opened_live, saves_to, say_end_of_live, say_end_of_run,
+    say_unsaved, say_used_twice, settled, texts_of, words_of,
 };
 use std::alloc::Global;
 use std::io;
@@ -35,6 +35,9 @@ fn status_of_main<T: Threads + Wait + Sync>(
 ) -> io::Result<u8> {
     let words = words_of(rt, alloc)?;
     let texts = texts_of(alloc, words.as_slice())?;
+    if let Some(status) = expansion_status(rt, alloc, texts.as_slice())? {
+        return Ok(status);
+    }
     match asked_or_status(rt, alloc, texts.as_slice()) {
         Ok(Ok(asked)) => match &asked.origin {
             Origin::Files(files) if asked.options.live => {
