@@ -46,6 +46,8 @@ WRONG = [
     ("an address of the other family", "in deny ipv4 any 10.0.0.1,2001:db8::1\n", "1: `2001:db8::1` is of the other family"),
     ("a word that is no address", "set web 10.0.0.1 10.0.0.256\nin deny ip any @web\n", "2: `10.0.0.256` is neither `any` nor an address or a prefix of one"),
     ("a second own address", "mac 02:00:00:00:00:01\nmac 02:00:00:00:00:02\n", "2: `mac` stands in this section already"),
+    ("two wrong lines, each of which stands for two", "in allow ip any any\nin deny ip any any\nin deny ip any any tcp dport 70000\n",
+     "1: `allow` is no action: deny, permit or permit+reflect\nracl: -:3: `70000` is over 65535"),
     ("a list of actions", "in permit,deny ipv4 any any\n", "1: `permit,deny` is no action: deny, permit or permit+reflect"),
 ]
 
@@ -61,12 +63,6 @@ class Expansions(Case):
     @each(RIGHT + WRONG)
     def standard_input(self, written, told):
         self.compare(self.program.run(["expand", "-"], written.encode()), want(told))
-
-    def test_each_wrong_line(self):
-        """Of each wrong line the first reason is told, also where it stands for several."""
-        said = "racl: -:1: `allow` is no action: deny, permit or permit+reflect\nracl: -:3: `70000` is over 65535\n"
-        self.compare(self.program.run(["expand", "-"], b"in allow ip any any\nin deny ip any any\nin deny ip any any tcp dport 70000\n"),
-                     wanted(b"", said, 1))
 
     def test_example(self):
         """The expansion of the example is a policy, and that of a plain one."""
