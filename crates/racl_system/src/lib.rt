@@ -3,6 +3,7 @@
 #![tactic(auto)]
 
 mod command_words;
+mod draft;
 mod end_of_run;
 mod expand_words;
 mod faulty_capture;
