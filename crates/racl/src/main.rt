@@ -4,6 +4,8 @@
 
 ghost use Rattle.std.specs.Prelude.{◌<◌, ◌-◌, ◌^◌};
 
+mod ask;
+
 use racl_cli::{run, run_live, run_saving};
 use racl_io::{Device, FrontKept, Joined, Source};
 use racl_options::{Asked, Files, Options, Origin};
@@ -35,6 +37,11 @@ fn status_of_main<T: Threads + Wait + Sync>(
 ) -> io::Result<u8> {
     let words = words_of(rt, alloc)?;
     let texts = texts_of(alloc, words.as_slice())?;
+    match ask::answered(rt, threads, alloc, texts.as_slice()) {
+        Ok(None) => {}
+        Ok(Some(status)) => return Ok(status),
+        Err(error) => return Err(error),
+    }
     match asked_or_status(rt, alloc, texts.as_slice()) {
         Ok(Ok(asked)) => match &asked.origin {
             Origin::Files(files) if asked.options.live => {
