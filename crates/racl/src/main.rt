@@ -4,6 +4,8 @@
 
 ghost use Rattle.std.specs.Prelude.{◌<◌, ◌-◌, ◌^◌};
 
+mod ask;
+
 use racl_cli::{run, run_live, run_saving};
 use racl_io::{Device, FrontKept, Joined, Source};
 use racl_options::{Asked, Files, Options, Origin};
@@ -37,6 +39,11 @@ fn status_of_main<T: Threads + Wait + Sync>(
     let texts = texts_of(alloc, words.as_slice())?;
     if let Some(status) = expansion_status(rt, alloc, texts.as_slice())? {
         return Ok(status);
+    }
+    match ask::answered(rt, threads, alloc, texts.as_slice()) {
+        Ok(None) => {}
+        Ok(Some(status)) => return Ok(status),
+        Err(error) => return Err(error),
     }
     match asked_or_status(rt, alloc, texts.as_slice()) {
         Ok(Ok(asked)) => match &asked.origin {
