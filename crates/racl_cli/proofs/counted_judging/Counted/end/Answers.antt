@@ -1,0 +1,5 @@
+use Rattle.racl_cli.proofs.CountedLemmas.{counted_end}
+use Rattle.racl_cli.proofs.counted_judging.Counted.end.Goals as goal
+
+pub end-requires : goal.end-requires
+end-requires g c = let (orders, asked, packets, said, has) = c.requires in (packets, said, has.alone.rest)
