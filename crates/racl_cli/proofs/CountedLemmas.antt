@@ -75,7 +75,7 @@ none_kept (x ∷ xs) none = absurd (omega arith)
 pub counted_end : {T : Type 0} (orders : Orders) (asked : Bool) (packets : List PacketFacts) (said kept : List Verdict) (counted : Counted T) (callers : SizedCallers)
     → HasCountedAfter orders asked packets said counted → HaveEndedOn counted.lone.workers kept callers → HasEndedCounting orders asked packets said counted.counts callers
 counted_end orders asked packets said kept counted callers has ended =
-    let by = subst (λ (o : Orders). AreSaidBy o packets (said ++ kept) callers) has.alone.given (ended {said = said} packets has.alone.rest) in
+    let by = subst (λ (o : Orders). AreSaidBy o packets (said ++ kept) callers) has.alone.given (ended said packets has.alone.rest) in
     let all = said_count orders packets (said ++ kept) (views_with callers, by.said) in
     let both = length-append said kept in
     let each = has.each in

@@ -145,7 +145,7 @@ pub record AreSaidBy (orders : Orders) (packets : List PacketFacts) (verdicts : 
 
 -- these are the verdicts on the packets that they judged, behind those that they handed over, and their callers
 abbrev pub HaveEndedOn : {T : Type 0} → SizedWorkers T → List Verdict → SizedCallers → Type 0
-HaveEndedOn workers verdicts callers = {said : List Verdict} (packets : List PacketFacts) → AreRestingWith packets said workers
+HaveEndedOn workers verdicts callers = (said : List Verdict) (packets : List PacketFacts) → AreRestingWith packets said workers
     → AreSaidBy (orders_of workers) packets (said ++ verdicts) callers
 
 -- ---- one worker that hands over its verdicts
