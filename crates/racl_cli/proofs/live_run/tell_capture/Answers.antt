@@ -91,8 +91,8 @@ returns-in-Ok-tell_end_behind-clause-told g c =
     c.in-Ok-tell_live.told.totals all.all told.by_one_worker all.text _ told _ (g.L.Teller.wording c.tell_live.new.teller) c.in-Ok-tell_live.ensures.same
     c.in-Ok-tell_end_behind.ensures.0
 
-pub returns-in-Err-tell_end_behind-clause-told : goal.returns-in-Err-tell_end_behind-clause-told
-returns-in-Err-tell_end_behind-clause-told g c =
+pub returns-clause-told : goal.returns-clause-told
+returns-clause-told g c =
     let all = c.in-Ok-tell_live.ensures.told in
     let ended = c.in-Ok-end.ensures _ _ (packets_at 0 all.all.packets) all.all.verdicts all.stand.1 in
     let told = c.in-Ok-told_behind_live.ensures (packets_at 0 all.all.packets) all.all.verdicts

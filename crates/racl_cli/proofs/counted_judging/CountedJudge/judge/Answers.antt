@@ -17,8 +17,8 @@ returns-then-not-self-clause-follows g c begun packets said (sync, has) =
     let judged = c.in_ok-said.ensures in (
       sync,
       counted_more (orders_of begun.lone.workers) begun.asked packets (remaining c.args.packets) said c.in_ok-said.said.items c.args.self.now _ has
-      (judged.follows begun.lone packets said (sync, has.alone)).1 (judged.right begun.lone packets said (sync, has.alone)) refl refl
-      (λ asked. absurd (true≢false (sym asked ∙ c.if-not-self.true))),
+          (judged.follows begun.lone packets said (sync, has.alone)).1 (judged.right begun.lone packets said (sync, has.alone)) refl refl
+          (λ asked. absurd (true≢false (sym asked ∙ c.if-not-self.true))),
     )
 
 pub count-requires : goal.count-requires
@@ -34,8 +34,8 @@ returns-clause-follows g c begun packets said (sync, has) =
     let judged = c.in_ok-said.ensures in (
       sync,
       counted_more (orders_of begun.lone.workers) begun.asked packets (remaining c.args.packets) said c.in_ok-said.said.items c.args.self.now _ has
-      (judged.follows begun.lone packets said (sync, has.alone)).1 (judged.right begun.lone packets said (sync, has.alone)) refl refl
-      (λ asked.
-      subst (λ (verdicts : List Verdict). HaveCountedOn (policy_facts c.args.self.now.policy.now) c.args.self.now.counts (remaining c.args.packets) verdicts c.count.new.self)
-      c.deref.ensures.value c.in_ok-count.ensures),
+          (judged.follows begun.lone packets said (sync, has.alone)).1 (judged.right begun.lone packets said (sync, has.alone)) refl refl
+          (λ asked.
+          subst (λ (verdicts : List Verdict). HaveCountedOn (policy_facts c.args.self.now.policy.now) c.args.self.now.counts (remaining c.args.packets) verdicts c.count.new.self)
+          c.deref.ensures.value c.in_ok-count.ensures),
     )
