@@ -36,7 +36,7 @@ tell_live-requires-clause-begun g c = (
 )
 
 pub tell_live-requires-clause-counts : goal.tell_live-requires-clause-counts
-tell_live-requires-clause-counts g c begun packets said are = said_count _ packets said are
+tell_live-requires-clause-counts g c begun packets said are = said_count (orders_of begun.lone.workers) packets said are
 
 pub returns-in-Err-clause-told : goal.returns-in-Err-clause-told
 returns-in-Err-clause-told g c =
