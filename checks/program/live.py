@@ -11,7 +11,8 @@ from support.large_inputs import LARGE
 EXAMPLE = importlib.util.spec_from_file_location("live_example", f"{TOP}/examples/python/live.py")
 
 # Words that ask for each form of lines, and for those of some packets.
-FORMS = (["--explain"], ["--json"], ["--only", "pass"], ["--only", "drop", "--explain"], ["--json", "--only=drop"], ["--summary"], ["--summary", "--json"])
+FORMS = (["--explain"], ["--json"], ["--only", "pass"], ["--only", "drop", "--explain"], ["--json", "--only=drop"], ["--summary"], ["--summary", "--json"], ["--hits"],
+         ["--sessions", "--json"], ["--hits", "--sessions", "--explain", "--only=drop"], ["--hits", "--sessions", "--summary", "--json"])
 
 ONE, TWO = udp(100, True, (1, 1000), (2, 53)), udp(105, False, (2, 53), (1, 1000))
 
@@ -72,6 +73,16 @@ class Live(Case):
             got = told_piece_by_piece(self.program, ["--live", *words, policy, "-"], [(header(), 0), (ONE, 1), (TWO, 1)])
             self.compare(got, {"told": [b"", lines[0], lines[1], b"".join(lines[2:])], "stderr": b"", "status": 0}, *words)
 
+    def test_counts_of_many_parts(self):
+        """The hits and sessions of a run on the file that ages too, where packets are counted in many parts."""
+        count = 5_000
+        capture = header() + b"".join(udp(100 + at // 50, True, (1, 1000 + at % 700), (2, 53)) + udp(100 + at // 50, False, (3, 53), (1, 1000 + at % 700))
+                                      for at in range(count))
+        policy, held, words = self.hold("policy", NAMES), self.hold("capture", capture), ["--hits", "--sessions", "--summary", "--udp", "60"]
+        whole = self.program.run(["--age", *words, policy, held])
+        self.assertIn(b"\ndefault packets %d\n" % count, whole["stdout"])
+        self.compare(self.program.run(["--live", *words, policy, "-"], capture), whole)
+
     @each(LARGE)
     def large(self, made):
         data, verdicts = made()
@@ -83,6 +94,10 @@ class Live(Case):
     def test_long_record(self):
         self.compare(self.run_on(NAMES, header() + ONE + record(1, b"", MOST_KEPT + 1)),
                      wanted(b"1 pass rule 1 reflect\n", f"racl: record 2 is too long\n{PUT_TOGETHER}", 1))
+
+    def test_nothing_is_counted_behind_a_fault(self):
+        got = self.program.run(["--live", "--hits", "--sessions", self.hold("policy", NAMES), "-"], header() + ONE + record(1, b"", MOST_KEPT + 1))
+        self.compare(got, wanted(b"1 pass rule 1 reflect\n", f"racl: record 2 is too long\n{PUT_TOGETHER}", 1))
 
     def test_no_capture(self):
         self.compare(self.run_on(NAMES, ONE[:30]), wanted(stderr="racl: not a pcap capture\n", status=1))

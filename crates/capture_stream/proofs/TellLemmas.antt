@@ -18,13 +18,14 @@ use Rattle.racl_io.specs.declared.fault.Fault.TheVariants as fault
 use Rattle.racl_io.specs.declared.totals_and_truncation.Totals.{Totals}
 use Rattle.racl_io.specs.Reports.{is_truncated, passed, totals_of, without_pages}
 use Rattle.racl_io.specs.Sinks.{GotFront}
-use Rattle.racl_io.specs.Tellings.{IsTellingFault, Wording, lines_in, report_in, told_alone}
+use Rattle.racl_io.specs.Tellings.{IsTellingFault, Wording, lines_in, told_alone}
 use Rattle.racl_io.proofs.ReportLemmas.{passed_of_both, totals_counted, without_pages_of_both}
 use Rattle.racl_io.proofs.TellingLemmas.{front_on, lines_in_both}
-use Rattle.capture_stream.specs.Lives.{AreCounted, HasToldAll, HasToldPart, HasToldSome, IsLiveFault, most_live}
+use Rattle.capture_stream.specs.Lives.{AreCounted, HasJudgedAll, HasToldAll, HasToldPart, HasToldSome, IsLiveFault, most_live}
 use Rattle.capture_stream.specs.Feeding.{HasSettled, MayFeed, rest_in}
 use Rattle.capture_stream.specs.declared.engine.Engine.{Engine}
 use Rattle.capture_stream.specs.declared.live_telling.Live.{Live}
+use Rattle.capture_stream.specs.declared.live_telling.ToldCapture.{ToldCapture}
 use Rattle.capture_stream.specs.declared.windows_of_records.Found.{Found}
 use Rattle.capture_stream.specs.inner.Feedings.{HasGot, IsBegun, IsCutAt, IsUnread}
 use Rattle.capture_stream.specs.inner.Tellings.{HasCutWaiting, HasToldWaiting, IsLive, IsTold, IsWaitingFault, MayTell, lines_behind, totals_with}
@@ -79,14 +80,6 @@ pub totals_alone : (verdicts : List Verdict) (n passing lacking : ℕ) (truncate
 totals_alone verdicts n passing lacking truncated count passes lack =
     ap (λ m. totals_with m passing lacking truncated) (sym count)
     ∙ totals_counted passing lacking verdicts (told_alone n truncated) truncated passes lack (cut n truncated)
-
--- all that is told of one capture is what is told of its packets, and what stands behind them
-pub report_alone : (wording : Wording) (packets : List PacketFacts) (verdicts : List Verdict) (n passing lacking : ℕ) (truncated : Bool) → length verdicts ≡ n
-    → length packets ≡ n → passing ≡ passed verdicts → lacking ≡ without_pages verdicts
-    → lines_in wording 1 packets verdicts ++ wording.end (totals_with n passing lacking truncated) ≡ report_in wording packets verdicts truncated
-report_alone wording packets verdicts n passing lacking truncated count each passes lack =
-    ap (λ t. lines_in wording 1 packets verdicts ++ wording.end t)
-    (totals_alone verdicts n passing lacking truncated count passes lack ∙ ap (λ m. totals_of verdicts (told_alone m truncated)) (sym each))
 
 -- what is told of some packets and of those behind them
 lines_on : (wording : Wording) (ps qs all : List PacketFacts) (vs ws : List Verdict) (n : ℕ) → n ≡ length ps → length vs ≡ length ps → ps ++ qs ≡ all
@@ -304,15 +297,13 @@ module _ {J : Type 0} (Became : J → List PacketFacts → List Verdict → J �
         }
 
     -- no more is there
-    pub told_all : (then last : Option (List ℕ)) (engine : Engine J) (truncated : Bool) (totals : Totals) → IsCutAt stop truncated
-        → HasGot now then live.engine engine 65536 0 → totals ≡ totals_with live.engine.packets live.passed live.without_pages truncated → Appends after last (wording.end totals)
-        → HasToldAll Judged wording begun order before then old last totals
-    told_all then last engine truncated totals ends got same written =
+    judged_all : (then : Option (List ℕ)) (engine : Engine J) (truncated : Bool) (totals : Totals) → IsCutAt stop truncated
+        → HasGot now then live.engine engine 65536 0 → totals ≡ totals_with live.engine.packets live.passed live.without_pages truncated
+        → HasJudgedAll Judged begun order before then totals
+    judged_all then engine truncated totals ends got same =
         let t = is.is.told in
         let count : length t.verdicts ≡ live.engine.packets = t.count ∙ sym is.is.count in
         let told = totals_alone t.verdicts live.engine.packets live.passed live.without_pages truncated count is.is.passing is.is.lacking in
-        let report = report_alone wording (packets_at 0 t.packets) t.verdicts live.engine.packets live.passed live.without_pages truncated count
-        (length-map t.packets (packet_at 0) ∙ sym is.is.count) is.is.passing is.is.lacking in
         record {
           read = t.read;
           consumed = got_none now then live.engine engine 65536 t.read t.consumed got;
@@ -325,60 +316,18 @@ module _ {J : Type 0} (Became : J → List PacketFacts → List Verdict → J �
           verdicts = t.verdicts;
           judged = is.judged;
           count = t.count;
-          text = subst (λ (b : List ℕ). Appends old last b) (ap (λ u. lines_in wording 1 (packets_at 0 t.packets) t.verdicts ++ wording.end u) same ∙ report)
-              (Appends-trans old after last (lines_in wording 1 (packets_at 0 t.packets) t.verdicts) (wording.end totals) t.text written);
           counted = subst (λ n. totals ≡ totals_of t.verdicts (told_alone n truncated)) is.is.count (same ∙ told);
         }
 
-    -- no more is there, and what stands at the end couldn't be told
-    end_unwritten : (then last : Option (List ℕ)) (engine : Engine J) → HasGot now then live.engine engine 65536 0 → last ≡ after
-        → HasToldSome Judged wording begun order before then old last (rest_in live.engine)
-    end_unwritten then last engine got same =
-        let t = is.is.told in
-        record {
-          read = t.read;
-          consumed = got_none now then live.engine engine 65536 t.read t.consumed got;
-          packets = t.packets;
-          records = t.records;
-          verdicts = t.verdicts;
-          judged = t.judged;
-          count = t.count;
-          text = subst (λ w. Appends old w (lines_in wording 1 (packets_at 0 t.packets) t.verdicts)) (sym same) t.text;
-        }
-
-    -- no more is there, and a front of what stands at the end was written
-    end_cut : (then last : Option (List ℕ)) (engine : Engine J) (truncated : Bool) (totals : Totals) → IsCutAt stop truncated
-        → HasGot now then live.engine engine 65536 0 → totals ≡ totals_with live.engine.packets live.passed live.without_pages truncated → GotFront after last (wording.end totals)
-        → HasToldPart Judged wording begun order before then old last
-    end_cut then last engine truncated totals ends got same written =
-        let t = is.is.told in
-        let count : length t.verdicts ≡ live.engine.packets = t.count ∙ sym is.is.count in
-        let report = report_alone wording (packets_at 0 t.packets) t.verdicts live.engine.packets live.passed live.without_pages truncated count
-        (length-map t.packets (packet_at 0) ∙ sym is.is.count) is.is.passing is.is.lacking in
-        record {
-          read = t.read;
-          consumed = got_none now then live.engine engine 65536 t.read t.consumed got;
-          packets = t.packets;
-          rest = rest_in live.engine;
-          records = t.records;
-          verdicts = t.verdicts;
-          judged = is.judged;
-          count = t.count;
-          front = inr (
-            truncated,
-            got.ended refl,
-            ends order (rest_in live.engine) is.stops,
-            subst (λ (b : List ℕ). GotFront old last b) (ap (λ u. lines_in wording 1 (packets_at 0 t.packets) t.verdicts ++ wording.end u) same ∙ report)
-                (front_on old after last (lines_in wording 1 (packets_at 0 t.packets) t.verdicts) (wording.end totals) t.text written),
-          );
-        }
-
-    pub end_fault : (then last : Option (List ℕ)) (engine : Engine J) (truncated : Bool) (totals : Totals) (found : Fault) → IsCutAt stop truncated
-        → HasGot now then live.engine engine 65536 0 → totals ≡ totals_with live.engine.packets live.passed live.without_pages truncated
-        → IsTellingFault after last (wording.end totals) found → IsLiveFault Judged wording begun order before then old last found
-    end_fault then last engine truncated totals fault.Memory ends got same unwritten = (rest_in live.engine, end_unwritten then last engine got unwritten)
-    end_fault then last engine truncated totals fault.Write ends got same written = end_cut then last engine truncated totals ends got same written
-    end_fault then last engine truncated totals found ends got same wrong = absurd wrong
+    pub told_all : (then : Option (List ℕ)) (engine : Engine J) (truncated : Bool) (told : ToldCapture J) → IsCutAt stop truncated
+        → HasGot now then live.engine engine 65536 0 → told.totals ≡ totals_with live.engine.packets live.passed live.without_pages truncated
+        → told.judges ≡ engine.judges → HasToldAll Became Judged wording begun order before then old after told
+    unfolding judged_all
+    told_all then engine truncated told ends got same judges = record {
+      all = judged_all then engine truncated told.totals ends got same;
+      text = is.is.told.text;
+      stand = subst (Became begun (packets_at 0 is.is.told.packets) is.is.told.verdicts) (sym (judges ∙ got.longer.judges)) is.is.stand;
+    }
 
   -- what is told of all packets where a front of the lines was written
   window_cut : AreCounted Judged → (now mid after : Option (List ℕ)) (live : Live J) → IsLive Became Judged wording begun order before now old mid live
@@ -394,12 +343,12 @@ module _ {J : Type 0} (Became : J → List PacketFacts → List Verdict → J �
         verdicts = t.verdicts ++ cut.verdicts;
         judged = more_judged counts now mid live is cut.engine cut.verdicts cut.found cut.settled;
         count = more_count counts now mid live is cut.engine cut.verdicts cut.found cut.settled;
-        front = inl (subst (λ (b : List ℕ). GotFront old after b)
+        front = subst (λ (b : List ℕ). GotFront old after b)
             (lines_on wording (packets_at 0 t.packets) (packets_at live.engine.interface cut.settled.fed.more) (packets_at 0 (t.packets ++ cut.settled.fed.more)) t.verdicts
             cut.verdicts live.engine.packets (let e = is.count in let f = length-map t.packets (packet_at 0) in omega arith)
             (let e = t.count in let f = length-map t.packets (packet_at 0) in omega arith)
             (more_packets counts now mid live is cut.engine cut.verdicts cut.found cut.settled))
-            (front_on old mid after (lines_in wording 1 (packets_at 0 t.packets) t.verdicts) (lines_behind wording live.engine cut.settled.fed.more cut.verdicts) t.text cut.front));
+            (front_on old mid after (lines_in wording 1 (packets_at 0 t.packets) t.verdicts) (lines_behind wording live.engine cut.settled.fed.more cut.verdicts) t.text cut.front);
       }
 
   -- memory ran out before a line was written, or a write failed
@@ -435,23 +384,6 @@ module _ {J K : Type 0} (Judged : J → List PacketFacts → List Verdict → Ty
     judged = λ some. tells (packets_at 0 told.packets) told.verdicts (told.judged some);
     count = told.count;
     text = told.text;
-  }
-
-  pub all_as : (totals : Totals) → HasToldAll Judged wording begun order before after old new totals → HasToldAll Other wording other order before after old new totals
-  all_as totals told = record {
-    read = told.read;
-    consumed = told.consumed;
-    ended = told.ended;
-    packets = told.packets;
-    rest = told.rest;
-    records = told.records;
-    truncated = told.truncated;
-    end = told.end;
-    verdicts = told.verdicts;
-    judged = tells (packets_at 0 told.packets) told.verdicts told.judged;
-    count = told.count;
-    text = told.text;
-    counted = told.counted;
   }
 
   pub fault_as : (found : Fault) → IsLiveFault Judged wording begun order before after old new found → IsLiveFault Other wording other order before after old new found

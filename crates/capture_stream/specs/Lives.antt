@@ -1,5 +1,5 @@
 -- A capture whose packets are told while they come: what was read and written at its end, and where a fault ended it.
-use Rattle.std.specs.Prelude.{◌≡◌, ◌≢◌, ◌+◌, ◌≤◌, ◌⊎◌, ℕ, Bool, List, [], Option, length}
+use Rattle.std.specs.Prelude.{◌≡◌, ◌≢◌, ◌+◌, ◌≤◌, ℕ, Bool, List, [], Option, length}
 use Rattle.std.specs.Io.KnownBytes.{Appends, Consumes, IsAtEnd}
 use Rattle.packet_view.specs.Captures.{AreRecords, IsEnd, IsTooLong, PacketFacts, RecordFacts, end_of, packets_at}
 use Rattle.packet_view.specs.declared.capture.Order.{Order}
@@ -9,7 +9,8 @@ use Rattle.racl_io.specs.declared.fault.Fault.TheVariants.{LongRecord, Memory, R
 use Rattle.racl_io.specs.declared.totals_and_truncation.Totals.{Totals}
 use Rattle.racl_io.specs.Reports.{totals_of}
 use Rattle.racl_io.specs.Sinks.{GotFront}
-use Rattle.racl_io.specs.Tellings.{Wording, lines_in, report_in, told_alone}
+use Rattle.racl_io.specs.Tellings.{Wording, lines_in, told_alone}
+use Rattle.capture_stream.specs.declared.live_telling.ToldCapture.{ToldCapture}
 
 -- once so many bytes were read, no more are
 abbrev pub most_live : ℕ
@@ -37,9 +38,9 @@ pub record HasToldSome {J : Type 0} (Judged : J → List PacketFacts → List Ve
   pub count : length verdicts ≡ length packets
   pub text : Appends old new (lines_in wording 1 (packets_at 0 packets) verdicts)
 
--- the source gave all its bytes, and all that is told of the packets of all records was written
-pub record HasToldAll {J : Type 0} (Judged : J → List PacketFacts → List Verdict → Type 0) (wording : Wording) (begun : J) (order : Order)
-    (before after old new : Option (List ℕ)) (totals : Totals) : Type 0 where
+-- the source gave all its bytes, and these are the verdicts on the packets of all records, and the totals over them
+pub record HasJudgedAll {J : Type 0} (Judged : J → List PacketFacts → List Verdict → Type 0) (begun : J) (order : Order) (before after : Option (List ℕ))
+    (totals : Totals) : Type 0 where
   pub read : List ℕ
   pub consumed : Consumes before after read
   pub ended : IsAtEnd after
@@ -51,11 +52,17 @@ pub record HasToldAll {J : Type 0} (Judged : J → List PacketFacts → List Ver
   pub verdicts : List Verdict
   pub judged : Judged begun (packets_at 0 packets) verdicts
   pub count : length verdicts ≡ length packets
-  pub text : Appends old new (report_in wording (packets_at 0 packets) verdicts truncated)
   pub counted : totals ≡ totals_of verdicts (told_alone (length packets) truncated)
 
--- Of the bytes that the source gave these are whole records at the front, and of what is told of their packets, or at the end
--- of all that is, a front was written.
+-- and what is told of them was written, and those who judged them have no others
+pub record HasToldAll {J : Type 0} (Became : J → List PacketFacts → List Verdict → J → Type 0) (Judged : J → List PacketFacts → List Verdict → Type 0)
+    (wording : Wording) (begun : J) (order : Order) (before after old new : Option (List ℕ)) (told : ToldCapture J) : Type 0 where
+  pub all : HasJudgedAll Judged begun order before after told.totals
+  pub text : Appends old new (lines_in wording 1 (packets_at 0 all.packets) all.verdicts)
+  pub stand : Became begun (packets_at 0 all.packets) all.verdicts told.judges
+
+-- Of the bytes that the source gave these are whole records at the front, and of what is told of their packets a front was
+-- written.
 pub record HasToldPart {J : Type 0} (Judged : J → List PacketFacts → List Verdict → Type 0) (wording : Wording) (begun : J) (order : Order)
     (before after old new : Option (List ℕ)) : Type 0 where
   pub read : List ℕ
@@ -67,7 +74,6 @@ pub record HasToldPart {J : Type 0} (Judged : J → List PacketFacts → List Ve
   pub judged : Judged begun (packets_at 0 packets) verdicts
   pub count : length verdicts ≡ length packets
   pub front : GotFront old new (lines_in wording 1 (packets_at 0 packets) verdicts)
-      ⊎ ((truncated : Bool) × IsAtEnd after × IsEnd order rest (end_of truncated) × GotFront old new (report_in wording (packets_at 0 packets) verdicts truncated))
 
 -- Why not all was told. Where a read failed, all whole records were told that were read before.
 abbrev pub IsLiveFault : {J : Type 0} → (J → List PacketFacts → List Verdict → Type 0) → Wording → J → Order

@@ -10,6 +10,6 @@ mod windows_of_records;
 
 pub use hex_digits::{HexDigits, are_digits};
 pub use judge::Judge;
-pub use live_telling::tell_live;
+pub use live_telling::{ToldCapture, tell_live};
 pub use stream_judging::{Opening, Streamed, judge_stream};
 pub use windows_of_records::{Found, WindowSize};

@@ -1,5 +1,5 @@
 //! A capture whose packets are told while they come.
-ghost use Rattle.std.specs.Prelude.{◌≡◌, ◌-◌, ◌<◌, ◌≤◌, ◌^◌, [], MatchResult};
+ghost use Rattle.std.specs.Prelude.{◌≡◌, ◌-◌, ◌<◌, ◌≤◌, ◌^◌, [], IfOk, MatchResult};
 ghost use Rattle.racl_io.specs.Tellings.{with_write};
 ghost use Rattle.capture_stream.specs.Lives.{AreCounted, HasToldAll, IsLiveFault, with_read};
 ghost use Rattle.capture_stream.specs.inner.Tellings.{HasToldWaiting, IsWaitingFault, MayTell, totals_with};
@@ -27,6 +27,15 @@ pub struct Live<J> {
     pub without_pages: u64,
     /// How many bytes were read.
     pub read: usize,
+}
+
+/// What came of a capture whose packets were told.
+#[derive(Drop)]
+pub struct ToldCapture<J> {
+    /// Those who judged all packets.
+    pub judges: J,
+    /// The totals over these.
+    pub totals: Totals,
 }
 
 // Of a live capture the packets of whole records that wait are judged and told.
@@ -58,23 +67,38 @@ fn tell_waiting<J: Judge, L: Teller, W: Sink>(
     Ok(found.stop)
 }
 
-// The totals over the packets of a live capture that were told.
-fn totals_at<J>(live: &Live<J>, truncated: bool) -> Totals
-    requires { live.now.passed ≤ live.now.engine.packets }
-    ensures { result ≡ totals_with live.now.engine.packets live.now.passed live.now.without_pages truncated }
+// What came of a live capture whose packets were all told.
+fn told_at<J: Drop>(live: Live<J>, truncated: bool) -> ToldCapture<J>
+    requires { live.passed ≤ live.engine.packets }
+    ensures judges { result.judges ≡ live.engine.judges }
+    ensures totals { result.totals ≡ totals_with live.engine.packets live.passed live.without_pages truncated }
 {
-    let packets = live.engine.packets as u64;
-    Totals {
+    let Live {
+        engine,
+        passed,
+        without_pages,
+        ..
+    } = live;
+    let Engine {
+        judges,
         packets,
-        passed: live.passed,
-        dropped: packets - live.passed,
-        without_pages: live.without_pages,
-        truncated,
+        ..
+    } = engine;
+    let packets = packets as u64;
+    ToldCapture {
+        judges,
+        totals: Totals {
+            packets,
+            passed,
+            dropped: packets - passed,
+            without_pages,
+            truncated,
+        },
     }
 }
 
 /// Those who judge packets judge all of a capture behind its header, of which its numbers have this order. After each read
-/// the packets are told whose records were read whole, and at the end what stands behind them in a report. A fault
+/// the packets are told whose records were read whole; what stands behind all of them is for the caller to tell. A fault
 /// leaves what was written. No verdict is kept, and of the bytes only those that belong to no whole record. TooLarge:
 /// 2^62 bytes were read.
 pub fn tell_live<J: Judge + Drop, L: Teller, R: Source, W: Sink>(
@@ -84,15 +108,16 @@ pub fn tell_live<J: Judge + Drop, L: Teller, R: Source, W: Sink>(
     teller: &mut L,
     judges: J,
     order: Order,
-) -> Result<Totals, Fault>
+) -> Result<ToldCapture<J>, Fault>
     requires begun { J.became judges [] [] judges }
     requires counts { AreCounted J.judged }
     requires reader { R.failures reader.old < 2 ^ 64 - 1 }
     requires writer { W.failures writer.old < 2 ^ 64 - 1 }
     ensures told { let wording = L.wording teller.old in let before = R.bytes reader.old in let after = R.bytes reader.new in
-        MatchResult result (HasToldAll J.judged wording judges order before after (W.bytes writer.old) (W.bytes writer.new)) (IsLiveFault J.judged wording judges order before after (W.bytes writer.old) (W.bytes writer.new)) }
+        MatchResult result (HasToldAll J.became J.judged wording judges order before after (W.bytes writer.old) (W.bytes writer.new)) (IsLiveFault J.judged wording judges order before after (W.bytes writer.old) (W.bytes writer.new)) }
     ensures read { MatchResult result (λ _. R.failures reader.new ≡ R.failures reader.old) (λ fault. R.failures reader.new ≡ with_read (R.failures reader.old) fault) }
     ensures write { MatchResult result (λ _. W.failures writer.new ≡ W.failures writer.old) (λ fault. W.failures writer.new ≡ with_write (W.failures writer.old) fault) }
+    ensures same { IfOk result (λ _. L.wording teller.new ≡ L.wording teller.old) }
 {
     let mut live = Live {
         engine: Engine::new(alloc, judges, order, 0),
@@ -114,11 +139,7 @@ pub fn tell_live<J: Judge + Drop, L: Teller, R: Source, W: Sink>(
             Err(fault) => return Err(fault),
         };
         if n == 0 {
-            let totals = totals_at(&live, truncated);
-            match teller.tell_end(writer, &totals) {
-                Ok(()) => return Ok(totals),
-                Err(fault) => return Err(fault),
-            }
+            return Ok(told_at(live, truncated));
         }
         live.read += n;
     }

@@ -1,6 +1,6 @@
 -- A run over a capture that is told while it comes.
 use Rattle.std.proofs.KnownBytes.{Consumes-all, Consumes-trans}
-use Rattle.std.proofs.Common.{◌≡◌, ◌∙◌, ◌≤◌, ◌++◌, ℕ, List, [], Option, ap, arith, inl, inr, map, refl, subst, sym, drop, true}
+use Rattle.std.proofs.Common.{◌≡◌, ◌∙◌, ◌≤◌, ◌++◌, ℕ, List, [], Option, Result, Ok, Err, MatchResult, ap, arith, inl, inr, length, map, refl, subst, sym, drop, true}
 use Rattle.std.proofs.lemmas.List.{drop_all, length-map}
 use Rattle.packet_view.specs.Captures.{AreRecords, PacketFacts, packet_at, packets_at}
 use Rattle.packet_view.specs.declared.capture.Order.{Order}
@@ -25,9 +25,9 @@ use Rattle.racl_views.specs.inner.PartWordings.{explained_wording, objects_wordi
 use Rattle.racl_views.specs.inner.Tellings.{IsTableOf}
 use Rattle.racl_views.proofs.PartLemmas.{explained_tells, objects_tell, some_explained, some_objects}
 use Rattle.racl_report.specs.RunReports.{AreLines}
-use Rattle.capture_stream.specs.Lives.{HasToldAll}
+use Rattle.capture_stream.specs.Lives.{IsLiveFault}
 use Rattle.racl_cli.specs.Crews.{AreRestingWith, AreSaid, IsAloneAfter, Orders, cuts_four, orders_for, orders_of, size_of}
-use Rattle.racl_cli.specs.LiveRuns.{AreFirstLines, ByOneWorker, HasRunLive, IsEarlyFault, TellsAsAsked}
+use Rattle.racl_cli.specs.LiveRuns.{AreFirstLines, ByOneWorker, HasHead, HasRunLive, IsEarlyFault, IsLiveReport, IsLiveRunFault, IsReportBehind, TellsAsAsked, TellsBehind}
 use Rattle.racl_cli.specs.inner.Heads.{HasReadHeader, IsHeadless}
 use Rattle.racl_cli.specs.declared.sized_tables_and_workers.SizedTables.{SizedTables}
 use Rattle.racl_cli.specs.declared.sized_tables_and_workers.SizedWorkers.{SizedWorkers}
@@ -42,15 +42,16 @@ alone_said orders packets more said verdicts old alone judged =
     subst (λ o. AreSaid o (packets ++ more) (said ++ verdicts)) alone.given
     (judged (ap (λ (o : Orders). o.deal.workers) alone.given ∙ alone.one) alone.rest)
 
--- what one worker said over tables that cut blocks
+-- what one worker said over tables that cut blocks, and what it knew then
 pub by_one_worker : (options : Options) (ready : InterfaceFilters) (tables : SizedTables) (orders : Orders) (packets : List PacketFacts)
     (verdicts : List Verdict) → orders ≡ orders_for tables ready 1 (cuts_four tables) → cuts_four tables ≡ true → size_of tables ≡ options.tables
-    → ready.times ≡ options.times → 1 ≤ options.workers → AreSaid orders packets verdicts → ByOneWorker options (policy_facts ready.policy.now) packets verdicts
+    → ready.times ≡ options.times → 1 ≤ options.workers → (said : AreSaid orders packets verdicts)
+    → (by : ByOneWorker options (policy_facts ready.policy.now) packets verdicts) × (by.by_workers.views ≡ said.0)
 by_one_worker options ready tables orders packets verdicts given cut sized same some said =
     let policy = policy_facts ready.policy.now in
     let judged = judged_as packets verdicts said.0 orders tables options.tables ready 1 true (given ∙ ap (orders_for tables ready 1) cut) sized said.1 in
     let by = given_by_workers options ready.times true policy packets verdicts said.0 1 same (omega arith) some judged in
-    record { by_workers = by.0; one = by.2; by_one_thread = by_one options true policy packets verdicts by.0 }
+    (record { by_workers = by.0; one = by.2; by_one_thread = by_one options true policy packets verdicts by.0 }, by.1)
 
 -- the header has the fault, or couldn't be read
 pub early_fault : (text : List ℕ) (before after : Option (List ℕ)) (fault : Fault) (policy : PolicyFacts) → IsPolicyText text policy → IsHeadless before after fault
@@ -112,33 +113,59 @@ some_way options text policy Explained form says =
 some_way options text policy Json form says =
     let (wording, tells) = some_objects (told_by options text policy) says in (wording, in_form options text policy Json wording form tells)
 
--- all bytes were read, and the report was written
-pub live_run : (options : Options) (text : List ℕ) (before left after old new : Option (List ℕ)) (policy : PolicyFacts) (order : Order) (wording : Wording) (totals : Totals)
+-- all bytes were read, and this is the report on them
+pub live_report : (options : Options) (text : List ℕ) (before left after : Option (List ℕ)) (policy : PolicyFacts) (order : Order) (wording : Wording) (totals : Totals) (report : List ℕ)
     → IsPolicyText text policy → TellsAsAsked options text policy wording → HasReadHeader before left order
-    → HasToldAll (ByOneWorker options) wording policy order left after old new totals → HasRunLive options text before old new totals
-live_run options text before left after old new policy order wording totals says tells head told =
-    let bytes = head.header ++ told.read in
-    let header = header_appended order head.header told.read (record { right = head.headed.right; one = head.headed.one; none = head.headed.none }) in
+    → IsReportBehind options text wording policy order left after totals report → IsLiveReport options text before totals report
+live_report options text before left after policy order wording totals report says tells head is =
+    let judged = is.judged in
+    let bytes = head.header ++ judged.read in
+    let header = header_appended order head.header judged.read (record { right = head.headed.right; one = head.headed.one; none = head.headed.none }) in
     let whole = head.whole in
-    let behind : drop 24 bytes ≡ told.read =
-    behind_header_appended head.header told.read (omega arith) ∙ ap (λ b. b ++ told.read) (drop_all 24 head.header (omega arith)) in
-    let size = length-map told.packets (packet_at 0) in
+    let behind : drop 24 bytes ≡ judged.read =
+    behind_header_appended head.header judged.read (omega arith) ∙ ap (λ b. b ++ judged.read) (drop_all 24 head.header (omega arith)) in
+    let size = length-map judged.packets (packet_at 0) in
+    let lines = report_in wording (packets_at 0 judged.packets) judged.verdicts judged.truncated in
     record {
       policy = policy;
       says = says;
       bytes = bytes;
-      known = Consumes-all before after bytes [] bytes (Consumes-trans before left after head.header told.read head.consumed told.consumed) told.ended refl;
-      packets = packets_at 0 told.packets;
-      truncated = told.truncated;
+      known = Consumes-all before after bytes [] bytes (Consumes-trans before left after head.header judged.read head.consumed judged.consumed) judged.ended refl;
+      packets = packets_at 0 judged.packets;
+      truncated = judged.truncated;
       records = (
-        told.packets,
-        (order, told.rest, header.right, subst (λ (b : List ℕ). AreRecords order b told.packets told.rest) (sym behind) told.records, told.end),
+        judged.packets,
+        (order, judged.rest, header.right, subst (λ (b : List ℕ). AreRecords order b judged.packets judged.rest) (sym behind) judged.records, judged.end),
         refl,
       );
-      verdicts = told.verdicts;
-      by_one_worker = told.judged;
-      report = report_in wording (packets_at 0 told.packets) told.verdicts told.truncated;
-      told = tells.report (packets_at 0 told.packets) told.verdicts told.truncated (told.count ∙ sym size);
-      written = told.text;
-      counted = subst (λ n. totals ≡ totals_of told.verdicts (told_alone n told.truncated)) (sym size) told.counted;
+      verdicts = judged.verdicts;
+      by_one_worker = is.told.by_one_worker;
+      stored = is.told.stored;
+      kept = is.told.kept;
+      told = record {
+        lines = lines;
+        are = tells.report (packets_at 0 judged.packets) judged.verdicts judged.truncated (judged.count ∙ sym size);
+        hits = is.told.hits;
+        told = is.told.told (told_alone (length (packets_at 0 judged.packets)) judged.truncated);
+        all = is.all ∙ ap (λ (more : List ℕ). lines ++ more) is.told.all;
+      };
+      counted = subst (λ n. totals ≡ totals_of judged.verdicts (told_alone n judged.truncated)) (sym size) judged.counted;
     }
+
+-- the report was written, or why it wasn't
+pub live_ends : (options : Options) (text : List ℕ) (before left after old new : Option (List ℕ)) (head : HasHead text before) (header : HasReadHeader before left head.order)
+    (wording : Wording) (result : Result Totals Fault) → TellsAsAsked options text head.policy wording → head.left ≡ left
+    → TellsBehind options text wording head.policy head.order left after old new result
+    → MatchResult result (HasRunLive options text before old new) (IsLiveRunFault options text before after old new)
+live_ends options text before left after old new head header wording (Ok totals) tells same (report, is, wrote) =
+    record { report = report; is = live_report options text before left after head.policy head.order wording totals report head.says tells header is; written = wrote }
+live_ends options text before left after old new head header wording (Err fault) tells same (inl why) =
+    inr (inl (head, wording, tells, subst (λ l. IsLiveFault (ByOneWorker options) wording head.policy head.order l after old new fault) (sym same) why))
+live_ends options text before left after old new head header wording (Err fault) tells same (inr cut) = inr (inr (record {
+  failed = cut.failed;
+  ended = cut.is.judged.ended;
+  totals = cut.totals;
+  report = cut.report;
+  is = live_report options text before left after head.policy head.order wording cut.totals cut.report head.says tells header cut.is;
+  front = cut.front;
+}))

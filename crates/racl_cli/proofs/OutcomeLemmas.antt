@@ -126,7 +126,7 @@ pub said_at_end : {T : Type 0} (orders : Orders) (workers : SizedWorkers T) (pac
     → AreSaidBy orders packets ended.verdicts.items ended.callers × (ended.captures.items ≡ told_of None packets truncated ∷ [])
 said_at_end orders workers packets truncated ended judged is =
     let said : AreSaidBy orders packets ended.verdicts.items ended.callers =
-    subst (λ o. AreSaidBy o packets ended.verdicts.items ended.callers) judged.given (is.said packets judged.rest) in
+    subst (λ o. AreSaidBy o packets ended.verdicts.items ended.callers) judged.given (is.said [] packets judged.rest) in
     let counted = judged_count orders.deal orders.times orders.policy packets ended.verdicts.items said.said.removals said.said.judged in
     (said, is.told ∙ ap (λ n. record { named = None; packets = n; truncated = truncated } ∷ []) counted)
 

@@ -1,5 +1,5 @@
 -- Tables of the size that the words ask for, and workers over them after the packets that they judged.
-use Rattle.std.specs.Prelude.{◌≡◌, ℕ, Bool, List, []}
+use Rattle.std.specs.Prelude.{◌≡◌, ◌++◌, ℕ, Bool, true, List, [], length}
 use Rattle.packet_view.specs.Captures.{PacketFacts}
 use Rattle.acl_policy.specs.Policies.{PolicyFacts, policy_facts}
 use Rattle.bihash_words.specs.declared.shape.Shape.{Ghosts}
@@ -17,6 +17,8 @@ use Rattle.flow_workers.specs.declared.session_tables.Tables.{Tables}
 use Rattle.flow_workers.specs.declared.workers.Workers.{Workers}
 use Rattle.racl_options.specs.declared.settings.TableSize.{TableSize}
 use Rattle.racl_options.specs.declared.settings.TableSize.TheVariants as asked
+use Rattle.racl_views.specs.HitCounts.{HaveCounted}
+use Rattle.racl_views.specs.declared.hit_counts.HitCounts.{HitCounts}
 use Rattle.racl_cli.specs.Runs.{bucket_deal}
 use Rattle.racl_cli.specs.declared.sized_tables_and_workers.SizedCallers.{SizedCallers}
 use Rattle.racl_cli.specs.declared.sized_tables_and_workers.SizedCallers.TheVariants as called
@@ -24,6 +26,7 @@ use Rattle.racl_cli.specs.declared.sized_tables_and_workers.SizedTables.{SizedTa
 use Rattle.racl_cli.specs.declared.sized_tables_and_workers.SizedTables.TheVariants as laid
 use Rattle.racl_cli.specs.declared.sized_tables_and_workers.SizedWorkers.{SizedWorkers}
 use Rattle.racl_cli.specs.declared.sized_tables_and_workers.SizedWorkers.TheVariants.{Standard, Large}
+use Rattle.racl_cli.specs.declared.counted_judging.Counted.{Counted}
 
 -- ---- tables
 
@@ -125,7 +128,7 @@ pub record AreAfter {T : Type 0} (orders : Orders) (packets : List PacketFacts) 
 
 -- they judged some packets
 abbrev pub HaveJudgedSome : {T : Type 0} → SizedWorkers T → Type 0
-HaveJudgedSome workers = (packets : List PacketFacts) × AreResting packets workers
+HaveJudgedSome workers = (packets : List PacketFacts) × (said : List Verdict) × AreRestingWith packets said workers
 
 -- the verdicts on these packets by workers with these orders, who know this then
 abbrev pub AreSaidKnowing : Orders → List PacketFacts → List Verdict → Views → Type 0
@@ -140,9 +143,10 @@ pub record AreSaidBy (orders : Orders) (packets : List PacketFacts) (verdicts : 
   pub idle : AreIdleOf orders.tables callers
   pub said : AreSaidKnowing orders packets verdicts (views_with callers)
 
--- these are the verdicts on the packets that they judged, and their callers
+-- these are the verdicts on the packets that they judged, behind those that they handed over, and their callers
 abbrev pub HaveEndedOn : {T : Type 0} → SizedWorkers T → List Verdict → SizedCallers → Type 0
-HaveEndedOn workers verdicts callers = (packets : List PacketFacts) → AreResting packets workers → AreSaidBy (orders_of workers) packets verdicts callers
+HaveEndedOn workers verdicts callers = (said : List Verdict) (packets : List PacketFacts) → AreRestingWith packets said workers
+    → AreSaidBy (orders_of workers) packets (said ++ verdicts) callers
 
 -- ---- one worker that hands over its verdicts
 
@@ -151,3 +155,16 @@ pub record IsAloneAfter {T : Type 0} (orders : Orders) (packets : List PacketFac
   pub given : orders_of workers ≡ orders
   pub one : orders.deal.workers ≡ 1
   pub rest : AreRestingWith packets said workers
+
+-- and it counted the packets where that is asked for
+pub record HasCountedAfter {T : Type 0} (orders : Orders) (asked : Bool) (packets : List PacketFacts) (said : List Verdict) (counted : Counted T) : Type 0 where
+  pub alone : IsAloneAfter orders packets said counted.lone.workers
+  pub each : length said ≡ length packets
+  pub policy : policy_facts counted.policy.now ≡ orders.policy
+  pub same : counted.asked ≡ asked
+  pub counts : asked ≡ true → HaveCounted orders.policy packets said counted.counts
+
+-- it has ended
+pub record HasEndedCounting (orders : Orders) (asked : Bool) (packets : List PacketFacts) (said : List Verdict) (counts : HitCounts) (callers : SizedCallers) : Type 0 where
+  pub by : AreSaidBy orders packets said callers
+  pub counted : asked ≡ true → HaveCounted orders.policy packets said counts

@@ -1,7 +1,7 @@
 -- A run over a capture that is told while it comes: its policy is text of its own, and sessions that have ended are removed.
-use Rattle.std.specs.Prelude.{◌≡◌, ◌<◌, ◌⊎◌, ℕ, Bool, true, List, ◌∷◌, [], None, Option, IfSome, MatchResult, Result, length}
+use Rattle.std.specs.Prelude.{◌≡◌, ◌<◌, ◌⊎◌, ◌++◌, ℕ, Bool, true, List, ◌∷◌, [], None, Option, IfSome, MatchResult, Result, length}
 use Rattle.std.specs.Io.KnownBytes.{Appends, Consumes, IsAtEnd}
-use Rattle.packet_view.specs.Captures.{HasFileHeader, IsCaptureAt, IsHeaderFault, PacketFacts, end_of}
+use Rattle.packet_view.specs.Captures.{HasFileHeader, IsCaptureAt, IsHeaderFault, PacketFacts, end_of, packets_at}
 use Rattle.packet_view.specs.declared.capture.CaptureFault.{CaptureFault}
 use Rattle.packet_view.specs.declared.capture.Order.{Order}
 use Rattle.acl_policy.specs.Policies.{IsPolicyFault, IsPolicyText, PolicyFacts}
@@ -12,19 +12,23 @@ use Rattle.racl_options.specs.declared.settings.Lines.{Lines}
 use Rattle.racl_options.specs.declared.settings.Lines.TheVariants.{Plain, Explained, Json}
 use Rattle.racl_options.specs.declared.settings.Options.{Options}
 use Rattle.racl_io.specs.declared.fault.Fault.{Fault}
-use Rattle.racl_io.specs.declared.fault.Fault.TheVariants.{Memory, Read}
+use Rattle.racl_io.specs.declared.fault.Fault.TheVariants.{Memory, Read, Write}
 use Rattle.racl_io.specs.declared.totals_and_truncation.Totals.{Totals}
 use Rattle.racl_io.specs.Faults.{capture_fault, policy_fault}
 use Rattle.racl_io.specs.Reports.{totals_of}
 use Rattle.racl_io.specs.ShownReports.{lines_shown}
-use Rattle.racl_io.specs.Tellings.{Wording}
+use Rattle.racl_io.specs.declared.totals_and_truncation.Captured.{Captured}
+use Rattle.racl_io.specs.Sinks.{GotFront}
+use Rattle.racl_io.specs.Tellings.{Wording, report_in}
 use Rattle.racl_io.specs.Transfers.{GaveAtMost}
+use Rattle.racl_views.specs.Hits.{AreHits}
+use Rattle.racl_views.specs.Stored.{StoredFacts}
 use Rattle.racl_views.specs.PartTellings.{AreExplainedLines, AreObjectLines, TellsRun}
 use Rattle.racl_views.specs.RunEntries.{RunFacts}
-use Rattle.capture_stream.specs.Lives.{HasToldAll, IsLiveFault}
-use Rattle.racl_cli.specs.Runs.{AgeInTime, ByOneThread, ByWorkers}
+use Rattle.capture_stream.specs.Lives.{HasJudgedAll, IsLiveFault}
+use Rattle.racl_cli.specs.Runs.{AgeInTime, AreStoredOf, ByOneThread, ByWorkers, keeps_stored, layout_for}
 use Rattle.racl_report.specs.ReadInputs.{told_of}
-use Rattle.racl_report.specs.RunReports.{AreLines, told_facts}
+use Rattle.racl_report.specs.RunReports.{AreLines, IsReportOn, sessions_behind, told_facts, view_behind}
 
 -- One worker that ages gave these verdicts. They are those of the one-thread filter, which forgets nothing, where none of them
 -- says no-pages, and ageing is in time.
@@ -55,15 +59,42 @@ abbrev pub TellsAsAsked : Options → List ℕ → PolicyFacts → Wording → T
 TellsAsAsked options text policy wording =
     TellsRun (AreFirstLines options.lines) (AreLines options.lines) (record { policy = policy; text = text; shown = options.shown }) wording
 
--- all of a capture behind its header was told, or why it wasn't
-abbrev pub TellsBehind : Options → Wording → PolicyFacts → Order → Option (List ℕ) → Option (List ℕ) → Option (List ℕ) → Option (List ℕ)
-    → Result Totals Fault → Type 0
-TellsBehind options wording policy order before after old new result =
-    MatchResult result (HasToldAll (ByOneWorker options) wording policy order before after old new)
-    (IsLiveFault (ByOneWorker options) wording policy order before after old new)
+-- what stands behind the totals of packets with these verdicts: hits, and the sessions that stood in the tables then
+pub record IsToldBehind (options : Options) (text : List ℕ) (policy : PolicyFacts) (packets : List PacketFacts) (verdicts : List Verdict) (behind : List ℕ) : Type 0 where
+  pub by_one_worker : ByOneWorker options policy packets verdicts
+  pub stored : StoredFacts
+  pub kept : keeps_stored options ≡ true → AreStoredOf (layout_for options.tables) by_one_worker.by_workers.views stored
+  pub hits : List ℕ
+  pub told : (captures : List Captured)
+      → AreHits options.hits (view_behind options.lines) options.times (told_facts policy text packets (record { verdicts = verdicts; captures = captures }) options.shown) stored hits
+  pub all : behind ≡ hits ++ sessions_behind options stored
 
--- The source's bytes are a capture, and the report on it was written.
-pub record HasRunLive (options : Options) (text : List ℕ) (given old new : Option (List ℕ)) (totals : Totals) : Type 0 where
+-- all of a capture behind its header was judged, and this is the report on it
+pub record IsReportBehind (options : Options) (text : List ℕ) (wording : Wording) (policy : PolicyFacts) (order : Order) (before after : Option (List ℕ))
+    (totals : Totals) (report : List ℕ) : Type 0 where
+  pub judged : HasJudgedAll (ByOneWorker options) policy order before after totals
+  pub behind : List ℕ
+  pub told : IsToldBehind options text policy (packets_at 0 judged.packets) judged.verdicts behind
+  pub all : report ≡ report_in wording (packets_at 0 judged.packets) judged.verdicts judged.truncated ++ behind
+
+-- a write failed behind a front of it
+pub record HasCutReport (options : Options) (text : List ℕ) (wording : Wording) (policy : PolicyFacts) (order : Order) (before after old new : Option (List ℕ))
+    (fault : Fault) : Type 0 where
+  pub failed : fault ≡ Write
+  pub totals : Totals
+  pub report : List ℕ
+  pub is : IsReportBehind options text wording policy order before after totals report
+  pub front : GotFront old new report
+
+-- the report on all of a capture behind its header was written, or why it wasn't
+abbrev pub TellsBehind : Options → List ℕ → Wording → PolicyFacts → Order → Option (List ℕ) → Option (List ℕ) → Option (List ℕ) → Option (List ℕ)
+    → Result Totals Fault → Type 0
+TellsBehind options text wording policy order before after old new result =
+    MatchResult result (λ totals. (report : List ℕ) × IsReportBehind options text wording policy order before after totals report × Appends old new report)
+    (λ fault. IsLiveFault (ByOneWorker options) wording policy order before after old new fault ⊎ HasCutReport options text wording policy order before after old new fault)
+
+-- The source's bytes are a capture, and this is the report on it.
+pub record IsLiveReport (options : Options) (text : List ℕ) (given : Option (List ℕ)) (totals : Totals) (report : List ℕ) : Type 0 where
   pub policy : PolicyFacts
   pub says : IsPolicyText text policy
   pub bytes : List ℕ
@@ -73,10 +104,26 @@ pub record HasRunLive (options : Options) (text : List ℕ) (given old new : Opt
   pub records : IsCaptureAt 0 bytes packets (end_of truncated)
   pub verdicts : List Verdict
   pub by_one_worker : ByOneWorker options policy packets verdicts
-  pub report : List ℕ
-  pub told : AreLines options.lines (told_facts policy text packets (record { verdicts = verdicts; captures = told_of None packets truncated ∷ [] }) options.shown) report
-  pub written : Appends old new report
+  pub stored : StoredFacts
+  pub kept : keeps_stored options ≡ true → AreStoredOf (layout_for options.tables) by_one_worker.by_workers.views stored
+  pub told : IsReportOn options text policy packets
+      (record { outcome = record { verdicts = verdicts; captures = told_of None packets truncated ∷ [] }; stored = stored }) report
   pub counted : totals ≡ totals_of verdicts (told_of None packets truncated ∷ [])
+
+-- and it was written
+pub record HasRunLive (options : Options) (text : List ℕ) (given old new : Option (List ℕ)) (totals : Totals) : Type 0 where
+  pub report : List ℕ
+  pub is : IsLiveReport options text given totals report
+  pub written : Appends old new report
+
+-- or a write failed behind a front of it, when all was read
+pub record HasCutLive (options : Options) (text : List ℕ) (given after old new : Option (List ℕ)) (fault : Fault) : Type 0 where
+  pub failed : fault ≡ Write
+  pub ended : IsAtEnd after
+  pub totals : Totals
+  pub report : List ℕ
+  pub is : IsLiveReport options text given totals report
+  pub front : GotFront old new report
 
 -- Memory ran out, a read failed, or the policy or the header has the fault, which is all that the source has or 24 bytes. No
 -- more was read.
@@ -93,3 +140,4 @@ IsLiveRunFault options text before after old new fault =
     (IsEarlyFault text before after fault × (new ≡ old))
     ⊎ ((head : HasHead text before) × (wording : Wording) × TellsAsAsked options text head.policy wording
     × IsLiveFault (ByOneWorker options) wording head.policy head.order head.left after old new fault)
+    ⊎ HasCutLive options text before after old new fault

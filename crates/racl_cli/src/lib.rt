@@ -4,6 +4,7 @@
 
 mod bytes_at_hand;
 mod capture_header_reading;
+mod counted_judging;
 mod digit_captures_in_turn;
 mod ended_workers;
 mod input_front;

@@ -1,34 +1,75 @@
 //! One run over a capture that is told while it comes.
-ghost use Rattle.std.specs.Prelude.{◌≡◌, ◌-◌, ◌<◌, ◌^◌, MatchResult};
+ghost use Rattle.std.specs.Prelude.{◌≡◌, ◌-◌, ◌<◌, ◌^◌, ◌++◌, IfOk, List, MatchResult};
+ghost use Rattle.packet_view.specs.Captures.{PacketFacts};
 ghost use Rattle.acl_policy.specs.Policies.{IsPolicyText, policy_facts};
-ghost use Rattle.racl_io.specs.Tellings.{Wording, with_write};
+ghost use Rattle.session_state.specs.declared.verdict.Verdict.{Verdict};
+ghost use Rattle.racl_io.specs.Tellings.{HasToldText, Wording, with_write};
 ghost use Rattle.capture_stream.specs.Lives.{with_read};
-ghost use Rattle.racl_cli.specs.LiveRuns.{HasRunLive, IsLiveRunFault, TellsAsAsked, TellsBehind};
+ghost use Rattle.racl_cli.specs.LiveRuns.{HasRunLive, IsLiveRunFault, IsToldBehind, TellsAsAsked, TellsBehind};
+ghost use Rattle.racl_cli.specs.inner.LiveEnds.{MayTellBehind};
 
 use crate::capture_header_reading::read_header;
-use crate::sized_tables_and_workers::{Manner, SizedWorkers, create_sized};
+use crate::counted_judging::Counted;
+use crate::sized_tables_and_workers::{
+    Manner, SizedCallers, SizedTables, SizedWorkers, create_sized,
+};
+use crate::stored_sessions::{keeps_stored, stored_of};
 use crate::workers_as_judges::Lone;
 use acl_policy::read_policy;
-use capture_stream::tell_live;
+use capture_stream::{ToldCapture, tell_live};
 use flow_filter::InterfaceFilters;
 use flow_workers::Filter;
 use packet_view::Order;
 use racl_io::{Fault, PlainLines, Sink, Source, Teller, Totals};
 use racl_options::{Lines, Options};
-use racl_views::{ExplainedLines, ObjectLines};
-use std::alloc::Global;
+use racl_report::{Behind, behind_totals, write_behind};
+use racl_views::{ExplainedLines, HitCounts, ObjectLines};
+use std::alloc::{AllocError, Global};
 use std::sync::Wait;
 use std::thread::Threads;
 
 /// For how many packets rules are prepared.
 const EXPECTED: usize = 16_777_216;
 
-/// What a live run goes by: its options, rules that are ready, and the order of the capture's numbers.
+/// What a live run goes by: its options, its policy's text, rules that are ready, and the order of the capture's numbers.
 #[derive(Clone, Copy)]
 pub struct LiveHead<'t, 'f> {
     pub options: &'t Options,
+    pub text: &'t [u8],
     pub filter: &'t InterfaceFilters<'f>,
     pub order: Order,
+}
+
+// What stands behind the totals of a live run whose worker has ended: with these counts, and these tables, which end.
+fn told_behind_live(
+    alloc: Global,
+    head: LiveHead<'_, '_>,
+    tables: SizedTables,
+    counts: &HitCounts,
+    callers: SizedCallers,
+) -> Result<Behind, AllocError>
+    requires { (packets : List PacketFacts) × (said : List Verdict) × MayTellBehind head tables packets said counts.now callers }
+    ensures { IfOk result (λ behind. (packets : List PacketFacts) (said : List Verdict) → MayTellBehind head.entry tables packets said counts.now callers
+        → IsToldBehind head.entry.options.now head.entry.text.now (policy_facts head.entry.filter.now.policy.now) packets said (behind.hits.items ++ behind.sessions.items)) }
+{
+    let stored = stored_of(alloc, keeps_stored(head.options), tables, callers)?;
+    behind_totals(alloc, head.options, head.text, counts, &stored)
+}
+
+// Of a live run the totals are told, and what stands behind them.
+fn tell_end_behind<L: Teller, W: Sink>(
+    writer: &mut W,
+    teller: &mut L,
+    totals: &Totals,
+    behind: &Behind,
+) -> Result<(), Fault>
+    requires { W.failures writer.old < 2 ^ 64 - 1 }
+    ensures { HasToldText W.bytes W.failures writer.old writer.new ((L.wording teller.old).end totals.now ++ (behind.now.hits.items ++ behind.now.sessions.items)) result }
+{
+    match teller.tell_end(writer, totals) {
+        Ok(()) => write_behind(writer, behind),
+        Err(fault) => Err(fault),
+    }
 }
 
 // In a live run one worker judges the packets of the capture behind its header, and they are told, while they come. Its tables
@@ -41,8 +82,9 @@ fn tell_capture<L: Teller, R: Source, W: Sink, T: Threads + Wait + Sync>(
     writer: &mut W,
     teller: &mut L,
 ) -> Result<Totals, Fault>
+    requires says { IsPolicyText head.text.now (policy_facts head.filter.now.policy.now) }
     requires sound { (head.filter.now.times ≡ head.options.now.times) × (R.failures reader.old < 2 ^ 64 - 1) × (W.failures writer.old < 2 ^ 64 - 1) }
-    ensures told { TellsBehind head.entry.options.now (L.wording teller.old) (policy_facts head.entry.filter.now.policy.now) head.entry.order (R.bytes reader.old) (R.bytes reader.new) (W.bytes writer.old) (W.bytes writer.new) result }
+    ensures told { TellsBehind head.entry.options.now head.entry.text.now (L.wording teller.old) (policy_facts head.entry.filter.now.policy.now) head.entry.order (R.bytes reader.old) (R.bytes reader.new) (W.bytes writer.old) (W.bytes writer.new) result }
     ensures read { MatchResult result (λ _. R.failures reader.new ≡ R.failures reader.old) (λ fault. R.failures reader.new ≡ with_read (R.failures reader.old) fault) }
     ensures write { MatchResult result (λ _. W.failures writer.new ≡ W.failures writer.old) (λ fault. W.failures writer.new ≡ with_write (W.failures writer.old) fault) }
 {
@@ -56,29 +98,49 @@ fn tell_capture<L: Teller, R: Source, W: Sink, T: Threads + Wait + Sync>(
     let Ok(workers) = SizedWorkers::new(rt, alloc, manner, &tables, callers) else {
         return Err(Fault::Memory);
     };
-    let judges = Lone { alloc, workers };
-    tell_live(alloc, reader, writer, teller, judges, head.order)
+    let counts = HitCounts::new(alloc);
+    let judges = Counted {
+        lone: Lone { alloc, workers },
+        policy: head.filter.policy,
+        asked: head.options.hits,
+        counts,
+    };
+    let told = match tell_live(alloc, reader, writer, teller, judges, head.order) {
+        Ok(told) => told,
+        Err(fault) => return Err(fault),
+    };
+    let ToldCapture { judges, totals } = told;
+    let Ok((counts, callers)) = judges.end(alloc) else {
+        return Err(Fault::Memory);
+    };
+    let Ok(behind) = told_behind_live(alloc, head, tables, &counts, callers) else {
+        return Err(Fault::Memory);
+    };
+    match tell_end_behind(writer, teller, &totals, &behind) {
+        Ok(()) => Ok(totals),
+        Err(fault) => Err(fault),
+    }
 }
 
-// In a live run packets are told in the form that is asked for, by rules with this text.
+// In a live run packets are told in the form that is asked for.
 fn tell_as_asked<R: Source, W: Sink, T: Threads + Wait + Sync>(
     rt: &T,
     alloc: Global,
     head: LiveHead<'_, '_>,
-    text: &[u8],
     reader: &mut R,
     writer: &mut W,
 ) -> Result<Totals, Fault>
-    requires says { IsPolicyText text.now (policy_facts head.filter.now.policy.now) }
+    requires says { IsPolicyText head.text.now (policy_facts head.filter.now.policy.now) }
     requires times { head.filter.now.times ≡ head.options.now.times }
     requires sound { (R.failures reader.old < 2 ^ 64 - 1) × (W.failures writer.old < 2 ^ 64 - 1) }
-    ensures told { let options = head.entry.options.now in let policy = policy_facts head.entry.filter.now.policy.now in (wording : Wording) × TellsAsAsked options text.now policy wording
-        × TellsBehind options wording policy head.entry.order (R.bytes reader.old) (R.bytes reader.new) (W.bytes writer.old) (W.bytes writer.new) result }
+    ensures told { let options = head.entry.options.now in let text = head.entry.text.now in let policy = policy_facts head.entry.filter.now.policy.now in (wording : Wording) × TellsAsAsked options text policy wording
+        × TellsBehind options text wording policy head.entry.order (R.bytes reader.old) (R.bytes reader.new) (W.bytes writer.old) (W.bytes writer.new) result }
     ensures read { MatchResult result (λ _. R.failures reader.new ≡ R.failures reader.old) (λ fault. R.failures reader.new ≡ with_read (R.failures reader.old) fault) }
     ensures write { MatchResult result (λ _. W.failures writer.new ≡ W.failures writer.old) (λ fault. W.failures writer.new ≡ with_write (W.failures writer.old) fault) }
 {
     let shown = head.options.shown;
     let policy = head.filter.policy;
+    let text = head.text;
     match head.options.lines {
         Lines::Plain => match PlainLines::new(alloc, shown) {
             Ok(mut lines) => tell_capture(rt, alloc, head, reader, writer, &mut lines),
@@ -96,9 +158,10 @@ fn tell_as_asked<R: Source, W: Sink, T: Threads + Wait + Sync>(
 }
 
 /// Filters a capture by a policy with this text while it comes, and writes the report that the options ask for: after each read
-/// what is told of all packets whose records were read whole, and at its end what stands behind them. One worker judges, which
-/// keeps no verdict and removes sessions that have ended, so that a capture may be of any length. A fault leaves what was
-/// written.
+/// what is told of all packets whose records were read whole, and at its end what stands behind them: the totals, and the hits
+/// and sessions that are asked for. One worker judges, which keeps no verdict, but counts, and removes sessions that have ended,
+/// so that a capture may be of any length. A fault leaves what was written; but for Write neither totals nor hits stand behind
+/// it.
 pub fn run_live<R: Source, W: Sink, T: Threads + Wait + Sync>(
     rt: &T,
     alloc: Global,
@@ -135,8 +198,9 @@ pub fn run_live<R: Source, W: Sink, T: Threads + Wait + Sync>(
     };
     let head = LiveHead {
         options,
+        text,
         filter: &ready,
         order,
     };
-    tell_as_asked(rt, alloc, head, text, reader, writer)
+    tell_as_asked(rt, alloc, head, reader, writer)
 }

@@ -22,8 +22,8 @@ pub fn keeps_stored(options: &Options) -> bool
     options.hits || options.sessions
 }
 
-// The sessions that are stored in the tables, which end, where these are told; or none.
-fn stored_of(
+/// The sessions that are stored in the tables, which end, where these are told; or none.
+pub fn stored_of(
     alloc: Global,
     asked: bool,
     tables: SizedTables,

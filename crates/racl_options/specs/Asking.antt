@@ -44,13 +44,9 @@ is_plain Plain = true
 is_plain Explained = false
 is_plain Json = false
 
--- the options beside which verdicts can be written as packets come: one worker, and nothing is told behind the totals
-abbrev pub is_simple_run : OptionFacts → Bool
-is_simple_run options = (options.workers == 1) && not (options.hits || options.sessions)
-
--- verdicts can be written as packets come: of the capture in a file, and no packet is saved
+-- verdicts can be written as packets come: of the capture in a file, by one worker, and no packet is saved
 abbrev pub can_be_live : AskedFacts → Bool
-can_be_live asked = are_files asked.origin && (not (is_saved asked) && is_simple_run asked.options)
+can_be_live asked = are_files asked.origin && (not (is_saved asked) && (asked.options.workers == 1))
 
 -- Packets are saved of the capture in a file, and in two files. `--live` is asked for only where verdicts can be written as
 -- packets come.

@@ -26,8 +26,7 @@ const NOT_SAVED: &str = "--drops and --passes are of one capture: they need POLI
 
 const ONE_FILE: &str = "--drops and --passes need a file each";
 
-const NOT_LIVE: &str =
-    "--live needs POLICY CAPTURE, and no --workers, --hits, --sessions, --drops or --passes";
+const NOT_LIVE: &str = "--live needs POLICY CAPTURE, and no --workers, --drops or --passes";
 
 /// What the matches ask for.
 pub fn asked_by<'a>(alloc: Global, matches: &ArgMatches<'a>) -> Result<Asked<'a>, Refusal>
@@ -62,13 +61,6 @@ fn are_files_asked(origin: &Origin<'_>) -> bool
     matches!(origin, Origin::Files(_))
 }
 
-// Whether the other options that are asked go with `--live`: verdicts can be written as packets come beside them.
-fn is_simple_run_asked(options: &Options) -> bool
-    ensures { result ≡ asking.is_simple_run (option_facts options.now) }
-{
-    options.workers == 1 && !(options.hits || options.sessions)
-}
-
 // Whether the options that are asked save packets, by `--drops` or `--passes`.
 fn is_saved(saved: &Saved<'_>) -> bool
     ensures { result ≡ (is_some (text_behind saved.now.drops) || is_some (text_behind saved.now.passes)) }
@@ -90,7 +82,7 @@ fn is_shared_file_asked(drops: Option<&str>, passes: Option<&str>) -> bool
 fn can_be_live(asked: &Asked<'_>) -> bool
     ensures { result ≡ asking.can_be_live (asked_facts asked.now) }
 {
-    are_files_asked(&asked.origin) && !is_saved(&asked.saved) && is_simple_run_asked(&asked.options)
+    are_files_asked(&asked.origin) && !is_saved(&asked.saved) && asked.options.workers == 1
 }
 
 // Why what is asked for doesn't go together.

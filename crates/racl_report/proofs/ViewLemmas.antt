@@ -117,11 +117,7 @@ told_again options input policy packets judged again run hits sessions old mid l
       is = record {
         parts = is.parts;
         parted = is.parted;
-        lines = has.lines;
-        are = has.are;
-        hits = hits;
-        told = hit;
-        all = ap (λ (text : List ℕ). has.lines ++ (hits ++ text)) stand;
+        on = record { lines = has.lines; are = has.are; hits = hits; told = hit; all = ap (λ (text : List ℕ). has.lines ++ (hits ++ text)) stand };
       };
       text = Appends-trans old mid new has.lines (hits ++ sessions) has.text (Appends-trans mid late new hits sessions behind last);
       counted = has.counted;
@@ -146,11 +142,13 @@ told_plain options input policy packets judged old new (Ok totals) plain read ha
       is = record {
         parts = read.parts;
         parted = read.parted;
-        lines = report_shown options.shown judged.outcome.verdicts judged.outcome.captures;
-        are = are.0;
-        hits = [];
-        told = are.1;
-        all = refl;
+        on = record {
+          lines = report_shown options.shown judged.outcome.verdicts judged.outcome.captures;
+          are = are.0;
+          hits = [];
+          told = are.1;
+          all = refl;
+        };
       };
       text = has.text;
       counted = has.counted;

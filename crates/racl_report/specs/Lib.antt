@@ -1,3 +1,4 @@
+pub mod BehindTotals
 pub mod Endings
 pub mod ReadInputs
 pub mod RunReports

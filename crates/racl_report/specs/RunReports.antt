@@ -54,12 +54,17 @@ view_behind Json = view.Json
 abbrev pub sessions_behind : Options → StoredFacts → List ℕ
 sessions_behind options stored = if options.sessions then sessions_told (view_behind options.lines) options.times stored else []
 
--- what is told of a run on an input: its lines, and behind them the hits and the sessions, where these are asked for
+-- what is told of a run under a policy with this text: its lines, and behind them the hits and the sessions, where these are
+-- asked for
+pub record IsReportOn (options : Options) (text : List ℕ) (policy : PolicyFacts) (packets : List PacketFacts) (judged : JudgedFacts) (report : List ℕ) : Type 0 where
+  pub lines : List ℕ
+  pub are : AreLines options.lines (told_facts policy text packets judged.outcome options.shown) lines
+  pub hits : List ℕ
+  pub told : AreHits options.hits (view_behind options.lines) options.times (told_facts policy text packets judged.outcome options.shown) judged.stored hits
+  pub all : report ≡ lines ++ (hits ++ sessions_behind options judged.stored)
+
+-- what is told of a run on an input
 pub record IsReport (options : Options) (bytes : List ℕ) (policy : PolicyFacts) (packets : List PacketFacts) (judged : JudgedFacts) (report : List ℕ) : Type 0 where
   pub parts : InputFacts
   pub parted : IsInput bytes parts
-  pub lines : List ℕ
-  pub are : AreLines options.lines (told_facts policy parts.policy packets judged.outcome options.shown) lines
-  pub hits : List ℕ
-  pub told : AreHits options.hits (view_behind options.lines) options.times (told_facts policy parts.policy packets judged.outcome options.shown) judged.stored hits
-  pub all : report ≡ lines ++ (hits ++ sessions_behind options judged.stored)
+  pub on : IsReportOn options parts.policy policy packets judged report

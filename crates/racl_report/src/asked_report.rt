@@ -78,8 +78,8 @@ fn run_of<'a>(
     }
 }
 
-// The form of the hits and sessions behind a report's lines, where these are asked for in this form.
-fn view_behind(lines: Lines) -> View
+/// The form of the hits and sessions behind a report's lines, where these are asked for in this form.
+pub fn view_behind(lines: Lines) -> View
     ensures { result ≡ RunReports.view_behind lines }
 {
     match lines {
@@ -111,8 +111,8 @@ fn hits_of(
     }
 }
 
-// The part of a report that tells of sessions, where the options ask for it.
-fn sessions_of(
+/// The part of a report that tells of sessions, where the options ask for it.
+pub fn sessions_of(
     alloc: Global,
     options: &Options,
     stored: &StoredPairs,

@@ -1,8 +1,6 @@
 use Rattle.std.proofs.Common.{◌∙◌, arith, refl, subst}
-use Rattle.std.specs.Io.KnownBytes.{Appends}
-use Rattle.racl_io.specs.Tellings.{IsTellingFault, Wording}
 use Rattle.capture_stream.specs.inner.Feedings.{HasGot}
-use Rattle.capture_stream.proofs.TellLemmas.{end_fault, live_begun, live_large, live_may, live_more, live_told, longer_totals, part_fault, told_all, told_few, told_long, told_passing, told_short, window_fault}
+use Rattle.capture_stream.proofs.TellLemmas.{live_begun, live_large, live_may, live_more, live_told, longer_totals, part_fault, told_all, told_few, told_long, told_passing, told_short, window_fault}
 use Rattle.capture_stream.proofs.live_telling.tell_live.Goals as goal
 
 pub reads-init : goal.reads-init
@@ -50,8 +48,8 @@ returns-in-Err-read_some-clause-told g c =
     part_fault _ _ _ _ _ _ _ _ _ _ _ told (g.R.Source.bytes c.read_some.new.reader) c.in-Ok-is_cut.truncated c.in-Err-read_some.fault c.in-Ok-is_cut.ensures
     c.in-Err-read_some.ensures.got
 
-pub totals_at-totals-requires : goal.totals_at-totals-requires
-totals_at-totals-requires g c =
+pub told_at-requires : goal.told_at-requires
+told_at-requires g c =
     let told = live_told g.J.Judge.became g.J.Judge.judged (g.L.Teller.wording c.args.teller.now) c.args.judges c.args.order (g.R.Source.bytes c.args.reader.now) (g.W.Sink.bytes c.args.writer.now)
     c.requires.counts _ _ _ c.reads.live c.tell_waiting.new.live c.in-Ok.stop c.reads.invariant.live c.reads-test.true
     _ c.reads.invariant.same c.in-Ok.ensures.told in
@@ -60,34 +58,18 @@ totals_at-totals-requires g c =
     let same = got.longer.packets in
     omega arith
 
-pub returns-in-Ok-tell_end-clause-told : goal.returns-in-Ok-tell_end-clause-told
-returns-in-Ok-tell_end-clause-told g c =
+pub returns-then-n-eq0-clause-told : goal.returns-then-n-eq0-clause-told
+returns-then-n-eq0-clause-told g c =
     let now = g.R.Source.bytes c.reads.reader in
     let end = g.R.Source.bytes c.read_some.new.reader in
     let mid = g.W.Sink.bytes c.tell_waiting.new.writer in
-    let last = g.W.Sink.bytes c.tell_end.new.writer in
     let next = c.tell_waiting.new.live in
     let told = live_told g.J.Judge.became g.J.Judge.judged (g.L.Teller.wording c.args.teller.now) c.args.judges c.args.order (g.R.Source.bytes c.args.reader.now) (g.W.Sink.bytes c.args.writer.now)
     c.requires.counts now _ mid c.reads.live next c.in-Ok.stop c.reads.invariant.live c.reads-test.true _ c.reads.invariant.same c.in-Ok.ensures.told in
     let got = subst (HasGot now end next.engine c.read_some.new.self 65536) c.if-n-eq0.true c.in-Ok-read_some.ensures.got in
-    told_all _ _ _ _ _ _ _ now mid next _ told end last c.read_some.new.self c.in-Ok-is_cut.truncated c.totals_at-totals.result c.in-Ok-is_cut.ensures got
-    (longer_totals _ _ c.totals_at-totals.result c.in-Ok-is_cut.truncated got.longer.packets c.totals_at-totals.ensures)
-    (subst (λ (w : Wording). Appends mid last (w.end c.totals_at-totals.result)) (c.in-Ok.ensures.same ∙ c.reads.invariant.same) c.in-Ok-tell_end.ensures.told.0)
-
-pub returns-in-Err-tell_end-clause-told : goal.returns-in-Err-tell_end-clause-told
-returns-in-Err-tell_end-clause-told g c =
-    let now = g.R.Source.bytes c.reads.reader in
-    let end = g.R.Source.bytes c.read_some.new.reader in
-    let mid = g.W.Sink.bytes c.tell_waiting.new.writer in
-    let last = g.W.Sink.bytes c.tell_end.new.writer in
-    let next = c.tell_waiting.new.live in
-    let told = live_told g.J.Judge.became g.J.Judge.judged (g.L.Teller.wording c.args.teller.now) c.args.judges c.args.order (g.R.Source.bytes c.args.reader.now) (g.W.Sink.bytes c.args.writer.now)
-    c.requires.counts now _ mid c.reads.live next c.in-Ok.stop c.reads.invariant.live c.reads-test.true _ c.reads.invariant.same c.in-Ok.ensures.told in
-    let got = subst (HasGot now end next.engine c.read_some.new.self 65536) c.if-n-eq0.true c.in-Ok-read_some.ensures.got in
-    end_fault _ _ _ _ _ _ _ now mid next _ told end last c.read_some.new.self c.in-Ok-is_cut.truncated c.totals_at-totals.result c.in-Err-tell_end.fault c.in-Ok-is_cut.ensures got
-    (longer_totals _ _ c.totals_at-totals.result c.in-Ok-is_cut.truncated got.longer.packets c.totals_at-totals.ensures)
-    (subst (λ (w : Wording). IsTellingFault mid last (w.end c.totals_at-totals.result) c.in-Err-tell_end.fault) (c.in-Ok.ensures.same ∙ c.reads.invariant.same)
-    c.in-Err-tell_end.ensures.told.0)
+    told_all _ _ _ _ _ _ _ now mid next _ told end c.read_some.new.self c.in-Ok-is_cut.truncated c.told_at.result c.in-Ok-is_cut.ensures got
+    (longer_totals _ _ c.told_at.result.totals c.in-Ok-is_cut.truncated got.longer.packets c.told_at.ensures.totals)
+    c.told_at.ensures.judges
 
 pub reads-preserved : goal.reads-preserved
 reads-preserved g c =

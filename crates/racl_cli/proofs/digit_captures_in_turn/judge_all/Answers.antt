@@ -4,7 +4,7 @@ use Rattle.racl_cli.proofs.TakenLemmas.{only_taken}
 use Rattle.racl_cli.proofs.digit_captures_in_turn.judge_all.Goals as goal
 
 pub end_capture_by_plan-requires : goal.end_capture_by_plan-requires
-end_capture_by_plan-requires g c = let has = c.in-Ok.ensures.ok in (has.packets, has.rest [] c.requires.rest)
+end_capture_by_plan-requires g c = let has = c.in-Ok.ensures.ok in (has.packets, [], has.rest [] c.requires.rest)
 
 pub returns-in-Ok-clause-ok : goal.returns-in-Ok-clause-ok
 returns-in-Ok-clause-ok g c =

@@ -1,4 +1,4 @@
-use Rattle.std.proofs.Common.{◌∙◌, subst, sym}
+use Rattle.std.proofs.Common.{◌∙◌, [], subst, sym}
 use Rattle.racl_cli.specs.Crews.{AreSaidBy}
 use Rattle.racl_cli.proofs.OutcomeLemmas.{judged_count}
 use Rattle.racl_cli.proofs.TakenLemmas.{all_taken, amid_next}
@@ -11,7 +11,7 @@ captures-preserved g c =
 pub invariant_of-result : goal.invariant_of-result
 invariant_of-result g c =
     let amid = c.captures-2.invariant in
-    let said = subst (λ o. AreSaidBy o amid.packets c.in-Ok.verdicts.items c.in-Ok.callers) amid.by (c.in-Ok.ensures amid.packets amid.rest) in
+    let said = subst (λ o. AreSaidBy o amid.packets c.in-Ok.verdicts.items c.in-Ok.callers) amid.by (c.in-Ok.ensures [] amid.packets amid.rest) in
     record { counted = amid.counted ∙ sym (judged_count _ _ _ amid.packets c.in-Ok.verdicts.items said.said.removals said.said.judged) }
 
 pub returns-clause-ok : goal.returns-clause-ok
@@ -20,5 +20,5 @@ returns-clause-ok g c =
     record {
       packets = amid.packets;
       taken = all_taken c.args.begun c.captures-2.walk amid c.in_default.is;
-      said = subst (λ o. AreSaidBy o amid.packets c.in-Ok.verdicts.items c.in-Ok.callers) amid.by (c.in-Ok.ensures amid.packets amid.rest);
+      said = subst (λ o. AreSaidBy o amid.packets c.in-Ok.verdicts.items c.in-Ok.callers) amid.by (c.in-Ok.ensures [] amid.packets amid.rest);
     }

@@ -26,7 +26,7 @@ end_capture_by_plan-requires g c =
     let s = c.in-Ok-judge_stream.ensures.streamed in
     let crew : Crew _ = record { alloc = c.args.alloc; workers = c.in-Ok-new.workers } in
     let stand = s.judged crew [] [] (search rules, record { given = refl; rest = c.in-Ok-new.ensures.rest }) in
-    (packets_at c.args.opening.interface s.packets, stand.1.rest)
+    (packets_at c.args.opening.interface s.packets, [], stand.1.rest)
 
 pub with_stored-requires : goal.with_stored-requires
 with_stored-requires g c =

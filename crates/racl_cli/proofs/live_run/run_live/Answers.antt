@@ -1,8 +1,7 @@
 use Rattle.std.proofs.Common.{inl, inr, refl, subst, sym}
-use Rattle.std.proofs.lemmas.Result.{MatchResult-weaker}
 use Rattle.acl_policy.specs.Policies.{IsPolicyText, policy_facts}
 use Rattle.acl_policy.specs.declared.policy.Policy.{Policy}
-use Rattle.racl_cli.proofs.LiveLemmas.{early_fault, live_run}
+use Rattle.racl_cli.proofs.LiveLemmas.{early_fault, live_ends}
 use Rattle.racl_cli.proofs.live_run.run_live.Goals as goal
 
 pub returns-in-Err-read_header-clause-told : goal.returns-in-Err-read_header-clause-told
@@ -22,20 +21,15 @@ returns-clause-told g c =
     let says = subst (λ (p : Policy). IsPolicyText c.args.text.now (policy_facts p)) (sym c.in-Ok-ready_with.ensures.policy) c.in-Ok.ensures.ok in
     let header = c.in-Ok-read_header.ensures.header in
     let (wording, tells, told) = c.tell_as_asked.ensures.told in
-    MatchResult-weaker c.tell_as_asked.result told
-    (λ totals told. live_run c.args.options.now c.args.text.now _ _ _ _ _ policy c.in-Ok-read_header.order wording totals says tells header told)
-    (λ found told. inr (
-      record {
-        policy = policy;
-        says = says;
-        header = header.header;
-        order = c.in-Ok-read_header.order;
-        right = header.headed.right;
-        whole = header.whole;
-        left = g.R.Source.bytes c.read_header.new.reader;
-        consumed = header.consumed;
-      },
-      wording,
-      tells,
-      told,
-    ))
+    live_ends c.args.options.now c.args.text.now _ (g.R.Source.bytes c.read_header.new.reader) _ _ _
+    (record {
+      policy = policy;
+      says = says;
+      header = header.header;
+      order = c.in-Ok-read_header.order;
+      right = header.headed.right;
+      whole = header.whole;
+      left = g.R.Source.bytes c.read_header.new.reader;
+      consumed = header.consumed;
+    })
+    header wording c.tell_as_asked.result tells refl told

@@ -1,44 +1,102 @@
-use Rattle.std.proofs.Common.{ap, refl, rules}
-use Rattle.std.proofs.lemmas.Result.{MatchResult-weaker}
+use Rattle.std.proofs.Common.{ap, inl, refl, rules, sym}
 use Rattle.acl_policy.specs.Policies.{policy_facts}
-use Rattle.capture_stream.proofs.TellLemmas.{all_as, fault_as, none_told}
+use Rattle.packet_view.specs.Captures.{packets_at}
+use Rattle.capture_stream.proofs.TellLemmas.{fault_as, none_told}
 use Rattle.racl_cli.specs.Crews.{Orders, orders_of}
 use Rattle.racl_cli.specs.LiveRuns.{ByOneWorker}
+use Rattle.racl_cli.proofs.CountedLemmas.{may_tell_behind, said_count}
+use Rattle.racl_cli.proofs.LiveEndLemmas.{end_fault, end_told, end_unwritten}
 use Rattle.racl_cli.proofs.LiveLemmas.{by_one_worker}
-use Rattle.racl_cli.proofs.OutcomeLemmas.{judged_count}
 use Rattle.racl_cli.proofs.live_run.tell_capture.Goals as goal
 
 pub returns-in_default-clause-told : goal.returns-in_default-clause-told
 returns-in_default-clause-told g c =
-    none_told (ByOneWorker c.args.head.options.now) (g.L.Teller.wording c.args.teller.now) (policy_facts c.args.head.filter.now.policy.now) c.args.head.order (g.R.Source.bytes c.args.reader.now)
-    (g.W.Sink.bytes c.args.writer.now)
+    inl (none_told (ByOneWorker c.args.head.options.now) (g.L.Teller.wording c.args.teller.now) (policy_facts c.args.head.filter.now.policy.now) c.args.head.order
+    (g.R.Source.bytes c.args.reader.now) (g.W.Sink.bytes c.args.writer.now))
 
 pub returns-in_default-new-clause-told : goal.returns-in_default-new-clause-told
 returns-in_default-new-clause-told g c =
-    none_told (ByOneWorker c.args.head.options.now) (g.L.Teller.wording c.args.teller.now) (policy_facts c.args.head.filter.now.policy.now) c.args.head.order (g.R.Source.bytes c.args.reader.now)
-    (g.W.Sink.bytes c.args.writer.now)
+    inl (none_told (ByOneWorker c.args.head.options.now) (g.L.Teller.wording c.args.teller.now) (policy_facts c.args.head.filter.now.policy.now) c.args.head.order
+    (g.R.Source.bytes c.args.reader.now) (g.W.Sink.bytes c.args.writer.now))
 
 pub tell_live-requires-clause-begun : goal.tell_live-requires-clause-begun
 tell_live-requires-clause-begun g c = (
   search rules,
   record {
-    given = refl;
-    one = ap (λ (o : Orders). o.deal.workers) c.in-Ok-new.ensures.given;
-    rest = c.in-Ok-new.ensures.rest;
+    alone = record {
+      given = refl;
+      one = ap (λ (o : Orders). o.deal.workers) c.in-Ok-new.ensures.given;
+      rest = c.in-Ok-new.ensures.rest;
+    };
+    each = refl;
+    policy = ap (λ (o : Orders). o.policy) (sym c.in-Ok-new.ensures.given);
+    same = refl;
+    counts = λ asked. c.new-counts.ensures (orders_of c.in-Ok-new.workers).policy;
   },
 )
 
 pub tell_live-requires-clause-counts : goal.tell_live-requires-clause-counts
-tell_live-requires-clause-counts g c begun packets said are = judged_count _ _ _ _ _ are.1.removals are.1.judged
+tell_live-requires-clause-counts g c begun packets said are = said_count (orders_of begun.lone.workers) packets said are
+
+pub returns-in-Err-clause-told : goal.returns-in-Err-clause-told
+returns-in-Err-clause-told g c =
+    let options = c.args.head.options.now in
+    let ready = c.args.head.filter.now in
+    let tells = by_one_worker options ready _ (orders_of c.in-Ok-new.workers) in
+    inl (fault_as _ (ByOneWorker options) (g.L.Teller.wording c.args.teller.now) _ (policy_facts ready.policy.now)
+    (λ packets verdicts judged. (tells packets verdicts c.in-Ok-new.ensures.given c.in-Ok.ensures.asked.four c.in-Ok.ensures.asked.size c.requires.sound.0 options.few.0 judged).0)
+    _ _ _ _ _ c.in-Err.fault c.in-Err.ensures.told)
+
+pub end-requires : goal.end-requires
+end-requires g c =
+    let all = c.in-Ok-tell_live.ensures.told in
+    (orders_of c.in-Ok-new.workers, c.args.head.options.now.hits, packets_at 0 all.all.packets, all.all.verdicts, all.stand.1)
+
+pub told_behind_live-requires : goal.told_behind_live-requires
+told_behind_live-requires g c =
+    let all = c.in-Ok-tell_live.ensures.told in
+    let ended = c.in-Ok-end.ensures _ _ (packets_at 0 all.all.packets) all.all.verdicts all.stand.1 in (
+      packets_at 0 all.all.packets,
+      all.all.verdicts,
+      may_tell_behind c.args.head _ _ _ _ _ (orders_of c.in-Ok-new.workers) c.requires.says c.requires.sound.0 c.in-Ok.ensures.asked c.in-Ok-new.ensures.given ended,
+    )
+
+pub returns-in_default-end-clause-told : goal.returns-in_default-end-clause-told
+returns-in_default-end-clause-told g c =
+    let options = c.args.head.options.now in
+    let ready = c.args.head.filter.now in
+    let all = c.in-Ok-tell_live.ensures.told in
+    let one = by_one_worker options ready _ (orders_of c.in-Ok-new.workers) (packets_at 0 all.all.packets) all.all.verdicts c.in-Ok-new.ensures.given
+    c.in-Ok.ensures.asked.four c.in-Ok.ensures.asked.size c.requires.sound.0 options.few.0 all.all.judged in
+    inl (end_unwritten options c.args.head.text.now (g.L.Teller.wording c.args.teller.now) (policy_facts ready.policy.now) c.args.head.order _ _ _ _
+    c.in-Ok-tell_live.told.totals all.all one.0 all.text)
+
+pub returns-in_default-told_behind_live-clause-told : goal.returns-in_default-told_behind_live-clause-told
+returns-in_default-told_behind_live-clause-told g c =
+    let options = c.args.head.options.now in
+    let ready = c.args.head.filter.now in
+    let all = c.in-Ok-tell_live.ensures.told in
+    let one = by_one_worker options ready _ (orders_of c.in-Ok-new.workers) (packets_at 0 all.all.packets) all.all.verdicts c.in-Ok-new.ensures.given
+    c.in-Ok.ensures.asked.four c.in-Ok.ensures.asked.size c.requires.sound.0 options.few.0 all.all.judged in
+    inl (end_unwritten options c.args.head.text.now (g.L.Teller.wording c.args.teller.now) (policy_facts ready.policy.now) c.args.head.order _ _ _ _
+    c.in-Ok-tell_live.told.totals all.all one.0 all.text)
+
+pub returns-in-Ok-tell_end_behind-clause-told : goal.returns-in-Ok-tell_end_behind-clause-told
+returns-in-Ok-tell_end_behind-clause-told g c =
+    let all = c.in-Ok-tell_live.ensures.told in
+    let ended = c.in-Ok-end.ensures _ _ (packets_at 0 all.all.packets) all.all.verdicts all.stand.1 in
+    let told = c.in-Ok-told_behind_live.ensures (packets_at 0 all.all.packets) all.all.verdicts
+    (may_tell_behind c.args.head _ _ _ _ _ (orders_of c.in-Ok-new.workers) c.requires.says c.requires.sound.0 c.in-Ok.ensures.asked c.in-Ok-new.ensures.given ended) in
+    end_told c.args.head.options.now c.args.head.text.now (g.L.Teller.wording c.args.teller.now) (policy_facts c.args.head.filter.now.policy.now) c.args.head.order _ _ _ _
+    c.in-Ok-tell_live.told.totals all.all told.by_one_worker all.text _ told _ (g.L.Teller.wording c.tell_live.new.teller) c.in-Ok-tell_live.ensures.same
+    c.in-Ok-tell_end_behind.ensures.0
 
 pub returns-clause-told : goal.returns-clause-told
 returns-clause-told g c =
-    let options = c.args.head.options.now in
-    let ready = c.args.head.filter.now in
-    let workers = c.in-Ok-new.workers in
-    let tells = by_one_worker options ready _ (orders_of workers) in
-    MatchResult-weaker c.tell_live.result c.tell_live.ensures.told
-    (λ totals told. all_as _ (ByOneWorker options) (g.L.Teller.wording c.args.teller.now) _ (policy_facts ready.policy.now)
-    (λ packets verdicts judged. tells packets verdicts c.in-Ok-new.ensures.given c.in-Ok.ensures.asked.four c.in-Ok.ensures.asked.size c.requires.sound.0 options.few.0 judged) _ _ _ _ _ totals told)
-    (λ found told. fault_as _ (ByOneWorker options) (g.L.Teller.wording c.args.teller.now) _ (policy_facts ready.policy.now)
-    (λ packets verdicts judged. tells packets verdicts c.in-Ok-new.ensures.given c.in-Ok.ensures.asked.four c.in-Ok.ensures.asked.size c.requires.sound.0 options.few.0 judged) _ _ _ _ _ found told)
+    let all = c.in-Ok-tell_live.ensures.told in
+    let ended = c.in-Ok-end.ensures _ _ (packets_at 0 all.all.packets) all.all.verdicts all.stand.1 in
+    let told = c.in-Ok-told_behind_live.ensures (packets_at 0 all.all.packets) all.all.verdicts
+    (may_tell_behind c.args.head _ _ _ _ _ (orders_of c.in-Ok-new.workers) c.requires.says c.requires.sound.0 c.in-Ok.ensures.asked c.in-Ok-new.ensures.given ended) in
+    end_fault c.args.head.options.now c.args.head.text.now (g.L.Teller.wording c.args.teller.now) (policy_facts c.args.head.filter.now.policy.now) c.args.head.order _ _ _ _
+    c.in-Ok-tell_live.told.totals all.all told.by_one_worker all.text _ told _ c.in-Err-tell_end_behind.fault (g.L.Teller.wording c.tell_live.new.teller)
+    c.in-Ok-tell_live.ensures.same c.in-Err-tell_end_behind.ensures.0

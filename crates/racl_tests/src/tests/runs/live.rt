@@ -144,3 +144,67 @@ fn live_runs_tell_in_each_form(rt: HostRuntime) -> Result<(), Fail> {
     }
     Ok(())
 }
+
+/// What a live run writes behind its totals in either form.
+const BEHIND: [(Lines, &str); 2] = [
+    (
+        Lines::Explained,
+        "\
+packets 3 pass 2 drop 1
+interface 0 out rule 1 line 2 packets 1
+session packets 1
+default packets 1
+full packets 0
+worn packets 0
+no-pages packets 0
+not-ip packets 0
+malformed packets 0
+short packets 0
+sessions entered 1
+sessions matched 1
+sessions expired 0
+session interface 0 udp 10.0.0.1 port 1000 and 10.0.0.2 port 53 last 105 until 705
+",
+    ),
+    (
+        Lines::Json,
+        "\
+{\"packets\":3,\"pass\":2,\"drop\":1}
+{\"interface\":0,\"direction\":\"out\",\"rule\":1,\"line\":2,\"packets\":1}
+{\"reason\":\"session\",\"packets\":1}
+{\"reason\":\"default\",\"packets\":1}
+{\"reason\":\"full\",\"packets\":0}
+{\"reason\":\"worn\",\"packets\":0}
+{\"reason\":\"no-pages\",\"packets\":0}
+{\"reason\":\"not-ip\",\"packets\":0}
+{\"reason\":\"malformed\",\"packets\":0}
+{\"reason\":\"short\",\"packets\":0}
+{\"sessions_entered\":1}
+{\"sessions_matched\":1}
+{\"sessions_expired\":0}
+{\"interface\":0,\"protocol\":17,\"ends\":[{\"address\":\"10.0.0.1\",\"port\":1000},{\"address\":\"10.0.0.2\",\"port\":53}],\"last\":105,\"until\":705}
+",
+    ),
+];
+
+/// Live runs on a capture behind whose totals hits and sessions are told, a few bytes at a time.
+#[test]
+fn live_runs_count_while_packets_come(rt: HostRuntime) -> Result<(), Fail> {
+    let alloc = rt.alloc();
+    let bytes = decode_digits(alloc, CAPTURE)?;
+    for (lines, wanted) in BEHIND {
+        let mut reader = Drip {
+            rest: &bytes,
+            reads: usize::MAX,
+            failures: 0,
+        };
+        let mut writer = trickling(alloc, usize::MAX);
+        let mut options = asked_form(lines, Shown::Nothing);
+        options.hits = true;
+        options.sessions = true;
+        let outcome = run_live(&rt, alloc, &options, POLICY, &mut reader, &mut writer);
+        assert!(rt; outcome.is_ok() == true);
+        assert!(rt; writer.taken.as_slice() == wanted.as_bytes());
+    }
+    Ok(())
+}

@@ -1,0 +1,99 @@
+-- The end of a run over a capture that was told while it came.
+use Rattle.std.proofs.Common.{◌≡◌, ◌∙◌, ◌++◌, ◌+◌, ℕ, List, [], Option, ap, append_assoc, inl, inr, length, refl, subst, sym}
+use Rattle.std.proofs.KnownBytes.{Appends-trans}
+use Rattle.std.proofs.lemmas.List.{length-map}
+use Rattle.std.specs.Io.KnownBytes.{Appends}
+use Rattle.std.specs.Prelude.{◌⊎◌}
+use Rattle.packet_view.specs.Captures.{PacketFacts, packet_at, packets_at}
+use Rattle.packet_view.specs.declared.capture.Order.{Order}
+use Rattle.acl_policy.specs.Policies.{PolicyFacts}
+use Rattle.session_state.specs.declared.verdict.Verdict.{Verdict}
+use Rattle.racl_io.specs.declared.fault.Fault.{Fault}
+use Rattle.racl_io.specs.declared.fault.Fault.TheVariants as fault
+use Rattle.racl_io.specs.declared.totals_and_truncation.Totals.{Totals}
+use Rattle.racl_io.specs.Reports.{totals_of}
+use Rattle.racl_io.specs.Sinks.{GotFront}
+use Rattle.racl_io.specs.Tellings.{IsTellingFault, Wording, lines_in, report_in, told_alone}
+use Rattle.racl_io.proofs.TellingLemmas.{front_on}
+use Rattle.racl_options.specs.declared.settings.Options.{Options}
+use Rattle.capture_stream.specs.Lives.{HasJudgedAll, HasToldSome, IsLiveFault}
+use Rattle.racl_cli.specs.LiveRuns.{ByOneWorker, HasCutReport, IsReportBehind, IsToldBehind}
+
+module _ {J : Type 0} {Judged : J → List PacketFacts → List Verdict → Type 0} {begun : J} (options : Options) (text : List ℕ) (wording : Wording) (policy : PolicyFacts)
+    (order : Order) (before after old mid : Option (List ℕ)) (totals : Totals) (all : HasJudgedAll Judged begun order before after totals)
+    (by : ByOneWorker options policy (packets_at 0 all.packets) all.verdicts) (wrote : Appends old mid (lines_in wording 1 (packets_at 0 all.packets) all.verdicts)) where
+  abbrev lines : List ℕ
+  lines = lines_in wording 1 (packets_at 0 all.packets) all.verdicts
+
+  abbrev judged : HasJudgedAll (ByOneWorker options) policy order before after totals
+  judged = record {
+    read = all.read;
+    consumed = all.consumed;
+    ended = all.ended;
+    packets = all.packets;
+    rest = all.rest;
+    records = all.records;
+    truncated = all.truncated;
+    end = all.end;
+    verdicts = all.verdicts;
+    judged = by;
+    count = all.count;
+    counted = all.counted;
+  }
+
+  -- of all packets their lines were written, and no more
+  some_told : (new : Option (List ℕ)) → new ≡ mid → HasToldSome (ByOneWorker options) wording policy order before after old new all.rest
+  some_told new same = record {
+    read = all.read;
+    consumed = all.consumed;
+    packets = all.packets;
+    records = all.records;
+    verdicts = all.verdicts;
+    judged = λ some. by;
+    count = all.count;
+    text = subst (λ b. Appends old b lines) (sym same) wrote;
+  }
+
+  -- memory ran out
+  pub end_unwritten : IsLiveFault (ByOneWorker options) wording policy order before after old mid fault.Memory
+  end_unwritten = (all.rest, some_told mid refl)
+
+  module _ (behind : List ℕ) (told : IsToldBehind options text policy (packets_at 0 all.packets) all.verdicts behind) where
+    abbrev report : List ℕ
+    report = report_in wording (packets_at 0 all.packets) all.verdicts all.truncated ++ behind
+
+    is_report : IsReportBehind options text wording policy order before after totals report
+    is_report = record { judged = judged; behind = behind; told = told; all = refl }
+
+    -- the lines, and what stands behind them
+    all_lines : lines ++ (wording.end totals ++ behind) ≡ report
+    all_lines =
+        let size = length-map all.packets (packet_at 0) in
+        sym (append_assoc lines (wording.end totals) behind)
+        ∙ ap (λ (t : Totals). (lines ++ wording.end t) ++ behind) (all.counted ∙ ap (λ n. totals_of all.verdicts (told_alone n all.truncated)) (sym size))
+
+    pub end_told : (new : Option (List ℕ)) (at : Wording) → at ≡ wording → Appends mid new (at.end totals ++ behind)
+        → (all : List ℕ) × IsReportBehind options text wording policy order before after totals all × Appends old new all
+    end_told new at same more = (
+      report,
+      is_report,
+      subst (λ (b : List ℕ). Appends old new b) all_lines
+          (Appends-trans old mid new lines (wording.end totals ++ behind) wrote
+          (subst (λ (w : Wording). Appends mid new (w.end totals ++ behind)) same more)),
+    )
+
+    fault_at_end : (new : Option (List ℕ)) (found : Fault) → IsTellingFault mid new (wording.end totals ++ behind) found
+        → IsLiveFault (ByOneWorker options) wording policy order before after old new found ⊎ HasCutReport options text wording policy order before after old new found
+    fault_at_end new fault.Memory same = inl (all.rest, some_told new same)
+    fault_at_end new fault.Write front = inr (record {
+      failed = refl;
+      totals = totals;
+      report = report;
+      is = is_report;
+      front = subst (λ (b : List ℕ). GotFront old new b) all_lines (front_on old mid new lines (wording.end totals ++ behind) wrote front);
+    })
+    fault_at_end new found wrong = absurd wrong
+
+    pub end_fault : (new : Option (List ℕ)) (found : Fault) (at : Wording) → at ≡ wording → IsTellingFault mid new (at.end totals ++ behind) found
+        → IsLiveFault (ByOneWorker options) wording policy order before after old new found ⊎ HasCutReport options text wording policy order before after old new found
+    end_fault new found at same why = fault_at_end new found (subst (λ (w : Wording). IsTellingFault mid new (w.end totals ++ behind) found) same why)
