@@ -1,3 +1,4 @@
+pub mod DiffLemmas
 pub mod DigitLemmas
 pub mod InputLaws
 pub mod LiveLemmas
