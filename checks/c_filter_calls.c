@@ -1,5 +1,5 @@
-// Calls each function of include/racl.h: judges that are split, met, joined, given policies, aged and renewed, texts that are
-// checked, and four threads that judge one flow at once. Whenever a call was refused memory, what was there is looked at: nothing may be lost. The call is
+// Calls each function of include/racl.h: judges that are split, met, joined, given policies, aged, renewed and closed, frames that are
+// counted by rule, texts that are checked, and four threads that judge one flow at once. Whenever a call was refused memory, what was there is looked at: nothing may be lost. The call is
 // made once more then. Each refusal is written in a line with the call's name. Ends with 0 where all was done, with 4 where a
 // call was refused twice, and with 1 where anything is wrong. ./c_filter_calls [ROUNDS [large]]
 #include "racl.h"
@@ -179,6 +179,76 @@ static void see_pages(racl_handle *handle, int is_large) {
     expect(racl_unused_ipv6(handle) == pages, "pages of IPv6", (unsigned long)racl_unused_ipv6(handle));
 }
 
+/* A frame of UDP over IPv6 from port 4000 of 2001:db8::2 to port 53 of 2001:db8::1 (RFC 8200). */
+static racl_answer judge_ipv6(racl_handle *handle, uint32_t second) {
+    uint8_t frame[62] = {2, 0, 0, 0, 0, 2, 2, 0, 0, 0, 0, 1, 0x86, 0xdd, 0x60, 0, 0, 0, 0, 8, 17, 64};
+    uint8_t *addresses = frame + 22, *ports = frame + 54;
+    for (int end = 0; end < 2; end++)
+        addresses[16 * end] = 0x20, addresses[16 * end + 1] = 1, addresses[16 * end + 2] = 0x0d, addresses[16 * end + 3] = 0xb8;
+    addresses[15] = 2, addresses[31] = 1;
+    ports[0] = 4000 >> 8, ports[1] = (uint8_t)4000, ports[3] = 53, ports[5] = 8;
+    return racl_judge_wait(handle, 0, second, frame, sizeof frame);
+}
+
+/* The tables are closed one by one, and have no sessions then. Whether a call was refused twice. */
+static int close_tables(racl_handle *handle) {
+    racl_sessions four = {0}, six = {0};
+    racl_session it;
+    uint32_t answer;
+    int refused;
+    expect(judge(handle, 1, 4000, 5000).kind == RACL_REFLECT && judge(handle, 0, 4000, 5007).kind == RACL_SESSION, "a session to close", 4);
+    expect(judge_ipv6(handle, 5001).kind == RACL_REFLECT, "a session to close", 6);
+    for (refused = 0; is_refused("close", answer = racl_close_ipv4(handle, &four), &refused);) {
+        expect(!four.at && judge(handle, 0, 4000, 5007).kind == RACL_SESSION, "a refused close", 4);
+        if (refused == 2) return 1;
+    }
+    expect(answer == RACL_DONE && racl_session_count(&four) == 1, "sessions of IPv4", answer);
+    expect(racl_session_at(&four, 0, &it) == 1 && it.family == 4 && it.protocol == 17 && it.interface == 0, "a session of IPv4", it.family);
+    expect(it.last == 5007 && it.until == 5607, "the seconds of a session", it.last);
+    static const uint8_t host[16] = {10, 0, 0, 1}, server[16] = {10, 0, 0, 2};
+    expect(!memcmp(it.first.address, host, 16) && it.first.port == 4000 && !it.first.flags, "the first end", it.first.port);
+    expect(!memcmp(it.second.address, server, 16) && it.second.port == 53 && !it.second.flags, "the second end", it.second.port);
+    it.last = 7;
+    expect(racl_session_at(&four, 1, &it) == 0 && it.last == 7, "a session behind the last", it.last);
+    racl_free_sessions(&four);
+    expect(!four.at && judge(handle, 0, 4000, 5007).kind == RACL_BY_DEFAULT, "a session of a closed table", 4);
+    expect(judge_ipv6(handle, 5002).kind == RACL_SESSION, "a session of the other table", 6);
+    for (refused = 0; is_refused("close", answer = racl_close_ipv6(handle, &six), &refused);) {
+        expect(!six.at && judge_ipv6(handle, 5002).kind == RACL_SESSION, "a refused close", 6);
+        if (refused == 2) return 1;
+    }
+    expect(answer == RACL_DONE && racl_session_count(&six) == 1, "sessions of IPv6", answer);
+    expect(racl_session_at(&six, 0, &it) == 1 && it.family == 6 && it.last == 5002, "a session of IPv6", it.family);
+    static const uint8_t lesser[16] = {0x20, 1, 0x0d, 0xb8, [15] = 1}, greater[16] = {0x20, 1, 0x0d, 0xb8, [15] = 2};
+    expect(!memcmp(it.first.address, lesser, 16) && it.first.port == 53, "the lesser end", it.first.port);
+    expect(!memcmp(it.second.address, greater, 16) && it.second.port == 4000, "the greater end", it.second.port);
+    racl_free_sessions(&six);
+    return 0;
+}
+
+/* Frames are counted by rule. Whether a call was refused twice. */
+static int count_rules(void) {
+    racl_rule_counts counts = {0};
+    racl_made made;
+    for (int refused = 0; is_refused("rule_counts_new", (made = racl_rule_counts_new(&counts, outward, sizeof OUTWARD - 1)).kind, &refused);) {
+        expect(!counts.at, "refused counts leave a handle", 0);
+        if (refused == 2) return 1;
+    }
+    expect(made.kind == RACL_DONE, "rule_counts_new", made.kind);
+    for (int i = 0; i < 3; i++) racl_count_rule(&counts, 0, RACL_OUTBOUND, 2);
+    racl_count_rule(&counts, 0, RACL_INBOUND, 0), racl_count_rule(&counts, 0, RACL_NO_DIRECTION, 1);
+    racl_count_rule(&counts, 0, RACL_OUTBOUND, 3), racl_count_rule(&counts, 9, RACL_INBOUND, 0);
+    expect(racl_rule_count(&counts, 0, RACL_OUTBOUND, 2) == 3, "the count of a rule", 2);
+    expect(racl_rule_count(&counts, 0, RACL_OUTBOUND, 1) == 0, "the count of another rule", 1);
+    expect(racl_rule_count(&counts, 0, RACL_OUTBOUND, 3) == 0, "the count of no rule", 3);
+    expect(racl_rule_count(&counts, 0, RACL_INBOUND, 0) == 1 && racl_rule_count(&counts, 9, RACL_INBOUND, 0) == 1, "the count by default", 0);
+    racl_free_rule_counts(&counts);
+    made = racl_rule_counts_new(&counts, (const uint8_t *)WRONG, sizeof WRONG - 1);
+    expect((made.kind == RACL_BAD_LINE && made.line == 3) || made.kind == RACL_MEMORY, "counts of a wrong policy", made.kind);
+    expect(!counts.at, "counts are left", 0);
+    return 0;
+}
+
 /* Judges that meet, and neither is alone. */
 static void meet(racl_handle *handle, racl_handle *other) {
     expect(!racl_is_lone(handle) && !racl_is_lone(other), "a judge of two is alone", 2);
@@ -212,6 +282,10 @@ int main(int count, char **given) {
     expect(answer == RACL_DONE, "split", answer);
     look(&second);
     expect(racl_renew_ipv4(&first) == RACL_STRANGERS, "renew with a stranger", 0);
+    racl_sessions sessions = {0};
+    for (refused = 0; is_refused("close", answer = racl_close_ipv4(&first, &sessions), &refused);)
+        if (refused == 2) return racl_free(&second), racl_free(&first), 4;
+    expect(answer == RACL_STRANGERS && !sessions.at, "close with a stranger", answer);
     meet(&first, &second);
     for (refused = 0; is_refused("set_policy", (made = racl_set_policy(&second, (const uint8_t *)CLOSED, sizeof CLOSED - 1)).kind, &refused);) {
         expect(judge(&second, 0, 9, 10).kind == RACL_BY_DEFAULT, "a refused policy", 0);
@@ -250,6 +324,7 @@ int main(int count, char **given) {
     see_pages(&first, count > 2);
     if (read_texts()) return racl_free(&first), 4;
     age(&first, count > 2 ? RACL_LARGE_BUCKETS : RACL_IPV4_BUCKETS);
+    if (close_tables(&first) || count_rules()) return racl_free(&first), 4;
     options.udp = 0;
     expect(racl_new(&other, outward, sizeof OUTWARD - 1, &options).kind == RACL_BAD_OPTIONS && !other.at, "a timeout of 0", 0);
     options.udp = 600, options.size--;

@@ -29,14 +29,16 @@
      itself: two threads never give one handle to calls at the same time. One that goes to another thread goes by the start or
      the end of a thread, a lock, or a sequentially consistent atomic.
    - A handle that is given has a judge: it was made by racl_new or racl_split, which may find there anything at all, and has
-     not been joined or freed since; where the one that made it was refused, it has none. A call
+     not been joined or freed since; where the one that made it was refused, it has none. So sessions that are given were
+     left there by a close, and counts by rule by racl_rule_counts_new. A call
      that takes two handles is given two different ones; racl_join and racl_meet, two over the same tables.
    - Pointers are never null, those to a frame, a text or a buffer of 0 bytes included, and what they point to is there in its whole
      length; no other thread changes it during the call.
    - malloc, realloc and free are those of one allocator, and no call is made from a signal handler or in the forked child of a
      process with threads.
    No call keeps a pointer that it was given, waits for another thread, or makes one. Only racl_new, racl_set_policy, racl_split,
-   racl_check, racl_line_of and the renewals ask for memory; judging does not. Where memory is refused nothing is lost. */
+   racl_check, racl_line_of, racl_rule_counts_new, the renewals and the closes ask for memory; judging does not. Where memory is
+   refused nothing is lost. */
 #ifndef RACL_H
 #define RACL_H
 
@@ -57,6 +59,15 @@ typedef struct racl_handle {
 
 /* A handle with nothing behind it, as join and free leave it. */
 #define RACL_NO_HANDLE {0}
+
+/* The sessions that a closed table had, and counts by rule, each behind a handle of its own in the same way. */
+typedef struct racl_sessions {
+  void *at;
+} racl_sessions;
+
+typedef struct racl_rule_counts {
+  void *at;
+} racl_rule_counts;
 
 enum racl_kind {
   /* Of calls on judges */
@@ -154,6 +165,27 @@ typedef struct racl_swept {
   uint64_t went;
 } racl_swept;
 
+/* An end of a flow: its address as its bytes stand in packets, of IPv4 the first 4 and then zeros; its port, and 0 where the protocol
+   has none; and the flags that are kept of it, of TCP. */
+typedef struct racl_end {
+  uint8_t address[16];
+  uint16_t port;
+  uint8_t flags;
+} racl_end;
+
+/* A session: the last second in which it is live, by the timeouts of the judge that closed its table, the latest second of its
+   frames, and its flow, whose ends stand in the order of its key: of TCP and UDP the lesser one first, of an echo the one that
+   asks. */
+typedef struct racl_session {
+  uint64_t until;
+  uint32_t last;
+  uint8_t interface;
+  uint8_t family; /* 4 or 6 */
+  uint8_t protocol;
+  racl_end first;
+  racl_end second;
+} racl_session;
+
 /* How many frames a judge gave each verdict, those of judges that were joined into it too. RACL_CONTENDED isn't counted. */
 typedef struct racl_count {
   uint64_t session;
@@ -234,6 +266,23 @@ racl_flow racl_flow_of(uint8_t interface, const uint8_t *frame, size_t length);
 /* How many frames the judge gave each verdict. */
 void racl_counts(racl_handle *handle, racl_count *counts);
 
+/* ---- Counts by rule: those of the section that a frame's interface has, by the numbers that answers have. Who counts while
+   several threads judge gives each thread counts of its own ---- */
+
+/* Counts of no frame at `counts` for the rules of this policy, in the way of racl_new. DONE, or MEMORY, NOT_UTF8, BAD_LINE or
+   TOO_MANY, which leave `counts` as it was. */
+racl_made racl_rule_counts_new(racl_rule_counts *counts, const uint8_t *text, size_t length);
+
+/* Counts a frame of this interface that was answered with this direction and this rule. Where the rule is 0 it counts among those
+   of the direction that no rule decided. One without a direction, or with a rule that the policy doesn't have, isn't counted. */
+void racl_count_rule(racl_rule_counts *counts, uint8_t interface, uint32_t direction, uint32_t rule);
+
+/* How many frames of this interface and direction were counted for this rule, and 0 where there is no such rule. */
+uint64_t racl_rule_count(racl_rule_counts *counts, uint8_t interface, uint32_t direction, uint32_t rule);
+
+/* Lets go of counts, and leaves nothing behind their handle. */
+void racl_free_rule_counts(racl_rule_counts *counts);
+
 /* ---- Sessions that have ended hold their places until another takes them, or someone looks at their buckets, of which
    tables have so many. Any judge may, at any time, by a second behind which no judge falls: a
    session that went lets no late frame through. A frame, too, takes away its flow's session that has ended. Threads that sweep
@@ -268,6 +317,22 @@ uint64_t racl_unused_ipv6(racl_handle *handle);
    before. DONE, or STRANGERS or MEMORY. It asks for three times the table's memory. */
 uint32_t racl_renew_ipv4(racl_handle *handle);
 uint32_t racl_renew_ipv6(racl_handle *handle);
+
+/* Closes the table of a family: its sessions are at `sessions`, in the way of racl_new, and the judge goes on over a new table
+   without any. Each other judge over the tables was joined before. DONE, or STRANGERS or MEMORY, which leave the table and
+   `sessions` as they were. It asks for the table's memory twice more, and for that of its sessions. */
+uint32_t racl_close_ipv4(racl_handle *handle, racl_sessions *sessions);
+uint32_t racl_close_ipv6(racl_handle *handle, racl_sessions *sessions);
+
+/* How many sessions there are. */
+uint64_t racl_session_count(racl_sessions *sessions);
+
+/* The session at a place, counted from 0, in the order of their keys, which is that of `racl --sessions`: 1, or 0 behind the
+   last, and then nothing is written. Sessions that have ended and hold their places are there too. */
+uint32_t racl_session_at(racl_sessions *sessions, uint64_t at, racl_session *session);
+
+/* Lets go of sessions, and leaves nothing behind their handle. */
+void racl_free_sessions(racl_sessions *sessions);
 
 /* ---- Tries until one is answered ---- */
 

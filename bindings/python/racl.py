@@ -10,7 +10,10 @@ from __future__ import annotations
 
 import ctypes
 import enum
+import ipaddress
+import itertools
 import os
+from collections.abc import Iterator
 from dataclasses import dataclass
 from typing import SupportsBytes
 
@@ -49,6 +52,27 @@ class Answer:
     direction: Direction
 
 
+@dataclass(frozen=True)
+class End:
+    """An end of a flow. Without ports its port is 0; the flags that are kept are of TCP."""
+
+    address: ipaddress.IPv4Address | ipaddress.IPv6Address
+    port: int
+    flags: int
+
+
+@dataclass(frozen=True)
+class Session:
+    """A session: its flow, the latest second of its frames, and the last one in which it is live."""
+
+    interface: int
+    protocol: int
+    first: End
+    second: End
+    last: int
+    until: int
+
+
 class PolicyFault(ValueError):
     """A policy's first fault. Its line counts from 1, and is 0 where no line is meant; the message is what `racl check` tells."""
 
@@ -82,6 +106,15 @@ class _Counts(ctypes.Structure):
                                                      "no_pages", "not_ip", "malformed", "cut_short")]
 
 
+class _End(ctypes.Structure):
+    _fields_ = [("address", ctypes.c_uint8 * 16), ("port", ctypes.c_uint16), ("flags", ctypes.c_uint8)]
+
+
+class _Session(ctypes.Structure):
+    _fields_ = [("until", ctypes.c_uint64), ("last", ctypes.c_uint32), ("interface", ctypes.c_uint8), ("family", ctypes.c_uint8),
+                ("protocol", ctypes.c_uint8), ("first", _End), ("second", _End)]
+
+
 _CONTENDED = 7
 _FAULTS = {2, 3, 4}
 _TEXT = [ctypes.c_char_p, ctypes.c_size_t]
@@ -100,6 +133,14 @@ def _library() -> ctypes.CDLL:
         "racl_free": (None, [handle]),
         "racl_check": (_Checked, [*_TEXT, *_TEXT]),
         "racl_line_of": (_Made, [*_TEXT, ctypes.c_uint8, ctypes.c_uint32, ctypes.c_uint32]),
+        "racl_close_ipv4": (ctypes.c_uint32, [handle, handle]),
+        "racl_close_ipv6": (ctypes.c_uint32, [handle, handle]),
+        "racl_session_at": (ctypes.c_uint32, [handle, ctypes.c_uint64, ctypes.POINTER(_Session)]),
+        "racl_free_sessions": (None, [handle]),
+        "racl_rule_counts_new": (_Made, [handle, *_TEXT]),
+        "racl_count_rule": (None, [handle, ctypes.c_uint8, ctypes.c_uint32, ctypes.c_uint32]),
+        "racl_rule_count": (ctypes.c_uint64, [handle, ctypes.c_uint8, ctypes.c_uint32, ctypes.c_uint32]),
+        "racl_free_rule_counts": (None, [handle]),
     }
     for name, (result, given) in calls.items():
         call = getattr(library, name)
@@ -123,6 +164,11 @@ def _bytes_of(policy: str | bytes) -> bytes:
     return policy.encode() if isinstance(policy, str) else policy
 
 
+def _end_of(told: _End, family: int) -> End:
+    address = bytes(told.address)
+    return End(ipaddress.ip_address(address[:4] if family == 4 else address), told.port, told.flags)
+
+
 def check(policy: str | bytes) -> str:
     """The lines that `racl check` tells of a policy: what is wrong, or else what is unlikely to be meant."""
     text, lines = _bytes_of(policy), ctypes.create_string_buffer(0)
@@ -141,6 +187,27 @@ def line_of(policy: str | bytes, answer: Answer, *, interface: int = 0) -> int:
     made = _LIBRARY.racl_line_of(text, len(text), interface, answer.direction, answer.rule)
     _done(made, text)
     return made.line
+
+
+class RuleCounts:
+    """How many frames each rule of a policy decided, by interface, direction and number."""
+
+    def __init__(self, policy: str | bytes):
+        self._handle = _Handle()
+        text = _bytes_of(policy)
+        _done(_LIBRARY.racl_rule_counts_new(self._handle, text, len(text)), text)
+
+    def count(self, answer: Answer, *, interface: int = 0) -> None:
+        """Counts a frame of this interface by its answer; one that no rule decided as one of rule 0."""
+        _LIBRARY.racl_count_rule(self._handle, interface, answer.direction, answer.rule)
+
+    def of(self, direction: Direction, rule: int, *, interface: int = 0) -> int:
+        """How many frames the rule decided."""
+        return _LIBRARY.racl_rule_count(self._handle, interface, direction, rule)
+
+    def __del__(self) -> None:
+        if getattr(self, "_handle", None) and self._handle.at:
+            _LIBRARY.racl_free_rule_counts(self._handle)
 
 
 class Judge:
@@ -172,6 +239,23 @@ class Judge:
         counts = _Counts()
         _LIBRARY.racl_counts(self._handle, counts)
         return {name: getattr(counts, name) for name, _ in _Counts._fields_}
+
+    def close(self) -> list[Session]:
+        """The sessions, those of IPv4 first, each family's in the order of `racl --sessions`. The judge goes on without any."""
+        return [it for family in (4, 6) for it in self._closed(family)]
+
+    def _closed(self, family: int) -> Iterator[Session]:
+        sessions, told = _Handle(), _Session()
+        if getattr(_LIBRARY, f"racl_close_ipv{family}")(self._handle, sessions):
+            raise MemoryError
+        try:
+            for place in itertools.count():
+                if not _LIBRARY.racl_session_at(sessions, place, told):
+                    return
+                first, second = (_end_of(it, told.family) for it in (told.first, told.second))
+                yield Session(told.interface, told.protocol, first, second, told.last, told.until)
+        finally:
+            _LIBRARY.racl_free_sessions(sessions)
 
     def __del__(self) -> None:
         if getattr(self, "_handle", None) and self._handle.at:

@@ -1,8 +1,9 @@
 """What a policy lets through, as unit tests: python3 -m unittest in this folder, or pytest."""
+import ipaddress
 import struct
 import unittest
 
-from racl import Direction, Judge, PolicyFault, Verdict, check, line_of
+from racl import Direction, End, Judge, PolicyFault, RuleCounts, Session, Verdict, check, line_of
 
 POLICY = """\
 mac 02:00:00:00:00:01
@@ -56,6 +57,15 @@ class PolicyTest(unittest.TestCase):
         self.assertEqual(self.judge.judge(frame(False, UDP, 53, 4000), time=11).verdict, Verdict.SESSION)
         self.assertEqual(self.judge.judge(frame(False, UDP, 53, 4001), time=11).verdict, Verdict.DENY)
         self.assertEqual(self.judge.counts()["session"], 1)
+
+    def test_sessions_and_rules_are_told(self):
+        counts = RuleCounts(POLICY)
+        for told in (frame(True, UDP, 4000, 53), frame(False, UDP, 53, 4000), frame(False, TCP, 4000, 22)):
+            counts.count(self.judge.judge(told, time=10))
+        self.assertEqual([counts.of(it, 1) for it in (Direction.OUTBOUND, Direction.INBOUND)], [1, 1])
+        host, server = (End(ipaddress.ip_address(it), port, 0) for it, port in ((HOST, 4000), (SERVER, 53)))
+        self.assertEqual(self.judge.close(), [Session(0, UDP, host, server, 10, 40)])
+        self.assertEqual(self.judge.close(), [])
 
     def test_the_line_of_a_fault_is_told(self):
         with self.assertRaises(PolicyFault) as told:

@@ -80,10 +80,11 @@ class Row:
     """A row's name, its lines by their heads, and its packets with their verdicts."""
 
     def __init__(self, file, paragraph):
-        self.lines, self.packets = {}, []
+        self.lines, self.packets, self.packet_lines = {}, [], []
         for line in paragraph.split("\n"):
             if line[0].isdigit():
                 self.packets += packets_of(line)
+                self.packet_lines.append(line)
             elif line[0] != "#":
                 head, text = re.fullmatch(r"(row|words|file|policy|each|input|capture|report|fault|told):(?: (.*))?", line).groups()
                 self.lines.setdefault(head, []).append(text or "")

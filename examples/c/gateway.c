@@ -1,13 +1,14 @@
 /* Judges captures by a policy, as `racl` does, in as many threads as are asked for, and writes the same report:
 
-   ./gateway [-t THREADS] [-b FRAMES] [-l] [-q] POLICY [N=]CAPTURE..
+   ./gateway [-t THREADS] [-b FRAMES] [-l] [-q] [-s] POLICY [N=]CAPTURE..
 
    N is the interface where a capture was taken, 0 where none is named. Captures are pcap files of Ethernet frames. A thread
    is dealt whole flows, and hands over -b frames a call (32). -l: large tables. -q writes the last line of the report, and to
-   standard error how long a frame took.
+   standard error how long a frame took. -s writes what `racl --hits --sessions` does behind the report.
 
    cc -O2 -Iinclude -o gateway examples/c/gateway.c crates/racl_c/out/libracl_c.a KIT/c/liblibc_c.a -lpthread */
 #include "racl.h"
+#include <arpa/inet.h>
 #include <pthread.h>
 #include <stdio.h>
 #include <stdlib.h>
@@ -26,7 +27,7 @@ static racl_answer *answers;
 static size_t frame_count, frame_room;
 
 static uint32_t threads = 1, burst = 32;
-static int is_large, is_quiet;
+static int is_large, is_quiet, tells_sessions;
 
 /* A capture, whose frames end behind `end`. `interface` is -1 where none was named. */
 struct capture {
@@ -138,12 +139,98 @@ static void write_report(const struct capture *captures, int count) {
     printf("packets %zu pass %zu drop %zu\n", frame_count, passed, frame_count - passed);
 }
 
+/* A rule of the policy, with the line in which it stands. */
+struct rule {
+    uint64_t line;
+    uint32_t interface, direction, number;
+};
+
+static int by_line(const void *one, const void *other) {
+    uint64_t a = ((const struct rule *)one)->line, b = ((const struct rule *)other)->line;
+    return (a > b) - (a < b);
+}
+
+/* How many packets each rule decided, in the order of the policy's lines. */
+static void write_rules(const uint8_t *text, size_t length, racl_rule_counts *counts) {
+    struct rule *rules = NULL;
+    size_t count = 0, room = 0;
+    for (uint32_t at = 0; at < 512; at++) {
+        for (struct rule it = {1, at / 2, at % 2 + 1, 1};; it.number++) {
+            racl_made made = racl_line_of(text, length, (uint8_t)it.interface, it.direction, it.number);
+            if (made.kind != RACL_DONE) fail("no memory", "gateway");
+            if (!made.line) break;
+            rules = grown(rules, count, &room, sizeof *rules);
+            rules[count] = it, rules[count++].line = made.line;
+        }
+    }
+    if (count > 0) qsort(rules, count, sizeof *rules, by_line);
+    for (const struct rule *it = rules; it < rules + count; it++)
+        printf("interface %u %s rule %u line %llu packets %llu\n", it->interface, it->direction == RACL_INBOUND ? "in" : "out",
+               it->number, (unsigned long long)it->line,
+               (unsigned long long)racl_rule_count(counts, (uint8_t)it->interface, it->direction, it->number));
+    free(rules);
+}
+
+static void write_end(const racl_session *session, const racl_end *end) {
+    char address[INET6_ADDRSTRLEN];
+    inet_ntop(session->family == 4 ? AF_INET : AF_INET6, end->address, address, sizeof address);
+    printf(" %s", address);
+    if (session->protocol == 6 || session->protocol == 17) printf(" port %u", end->port);
+    if (session->protocol == 6) printf(" flags %02x", end->flags);
+}
+
+static uint64_t count_live(racl_sessions *sessions, uint32_t second) {
+    uint64_t live = 0;
+    racl_session it;
+    for (uint64_t at = 0; racl_session_at(sessions, at, &it); at++) live += second <= it.until;
+    return live;
+}
+
+static void write_sessions(racl_sessions *sessions) {
+    racl_session it;
+    for (uint64_t at = 0; racl_session_at(sessions, at, &it); at++) {
+        printf("session interface %u %s", it.interface, it.protocol == 6 ? "tcp" : it.protocol == 17 ? "udp" : "icmp");
+        write_end(&it, &it.first);
+        printf(" and");
+        write_end(&it, &it.second);
+        printf(" last %u until %llu\n", it.last, (unsigned long long)it.until);
+    }
+}
+
+/* What the judge's rules decided and its tables hold, which are closed. */
+static void tell_sessions(racl_handle *judge, const uint8_t *text, size_t length) {
+    racl_rule_counts counts;
+    racl_sessions four, six;
+    racl_count told;
+    uint32_t latest = 0;
+    if (racl_rule_counts_new(&counts, text, length).kind || racl_close_ipv4(judge, &four) || racl_close_ipv6(judge, &six))
+        fail("no memory", "gateway");
+    for (size_t i = 0; i < frame_count; i++) {
+        racl_count_rule(&counts, frames[i].interface, answers[i].direction, answers[i].rule);
+        if (frames[i].second > latest) latest = frames[i].second;
+    }
+    write_rules(text, length, &counts);
+    racl_counts(judge, &told);
+    const struct {
+        const char *words;
+        uint64_t count;
+    } lines[] = {{"session packets", told.session}, {"default packets", told.by_default}, {"full packets", told.full},
+                 {"worn packets", told.worn}, {"no-pages packets", told.no_pages}, {"not-ip packets", told.not_ip},
+                 {"malformed packets", told.malformed}, {"short packets", told.cut_short},
+                 {"sessions entered", told.reflect}, {"sessions matched", told.session},
+                 {"sessions expired", told.reflect - count_live(&four, latest) - count_live(&six, latest)}};
+    for (size_t i = 0; i < sizeof lines / sizeof *lines; i++) printf("%s %llu\n", lines[i].words, (unsigned long long)lines[i].count);
+    write_sessions(&four), write_sessions(&six);
+    racl_free_rule_counts(&counts), racl_free_sessions(&four), racl_free_sessions(&six);
+}
+
 /* The words before the policy's name; where that stands. */
 static int read_words(int count, char **words) {
     int at = 1;
     for (; at < count && words[at][0] == '-'; at++) {
         if (!strcmp(words[at], "-l")) is_large = 1;
         else if (!strcmp(words[at], "-q")) is_quiet = 1;
+        else if (!strcmp(words[at], "-s")) tells_sessions = 1;
         else if (!strcmp(words[at], "-t") && at + 1 < count) threads = (uint32_t)atoi(words[++at]);
         else if (!strcmp(words[at], "-b") && at + 1 < count) burst = (uint32_t)atoi(words[++at]);
     }
@@ -151,9 +238,7 @@ static int read_words(int count, char **words) {
     return is_right ? at : 0;
 }
 
-static void make_judges(struct worker *workers, const char *name) {
-    size_t begin = area_length;
-    read_file(name);
+static void make_judges(struct worker *workers, const char *name, size_t begin) {
     racl_options options = RACL_OPTIONS;
     if (is_large) options.tables = RACL_LARGE;
     racl_made made = racl_new(&workers[0].judge, area + begin, area_length - begin, &options);
@@ -179,7 +264,10 @@ int main(int count, char **given) {
         int is_named = end != name && *end == '=' && number >= 0 && number < 256;
         captures[i] = read_capture(is_named ? end + 1 : name, is_named ? (int)number : -1);
     }
-    make_judges(workers, given[at]);
+    size_t text = area_length;
+    read_file(given[at]);
+    size_t text_length = area_length - text;
+    make_judges(workers, given[at], text);
     owners = calloc(frame_count + 1, sizeof *owners);
     answers = calloc(frame_count + 1, sizeof *answers);
     if (!owners || !answers) fail("no memory", "gateway");
@@ -199,9 +287,10 @@ int main(int count, char **given) {
         racl_join(&workers[0].judge, &workers[i].judge);
     }
     timespec_get(&end, TIME_UTC);
-    racl_free(&workers[0].judge);
 
     write_report(captures, capture_count);
+    if (tells_sessions) tell_sessions(&workers[0].judge, area + text, text_length);
+    racl_free(&workers[0].judge);
     double ns = (double)(end.tv_sec - begin.tv_sec) * 1e9 + (double)(end.tv_nsec - begin.tv_nsec);
     if (is_quiet) fprintf(stderr, "%.1f ns a frame\n", ns / (double)(frame_count ? frame_count : 1));
     free(area), free(frames), free(owners), free(answers);

@@ -4,14 +4,16 @@
 
 ghost use Rattle.std.specs.Prelude.{◌<◌, ◌-◌, ◌^◌};
 
+mod ask;
+
 use racl_cli::{DiffFault, PolicyTexts, run, run_diff, run_live, run_saving};
 use racl_io::{Device, Fault, FrontKept, Joined, Source};
 use racl_options::{Asked, DiffFiles, Files, Options, Origin, diff_options};
 use racl_system::{
     DiffInput, LiveFiles, LiveInput, Output, Parts, Ran, Watched, asked_or_status, diff_or_status,
-    failure_status, opened_diff, opened_input, opened_live, saves_to, say_capture_fault,
-    say_end_of_live, say_end_of_run, say_policy_fault, say_unsaved, say_used_twice, settled,
-    texts_of, words_of,
+    expansion_status, failure_status, opened_diff, opened_input, opened_live, saves_to,
+    say_capture_fault, say_end_of_live, say_end_of_run, say_policy_fault, say_unsaved,
+    say_used_twice, settled, texts_of, words_of,
 };
 use std::alloc::Global;
 use std::io;
@@ -37,6 +39,14 @@ fn status_of_main<T: Threads + Wait + Sync>(
 ) -> io::Result<u8> {
     let words = words_of(rt, alloc)?;
     let texts = texts_of(alloc, words.as_slice())?;
+    if let Some(status) = expansion_status(rt, alloc, texts.as_slice())? {
+        return Ok(status);
+    }
+    match ask::answered(rt, threads, alloc, texts.as_slice()) {
+        Ok(None) => {}
+        Ok(Some(status)) => return Ok(status),
+        Err(error) => return Err(error),
+    }
     match diff_or_status(rt, alloc, texts.as_slice())? {
         Ok(Some(files)) => return status_of_diff(rt, threads, alloc, &files),
         Ok(None) => {}
@@ -112,6 +122,7 @@ fn run_main_program<T: Threads + Wait + Sync, R: Source + Send>(
     Ok(Some(Ran {
         outcome,
         is_closed: writer.inner.is_closed,
+        reason: writer.inner.reason,
     }))
 }
 

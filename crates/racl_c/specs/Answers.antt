@@ -4,6 +4,8 @@ use Rattle.acl_policy.specs.declared.policy.PolicyFault.{PolicyFault}
 use Rattle.acl_policy.specs.declared.policy.PolicyFault.TheVariants as Faults
 use Rattle.bihash_steps.specs.declared.split_fault.SplitFault.{SplitFault}
 use Rattle.bihash_steps.specs.declared.split_fault.SplitFault.TheVariants as SplitFaults
+use Rattle.bihash_table.specs.declared.close_fault.CloseFault.{CloseFault}
+use Rattle.bihash_table.specs.declared.close_fault.CloseFault.TheVariants as CloseFaults
 use Rattle.bihash_table.specs.declared.contended.Contended.{Contended}
 use Rattle.bihash_table.specs.declared.renew_fault.RenewFault.{RenewFault}
 use Rattle.bihash_table.specs.declared.renew_fault.RenewFault.TheVariants as RenewFaults
@@ -75,3 +77,7 @@ split_number SplitFaults.Contended = 7
 abbrev pub renew_number : RenewFault → ℕ
 renew_number RenewFaults.Memory = 1
 renew_number RenewFaults.Strangers = 8
+
+abbrev pub close_number : CloseFault → ℕ
+close_number CloseFaults.Memory = 1
+close_number CloseFaults.Strangers = 8

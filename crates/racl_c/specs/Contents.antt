@@ -22,15 +22,15 @@ use Rattle.racl_c.specs.Options.{ChoiceTold}
 use Rattle.racl_c.specs.declared.answer_numbers.Answer.{Answer}
 use Rattle.racl_c.specs.declared.answer_numbers.Made.{Made}
 use Rattle.racl_c.specs.declared.content.Content.{Content}
-use Rattle.racl_c.specs.declared.content.Content.TheVariants.{Empty, Large, Standard}
+use Rattle.racl_c.specs.declared.content.Content.TheVariants.{Large, Standard}
 use Rattle.racl_c.specs.declared.options.Choice.{Choice}
 use Rattle.racl_c.specs.declared.options.Options.{Options}
 
 -- there is a judge
 abbrev pub HasJudge : Content → Type 0
-HasJudge Empty = ⊥
 HasJudge (Standard s) = Unit {0}
 HasJudge (Large s) = Unit {0}
+HasJudge x = ⊥
 
 -- there are two judges over the same tables
 abbrev pub AreOfOneTable : Content → Content → Type 0
@@ -89,9 +89,9 @@ RuleTold text made s t = ((made ≡ record { kind = 0; line = 0 }) × judges.IsR
 
 -- the judge goes by the policy and timeouts of the other one
 abbrev pub IsRuledAs : Content → JudgeState → JudgeState → Type 0
-IsRuledAs Empty s t = ⊥
 IsRuledAs (Standard other) s t = judges.IsRuledAs other s t
 IsRuledAs (Large other) s t = judges.IsRuledAs other s t
+IsRuledAs x s t = ⊥
 
 -- so it does, or it keeps its own, as too many have the other one's
 abbrev pub TakeTold : Content → ℕ → JudgeState → JudgeState → Type 0
@@ -129,6 +129,6 @@ pub record AgedTold {A B K L : Type 0} (ga : Ghosts A K) (gb : Ghosts B L) (fami
 
 -- these are the judge's counts
 abbrev pub CountsTold : Content → Counts → Type 0
-CountsTold Empty counts = ⊥
 CountsTold (Standard s) counts = counts ≡ s.counts
 CountsTold (Large s) counts = counts ≡ s.counts
+CountsTold x counts = ⊥

@@ -1,8 +1,11 @@
 pub mod Answers
 pub mod Bursts
+pub mod Closings
 pub mod Contents
 pub mod FlowHashes
 pub mod Handles
 pub mod Meetings
 pub mod Options
+pub mod RuleCounts
+pub mod Sessions
 pub mod Texts

@@ -9,7 +9,7 @@ use Rattle.flow_judge.specs.Sweeps.{TellsSwept}
 use Rattle.flow_judge.specs.declared.swept.Swept.{Swept}
 use Rattle.racl_c.specs.Answers.{one_if}
 use Rattle.racl_c.specs.declared.content.Content.{Content}
-use Rattle.racl_c.specs.declared.content.Content.TheVariants.{Empty, Large, Standard}
+use Rattle.racl_c.specs.declared.content.Content.TheVariants.{Large, Standard}
 use Rattle.racl_c.specs.declared.sweep_told.Sweep.{Sweep}
 
 -- both judges know of their tables what either knew
@@ -41,6 +41,6 @@ pub record SweepTold {A B K L : Type 0} (ga : Ghosts A K) (gb : Ghosts B L) (fam
 
 -- so many pages of a family's table were never handed out, of those that it has
 abbrev pub UnusedTold : (standard large : Layout) → Family → Content → ℕ → Type 0
-UnusedTold l m family Empty count = ⊥
 UnusedTold l m family (Standard s) count = count ≤ (sizes_in l family).pages
 UnusedTold l m family (Large s) count = count ≤ (sizes_in m family).pages
+UnusedTold l m family x count = ⊥

@@ -1,10 +1,10 @@
 //! What C is told: one number for each answer, with all that the answer carries.
 ghost use Rattle.std.specs.Prelude.{◌≡◌};
 ghost use Rattle.racl_c.specs.Answers;
-ghost use Rattle.racl_c.specs.Answers.{answer_of, ended_number, fault_told, renew_number, split_number, way_number};
+ghost use Rattle.racl_c.specs.Answers.{answer_of, close_number, ended_number, fault_told, renew_number, split_number, way_number};
 
 use acl_policy::PolicyFault;
-use bihash_table::{Contended, RenewFault, SplitFault};
+use bihash_table::{CloseFault, Contended, RenewFault, SplitFault};
 use bihash_words::Reply;
 use flow_judge::Judged;
 use packet_view::Direction;
@@ -219,5 +219,15 @@ pub fn renew_refusal(fault: RenewFault) -> u32
     match fault {
         RenewFault::Memory => MEMORY,
         RenewFault::Strangers => STRANGERS,
+    }
+}
+
+/// The number for a table that was not closed.
+pub fn close_refusal(fault: CloseFault) -> u32
+    ensures { result ≡ close_number fault }
+{
+    match fault {
+        CloseFault::Memory => MEMORY,
+        CloseFault::Strangers => STRANGERS,
     }
 }

@@ -1,6 +1,7 @@
 //! What is behind a handle.
+use crate::session_list::SessionList;
 use bihash_words::{ShapeV4, ShapeV6};
-use flow_judge::Judge;
+use flow_judge::{Judge, RuleCounts};
 use large_shapes::{LargeV4, LargeV6};
 
 /// What is behind a handle.
@@ -12,4 +13,8 @@ pub enum Content {
     Standard(Judge<ShapeV4, ShapeV6>),
     /// A judge over large tables.
     Large(Judge<LargeV4, LargeV6>),
+    /// The sessions of a table that was closed.
+    Sessions(SessionList),
+    /// Counts by rule.
+    Rules(RuleCounts),
 }

@@ -27,9 +27,9 @@ fn take_policy_of<A: Shape, B: Shape>(judge: &mut Judge<A, B>, other: &Content) 
     ensures { TakeTold other.now result judge.old judge.new }
 {
     let taken = match other {
-        Content::Empty => unreachable!(),
         Content::Standard(other) => judge.take_policy(other),
         Content::Large(other) => judge.take_policy(other),
+        _ => unreachable!(),
     };
     match taken {
         Ok(()) => DONE,
@@ -69,9 +69,9 @@ impl Content {
             (record { interface = interface; moment = moment; frame = frame.now }) result) }
     {
         match self {
-            Content::Empty => unreachable!(),
             Content::Standard(judge) => judged_answer(judge.judge(interface, moment, frame)),
             Content::Large(judge) => judged_answer(judge.judge(interface, moment, frame)),
+            _ => unreachable!(),
         }
     }
 
@@ -88,9 +88,9 @@ impl Content {
             (BurstTold ⟦<LargeV4 as Shape>⟧ ⟦<LargeV6 as Shape>⟧ memory.now descriptors.now answers.old answers.new result) }
     {
         match self {
-            Content::Empty => unreachable!(),
             Content::Standard(judge) => judge_burst(judge, memory, descriptors, answers),
             Content::Large(judge) => judge_burst(judge, memory, descriptors, answers),
+            _ => unreachable!(),
         }
     }
 
@@ -100,9 +100,9 @@ impl Content {
         ensures { Calls self.old self.new (RuleTold text.now result) (RuleTold text.now result) }
     {
         let set = match self {
-            Content::Empty => unreachable!(),
             Content::Standard(judge) => judge.set_policy(alloc, text),
             Content::Large(judge) => judge.set_policy(alloc, text),
+            _ => unreachable!(),
         };
         match set {
             Ok(()) => was_done(),
@@ -117,9 +117,9 @@ impl Content {
         ensures { Calls self.old self.new (TakeTold other.now result) (TakeTold other.now result) }
     {
         match self {
-            Content::Empty => unreachable!(),
             Content::Standard(judge) => take_policy_of(judge, other),
             Content::Large(judge) => take_policy_of(judge, other),
+            _ => unreachable!(),
         }
     }
 
@@ -129,9 +129,9 @@ impl Content {
         ensures { CountsTold self.now result }
     {
         match self {
-            Content::Empty => unreachable!(),
             Content::Standard(judge) => judge.counts(),
             Content::Large(judge) => judge.counts(),
+            _ => unreachable!(),
         }
     }
 
@@ -143,9 +143,9 @@ impl Content {
             (AgedTold ⟦<LargeV4 as Shape>⟧ ⟦<LargeV6 as Shape>⟧ family bucket moment result) }
     {
         match self {
-            Content::Empty => unreachable!(),
             Content::Standard(judge) => ended_answer(judge.expire(family, bucket, moment)),
             Content::Large(judge) => ended_answer(judge.expire(family, bucket, moment)),
+            _ => unreachable!(),
         }
     }
 
@@ -156,7 +156,6 @@ impl Content {
             (layout_of ⟦<LargeV4 as Shape>⟧ ⟦<LargeV6 as Shape>⟧) self.old self.new new.old new.new result }
     {
         match mem::replace(self, Content::Empty) {
-            Content::Empty => unreachable!(),
             Content::Standard(judge) => match judge.split(alloc) {
                 Ok((first, second)) => {
                     *self = Content::Standard(first);
@@ -179,6 +178,7 @@ impl Content {
                     split_refusal(fault)
                 }
             },
+            _ => unreachable!(),
         }
     }
 
@@ -189,7 +189,6 @@ impl Content {
             (layout_of ⟦<LargeV4 as Shape>⟧ ⟦<LargeV6 as Shape>⟧) self.old other self.new }
     {
         match mem::replace(self, Content::Empty) {
-            Content::Empty => unreachable!(),
             Content::Standard(judge) => {
                 let Content::Standard(other) = other else {
                     unreachable!();
@@ -202,6 +201,7 @@ impl Content {
                 };
                 *self = Content::Large(judge.join(other));
             }
+            _ => unreachable!(),
         }
     }
 
@@ -212,7 +212,6 @@ impl Content {
             (RenewTold ⟦<LargeV4 as Shape>⟧ ⟦<LargeV6 as Shape>⟧ family result) }
     {
         match mem::replace(self, Content::Empty) {
-            Content::Empty => unreachable!(),
             Content::Standard(judge) => match judge.renew(alloc, family) {
                 Ok(judge) => {
                     *self = Content::Standard(judge);
@@ -233,6 +232,7 @@ impl Content {
                     renew_refusal(fault)
                 }
             },
+            _ => unreachable!(),
         }
     }
 }

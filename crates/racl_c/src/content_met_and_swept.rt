@@ -36,7 +36,7 @@ impl Content {
                 *self = Content::Large(judge);
                 *other = Content::Large(met);
             }
-            Content::Empty => unreachable!(),
+            _ => unreachable!(),
         }
     }
 
@@ -49,7 +49,7 @@ impl Content {
         match self {
             Content::Standard(judge) => lone_answer(judge.is_lone()),
             Content::Large(judge) => lone_answer(judge.is_lone()),
-            Content::Empty => unreachable!(),
+            _ => unreachable!(),
         }
     }
 
@@ -63,7 +63,7 @@ impl Content {
         match self {
             Content::Standard(judge) => sweep_answer(judge.sweep(family, from, to, moment, most)),
             Content::Large(judge) => sweep_answer(judge.sweep(family, from, to, moment, most)),
-            Content::Empty => unreachable!(),
+            _ => unreachable!(),
         }
     }
 
@@ -76,7 +76,7 @@ impl Content {
         match self {
             Content::Standard(judge) => judge.unused_pages(family),
             Content::Large(judge) => judge.unused_pages(family),
-            Content::Empty => unreachable!(),
+            _ => unreachable!(),
         }
     }
 }

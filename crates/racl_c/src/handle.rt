@@ -76,3 +76,9 @@ impl Handle {
 }
 
 unsafe impl Send for Handle {}
+
+/// A handle of the sessions that a closed table had. C has a type of its own for it.
+pub type SessionsHandle = Handle;
+
+/// A handle of counts by rule, which has a type of its own in C too.
+pub type RuleCountsHandle = Handle;

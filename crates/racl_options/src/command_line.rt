@@ -70,6 +70,8 @@ const USAGE: &str = "racl [OPTIONS] POLICY CAPTURE
        racl [OPTIONS] --interface N=CAPTURE .. POLICY
        racl [OPTIONS] < INPUT
        racl check POLICY
+       racl expand FILE
+       racl ask [--explain] POLICY PACKET ..
        racl diff OLD NEW CAPTURE";
 
 // The help of the command line below the options. A function of its own, so that no proof of a caller has the text.
@@ -81,6 +83,8 @@ fn after_help() -> &'static str {
 
 Examples:
   racl check host.policy
+  racl expand rules > host.policy
+  racl ask host.policy 'in udp 203.0.113.5 53 192.0.2.10 40000'
   racl host.policy host.pcap
   racl --interface 1=eth1.pcap --interface 2=eth2.pcap router.policy
   racl --workers 4 --udp 60 < examples/first_path.racl

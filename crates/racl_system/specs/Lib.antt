@@ -1,4 +1,5 @@
 pub mod CheckStatuses
+pub mod Expands
 pub mod FaultyCaptures
 pub mod MarkedPolicies
 pub mod NamedFiles

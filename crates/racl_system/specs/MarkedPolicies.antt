@@ -1,17 +1,28 @@
--- Files of policies with a marker line (this project's profile).
-use Rattle.std.specs.Prelude.{◌≡◌, ◌⊎◌, ℕ, List}
+-- Files of policies that are refused before a run: too large ones, and such with a marker line (this project's profile).
+use Rattle.std.specs.Prelude.{◌≡◌, ◌<◌, ◌⊎◌, ℕ, List, Option, IfSome, length}
 use Rattle.acl_policy.specs.Policies.{IsPolicyFault, IsPolicyText, PolicyFacts}
 use Rattle.acl_policy.specs.declared.policy.PolicyFault.{PolicyFault}
 use Rattle.racl_io.specs.Faults.{policy_fault}
-use Rattle.racl_io.specs.Inputs.{InputFacts, IsInput}
+use Rattle.racl_io.specs.Inputs.{InputFacts, IsInput, most_bytes}
 use Rattle.racl_io.specs.declared.fault.Fault.{Fault}
-use Rattle.racl_io.specs.declared.fault.Fault.TheVariants.{Memory}
+use Rattle.racl_io.specs.declared.fault.Fault.TheVariants.{Memory, Read, TooLarge}
 
 -- no marker line stands in the text, unless all of it is a policy
 abbrev pub IsUnmarked : List ℕ → Type 0
 IsUnmarked text = (parts : InputFacts) → IsInput text parts → (policy : PolicyFacts) × IsPolicyText text policy
 
--- one does, and this is the fault of the text as that of a policy, or memory ran out
+-- one does, and this is the fault of the text as that of a policy
 abbrev pub IsMarkedFault : List ℕ → Fault → Type 0
-IsMarkedFault text fault =
-    ((parts : InputFacts) × IsInput text parts) × ((fault ≡ Memory) ⊎ ((cause : PolicyFault) × IsPolicyFault text cause × (fault ≡ policy_fault cause)))
+IsMarkedFault text fault = ((parts : InputFacts) × IsInput text parts) × ((cause : PolicyFault) × IsPolicyFault text cause × (fault ≡ policy_fault cause))
+
+-- why the text of a policy's file is refused: it has more bytes than an input may have, or else a marker line
+abbrev pub IsFileFault : List ℕ → Fault → Type 0
+IsFileFault text fault = ((most_bytes < length text) × (fault ≡ TooLarge)) ⊎ IsMarkedFault text fault
+
+-- why a text, as far as it is known, isn't held: memory ran out, a read failed, or it is refused
+abbrev pub IsUnheld : Option (List ℕ) → Fault → Type 0
+IsUnheld text fault = (fault ≡ Memory) ⊎ ((fault ≡ Read) ⊎ IfSome text (λ all. IsFileFault all fault))
+
+-- 1 where the text, as far as it is known, is refused, and else 4
+abbrev pub IsFileStatus : Option (List ℕ) → ℕ → Type 0
+IsFileStatus text status = (status ≡ 4) ⊎ ((status ≡ 1) × IfSome text (λ all. (fault : Fault) × IsFileFault all fault))

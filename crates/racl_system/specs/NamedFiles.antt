@@ -4,7 +4,7 @@ use Rattle.clap.specs.Words.{Text}
 use Rattle.racl_io.specs.Joined.{marked_bytes}
 use Rattle.racl_io.specs.declared.marker_line.Form.TheVariants.{Binary, Numbered}
 use Rattle.racl_options.specs.Origins.{CaptureFacts, OriginFacts, FromStandard, FromFiles, FromInterfaces}
-use Rattle.racl_system.specs.MarkedPolicies.{IsUnmarked}
+use Rattle.racl_system.specs.MarkedPolicies.{IsFileStatus, IsUnmarked}
 use Rattle.racl_system.specs.Readers.{IsHeld}
 
 -- what the policy comes from
@@ -47,3 +47,9 @@ abbrev pub IsPolicyOf : (Text → Option (List ℕ)) → OriginFacts → Option 
 IsPolicyOf named FromStandard left = left ≡ named (codes "-")
 IsPolicyOf named (FromFiles policy capture) left = IsFileText (named policy) left
 IsPolicyOf named (FromInterfaces policy captures) left = IsFileText (named policy) left
+
+-- the status where an input can't be opened: 1 where the policy's file is refused, and else 4
+abbrev pub IsInputStatus : (Text → Option (List ℕ)) → OriginFacts → ℕ → Type 0
+IsInputStatus named FromStandard status = status ≡ 4
+IsInputStatus named (FromFiles policy capture) status = IsFileStatus (named policy) status
+IsInputStatus named (FromInterfaces policy captures) status = IsFileStatus (named policy) status

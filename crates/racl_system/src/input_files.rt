@@ -2,19 +2,20 @@
 ghost use Rattle.std.specs.Prelude.{◌≡◌, ◌∷◌, ◌⊎◌, [], IfErr, IfNone, IfOk, IfSome, map};
 ghost use Rattle.racl_io.specs.Joined.{marked_bytes};
 ghost use Rattle.racl_io.specs.Writings.{marked_left};
+ghost use Rattle.racl_io.specs.declared.fault.Fault.TheVariants.{Memory};
 ghost use Rattle.racl_io.specs.declared.marker_line.Form.TheVariants.{Binary};
 ghost use Rattle.racl_options.specs.Checks.{text_behind};
 ghost use Rattle.racl_options.specs.Origins.{capture_facts, origin_facts};
-ghost use Rattle.racl_system.specs.MarkedPolicies.{IsMarkedFault, IsUnmarked};
+ghost use Rattle.racl_system.specs.MarkedPolicies.{IsMarkedFault, IsUnheld, IsUnmarked};
 ghost use Rattle.racl_system.specs.NamedFiles as named;
-ghost use Rattle.racl_system.specs.NamedFiles.{IsPolicyOf, interfaces_marked, marked_captures, policy_of};
+ghost use Rattle.racl_system.specs.NamedFiles.{IsInputStatus, IsPolicyOf, interfaces_marked, marked_captures, policy_of};
 ghost use Rattle.racl_system.specs.Readers.{IsHeld, captures_left, left_in};
 
 use crate::named_reader::{Reader, bytes_of, opened_or_told};
 use crate::say_and_answer_status::say_fault;
 use crate::system_files::SystemFiles;
 use acl_policy::read_policy;
-use racl_io::{Fault, Form, Marked, joined_capture, split_input};
+use racl_io::{Fault, Form, MOST_BYTES, Marked, joined_capture, split_input};
 use racl_options::{CaptureFile, Origin};
 use racl_report::Hint;
 use std::alloc::Global;
@@ -171,7 +172,7 @@ fn say_where_terminal<S: SystemFiles + Eprint>(system: &S) {
 // The fault of a policy's file where a marker line stands in it: such a line is a wrong one.
 fn marked_policy_fault(alloc: Global, text: &[u8]) -> Option<Fault>
     ensures none { IfNone result (IsUnmarked text.now) }
-    ensures some { IfSome result (IsMarkedFault text.now) }
+    ensures some { IfSome result (λ fault. (fault ≡ Memory) ⊎ IsMarkedFault text.now fault) }
 {
     match split_input(text) {
         None => None,
@@ -182,18 +183,22 @@ fn marked_policy_fault(alloc: Global, text: &[u8]) -> Option<Fault>
     }
 }
 
-// Reads a policy's file, and holds its text, so that it can be looked at again.
+// Reads a policy's file, and holds its text, so that it can be looked at again. TooLarge: it has more bytes than an input may.
 fn held_policy<S: Read + Drop, F: Read + Drop>(
     alloc: Global,
     reader: Reader<S, F>,
 ) -> Result<Reader<S, F>, Fault>
     ensures held { IfOk result (λ held. IsHeld (left_in S.remaining F.remaining reader) (left_in S.remaining F.remaining held)) }
     ensures unmarked { IfOk result (λ held. IfSome (left_in S.remaining F.remaining held) IsUnmarked) }
+    ensures fault { IfErr result (IsUnheld (left_in S.remaining F.remaining reader)) }
 {
     let text = match bytes_of(alloc, reader) {
         Ok(text) => text,
         Err(fault) => return Err(fault),
     };
+    if MOST_BYTES < text.len() {
+        return Err(Fault::TooLarge);
+    }
     match marked_policy_fault(alloc, &text) {
         None => Ok(Reader::Held(Cursor::new(text))),
         Some(fault) => Err(fault),
@@ -201,7 +206,7 @@ fn held_policy<S: Read + Drop, F: Read + Drop>(
 }
 
 /// Opens the files of an input, and reads its policy where that is a file's, in which a marker line is a wrong line. Where
-/// one can't be had or is wrong so, that is told, and the status is answered.
+/// one can't be had or is wrong so, that is told, and the status is answered: 1 where the text is wrong so or too large, else 4.
 pub fn opened_input<S: SystemFiles + Eprint>(
     system: &S,
     alloc: Global,
@@ -211,7 +216,7 @@ pub fn opened_input<S: SystemFiles + Eprint>(
         IsPolicyOf (S.named system.now) (origin_facts origin.now) (left_in S.Input.remaining S.File.remaining parts.policy))) }
     ensures captures { IfOk result (λ found. IfOk found (λ parts.
         captures_left S.Input.remaining S.File.remaining parts.captures.items ≡ marked_captures (S.named system.now) (origin_facts origin.now))) }
-    ensures status { IfOk result (λ found. IfErr found (λ status. (status ≡ 1) ⊎ (status ≡ 4))) }
+    ensures status { IfOk result (λ found. IfErr found (IsInputStatus (S.named system.now) (origin_facts origin.now))) }
 {
     let Parts { policy, captures } = match opened_parts(system, alloc, origin) {
         Ok(Some(parts)) => parts,

@@ -4,9 +4,12 @@
 
 mod command_words;
 mod diff_input;
+mod draft;
 mod end_of_run;
+mod expand_words;
 mod faulty_capture;
 mod file_checking;
+mod file_expanding;
 mod input_files;
 mod live_files;
 mod named_place;
@@ -22,6 +25,7 @@ mod system_files;
 pub use command_words::{asked_or_status, diff_or_status, texts_of, words_of};
 pub use diff_input::{DiffInput, opened_diff, say_capture_fault, say_policy_fault};
 pub use end_of_run::{LiveInput, Ran, say_end_of_live, say_end_of_run};
+pub use file_expanding::expansion_status;
 pub use input_files::{Parts, opened_input};
 pub use live_files::{LiveFiles, opened_live};
 pub use named_reader::Reader;

@@ -3,6 +3,7 @@ pub mod ChosenRecords
 pub mod Deciding
 pub mod Entries
 pub mod ExplainedLines
+pub mod HitCounts
 pub mod Hits
 pub mod Objects
 pub mod PacketObjects

@@ -1,24 +1,26 @@
 //! What is told of hits, in lines or objects.
-ghost use Rattle.std.specs.Prelude.{◌≡◌, ◌+◌, ◌≤◌, ◌++◌, [], ◌∷◌, List, Option, OnOk, IfOk, codes, count_by, length};
+ghost use Rattle.std.specs.Prelude.{◌≡◌, ◌+◌, ◌≤◌, ◌++◌, [], ◌∷◌, List, Option, OnOk, IfOk, codes, length};
 ghost use Rattle.std.specs.List.{flat_map};
 ghost use Rattle.acl_policy.specs.Policies.{IsPolicyText, policy_facts};
+ghost use Rattle.session_state.specs.declared.verdict.Verdict.{Verdict};
+ghost use Rattle.racl_views.specs.HitCounts.{CountReasons, HaveCounted};
 ghost use Rattle.racl_views.specs.Hits;
-ghost use Rattle.racl_views.specs.Hits.{IsHits, has_reason, hit_line, hit_told, reason_hits, rule_hits, session_hits};
+ghost use Rattle.racl_views.specs.Hits.{IsHits, hit_line, hit_told, reason_hits, rule_hits, session_hits};
 ghost use Rattle.racl_views.specs.Objects.{number, object_line, object_of};
 ghost use Rattle.racl_views.specs.PacketWords.{numbered};
-ghost use Rattle.racl_views.specs.RunEntries.{run_facts};
+ghost use Rattle.racl_views.specs.RunEntries.{RunFacts, run_facts};
 ghost use Rattle.racl_views.specs.Stored.{stored_facts};
 ghost use Rattle.racl_views.specs.declared.hit.Hit.TheVariants.{Rule, Unruled};
 ghost use Rattle.racl_views.specs.declared.rule_name.RuleName.{RuleName};
 ghost use Rattle.racl_views.specs.inner.Counts.{Count};
 
-use crate::counting_reasons::count_reason;
+use crate::counting_reasons::ReasonCounts;
 use crate::hit::Hit;
+use crate::hit_counts::HitCounts;
 use crate::json_fields::{add_number, add_string, add_way, begin_json_object, end_json_object};
 use crate::line_text::{append_line_text, push_numbered};
 use crate::place_of_rule::number_at;
 use crate::reason_without_rule::Reason;
-use crate::rule_counts::count_packets;
 use crate::rule_name::RuleLine;
 use crate::rule_numbering::numbered_rules;
 use crate::run_and_verdicts::Run;
@@ -27,7 +29,7 @@ use crate::stored_pairs::StoredPairs;
 use crate::text_or_json::View;
 use packet_view::Direction;
 use racl_io::Piece;
-use session_state::{Timeouts, Verdict};
+use session_state::Timeouts;
 use std::alloc::{AllocError, Global};
 
 // The words that say the direction of a rule in the line of its hits.
@@ -189,26 +191,19 @@ fn push_rule_hits_to_tell(
     Ok(())
 }
 
-// A hit that is told as text or JSON: that of a reason that is no rule, by the verdicts that have it.
-fn reason_hit_to_tell(reason: Reason, verdicts: &[Verdict]) -> Hit
-    ensures { result ≡ Unruled reason (count_by (has_reason reason) verdicts.now) }
-{
-    Hit::Unruled(reason, count_reason(reason, verdicts))
-}
-
-// Hits that are told as text or JSON: those of the reasons that are no rules, behind others.
-fn push_reason_hits_to_tell(hits: &mut Vec<Hit>, verdicts: &[Verdict]) -> Result<(), AllocError>
-    ensures { OnOk result (hits.new.items ≡ hits.old.items ++ reason_hits verdicts.now) }
+// Hits that are told as text or JSON: those of the reasons that are no rules, by their counts, behind others.
+fn push_reason_hits_to_tell(hits: &mut Vec<Hit>, counts: &ReasonCounts) -> Result<(), AllocError>
+    ensures { OnOk result ((verdicts : List Verdict) → CountReasons verdicts counts.now → hits.new.items ≡ hits.old.items ++ reason_hits verdicts) }
 {
     hits.extend_from_slice(&[
-        reason_hit_to_tell(Reason::Session, verdicts),
-        reason_hit_to_tell(Reason::ByDefault, verdicts),
-        reason_hit_to_tell(Reason::Full, verdicts),
-        reason_hit_to_tell(Reason::Worn, verdicts),
-        reason_hit_to_tell(Reason::NoPages, verdicts),
-        reason_hit_to_tell(Reason::NotIp, verdicts),
-        reason_hit_to_tell(Reason::Malformed, verdicts),
-        reason_hit_to_tell(Reason::Short, verdicts),
+        Hit::Unruled(Reason::Session, counts.session),
+        Hit::Unruled(Reason::ByDefault, counts.by_default),
+        Hit::Unruled(Reason::Full, counts.full),
+        Hit::Unruled(Reason::Worn, counts.worn),
+        Hit::Unruled(Reason::NoPages, counts.no_pages),
+        Hit::Unruled(Reason::NotIp, counts.not_ip),
+        Hit::Unruled(Reason::Malformed, counts.malformed),
+        Hit::Unruled(Reason::Short, counts.short),
     ])?;
     Ok(())
 }
@@ -229,24 +224,45 @@ fn push_session_hits_to_tell(hits: &mut Vec<Hit>, counts: SessionCounts) -> Resu
 fn hits_to_tell(
     alloc: Global,
     rules: &[RuleLine],
-    counts: &[u64],
-    verdicts: &[Verdict],
+    counts: &HitCounts,
     sessions: SessionCounts,
 ) -> Result<Vec<Hit>, AllocError>
-    ensures { IfOk result (λ hits. (deciding : List (Option RuleName)) → Count counts.now deciding
-        → hits.items ≡ rule_hits deciding rules.now ++ (reason_hits verdicts.now ++ session_hits sessions)) }
+    ensures { IfOk result (λ hits. (deciding : List (Option RuleName)) (verdicts : List Verdict) → Count counts.now.rules.items deciding
+        → CountReasons verdicts counts.now.reasons
+        → hits.items ≡ rule_hits deciding rules.now ++ (reason_hits verdicts ++ session_hits sessions)) }
 {
     let mut hits = Vec::new(alloc);
-    push_rule_hits_to_tell(&mut hits, counts, rules)?;
-    push_reason_hits_to_tell(&mut hits, verdicts)?;
+    push_rule_hits_to_tell(&mut hits, &counts.rules, rules)?;
+    push_reason_hits_to_tell(&mut hits, &counts.reasons)?;
     push_session_hits_to_tell(&mut hits, sessions)?;
     Ok(hits)
 }
 
-/// What is told of hits: for each rule of the policy's text its interface, direction and number, its line and how many packets
-/// it decided; for each verdict that is no rule's how many packets have it; and how many sessions were entered, how many packets
-/// they let through, and how many have expired by the latest second of any packet. `stored` has the sessions that the tables hold
-/// after the run. An `Err` says that memory ran out.
+/// What is told of the hits of packets that were counted, under a policy that this text says: for each of its rules its
+/// interface, direction and number, its line and how many packets it decided; for each verdict that is no rule's how many
+/// packets have it; and how many sessions were entered, how many packets they let through, and how many have expired by the
+/// latest second of any packet. `stored` has the sessions that the tables hold after the run. An `Err` says that memory ran
+/// out.
+pub fn counted_hits_text(
+    alloc: Global,
+    view: View,
+    times: Timeouts,
+    text: &[u8],
+    counts: &HitCounts,
+    stored: &StoredPairs,
+) -> Result<Vec<u8>, AllocError>
+    ensures { IfOk result (λ told. (run : RunFacts) → run.text ≡ text.now → IsPolicyText run.text run.policy
+        → HaveCounted run.policy run.packets run.verdicts counts.now → IsHits view times run (stored_facts stored.now) told.items) }
+{
+    let rules = numbered_rules(alloc, text)?;
+    let sessions = count_sessions(times, counts, stored);
+    let hits = hits_to_tell(alloc, &rules, counts, sessions)?;
+    let told = tell_hits(alloc, view, &hits)?;
+    Ok(told)
+}
+
+/// What is told of the hits of a run, as `counted_hits_text` says. `stored` has the sessions that the tables hold after it. An
+/// `Err` says that memory ran out.
 pub fn hits_text(
     alloc: Global,
     view: View,
@@ -257,10 +273,7 @@ pub fn hits_text(
     ensures { IfOk result (λ told. IsPolicyText run.entry.text.now (policy_facts run.entry.policy.now)
         → IsHits view times (run_facts run.entry) (stored_facts stored.now) told.items) }
 {
-    let rules = numbered_rules(alloc, run.text)?;
-    let counts = count_packets(alloc, run.policy, run.packets, run.verdicts)?;
-    let sessions = count_sessions(times, run, stored);
-    let hits = hits_to_tell(alloc, &rules, &counts, run.verdicts, sessions)?;
-    let told = tell_hits(alloc, view, &hits)?;
-    Ok(told)
+    let mut counts = HitCounts::new(alloc);
+    counts.count(run.policy, run.packets, run.verdicts)?;
+    counted_hits_text(alloc, view, times, run.text, &counts, stored)
 }

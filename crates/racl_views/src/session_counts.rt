@@ -1,18 +1,13 @@
 //! Counts of sessions: how many were entered, how many packets they let through, and how many have expired.
-ghost use Rattle.std.specs.Prelude.{◌≡◌, count_by, not};
-ghost use Rattle.packet_view.specs.CheckedCaptures.{remaining};
+ghost use Rattle.std.specs.Prelude.{◌≡◌, not};
 ghost use Rattle.session_state.specs.Sessions.{is_expired_at};
-ghost use Rattle.racl_views.specs.Hits;
-ghost use Rattle.racl_views.specs.Hits.{live_among, session_counts};
+ghost use Rattle.racl_views.specs.Hits.{live_among};
 ghost use Rattle.racl_views.specs.Stored.{stored_facts};
-ghost use Rattle.racl_views.specs.RunEntries.{run_facts};
+ghost use Rattle.racl_views.specs.inner.CountedSessions.{sessions_by};
 
-use crate::counting_reasons::count_reason;
-use crate::reason_without_rule::Reason;
-use crate::run_and_verdicts::Run;
+use crate::hit_counts::HitCounts;
 use crate::stored_pairs::StoredPairs;
-use packet_view::Packets;
-use session_state::{Session, Timeouts, Verdict};
+use session_state::{Session, Timeouts};
 
 /// How many sessions a run entered, how many packets they let through, and how many have expired.
 #[derive(Clone, Copy)]
@@ -20,38 +15,6 @@ pub struct SessionCounts {
     pub entered: u64,
     pub matched: u64,
     pub expired: u64,
-}
-
-// Whether a packet with this verdict is counted as one that entered a session.
-fn is_entry(verdict: Verdict) -> bool
-    ensures { result ≡ Hits.is_entry verdict }
-{
-    matches!(verdict, Verdict::Reflect(_))
-}
-
-// How many packets entered a session, by their verdicts.
-fn count_session_entries(verdicts: &[Verdict]) -> u64
-    ensures { result ≡ count_by Hits.is_entry verdicts.now }
-{
-    let mut count = 0;
-    'verdicts: for verdict in verdicts {
-        if is_entry(*verdict) {
-            count += 1;
-        }
-    }
-    count
-}
-
-// The latest second of any packet, at which the sessions that are live are counted.
-fn latest_count_second(packets: Packets<'_>) -> u32
-    ensures { result ≡ Hits.latest_second (remaining packets.entry) }
-{
-    let mut left = packets;
-    let mut latest = 0;
-    'packets: while let Some(packet) = left.next() {
-        latest = latest.max(packet.moment);
-    }
-    latest
 }
 
 // Whether the session in this word is counted as live at a moment.
@@ -81,18 +44,17 @@ fn count_live_sessions<const N: usize>(
     count
 }
 
-/// How many sessions a run entered, how many packets they let through, and how many of those entered aren't live any
-/// more at the latest second of any packet.
-pub fn count_sessions(times: Timeouts, run: Run<'_>, stored: &StoredPairs) -> SessionCounts
-    ensures { result ≡ session_counts times (run_facts run.entry) (stored_facts stored.now) }
+/// How many sessions packets entered, by their counts, how many packets they let through, and how many of those entered aren't
+/// live any more at the latest second of any packet.
+pub fn count_sessions(times: Timeouts, counts: &HitCounts, stored: &StoredPairs) -> SessionCounts
+    ensures { result ≡ sessions_by times counts.now (stored_facts stored.now) }
 {
-    let latest = latest_count_second(run.packets);
-    let entered = count_session_entries(run.verdicts);
-    let four = count_live_sessions(&times, latest, &stored.four);
-    let six = count_live_sessions(&times, latest, &stored.six);
+    let entered = counts.entered;
+    let four = count_live_sessions(&times, counts.latest, &stored.four);
+    let six = count_live_sessions(&times, counts.latest, &stored.six);
     SessionCounts {
         entered,
-        matched: count_reason(Reason::Session, run.verdicts),
+        matched: counts.reasons.session,
         expired: entered.saturating_sub(four).saturating_sub(six),
     }
 }

@@ -45,7 +45,7 @@ set_other words word bit within short w b other =
       | inr apart ↦ ap (λ (n : ℕ). bit_at n b) (get_or-set_other words word w (bit_or (get_or words word 0) (1 * 2 ^ bit % 2 ^ bits w64)) 0 apart)
     ]
 
-same_row : (r row width a b : ℕ) → a < width → b < width → r * width + a ≡ row * width + b → r ≡ row
+pub same_row : (r row width a b : ℕ) → a < width → b < width → r * width + a ≡ row * width + b → r ≡ row
 same_row r row width a b short narrow same =
     elim (cases_order r row) [
       | inl equal ↦ equal

@@ -54,3 +54,7 @@ cleared_less word n short one =
       | inl same ↦ absurd (one_or_none word n one (sym (ap (λ (m : ℕ). bit_at m n) same) ∙ bit_at_clear_same w64 word n short))
       | inr apart ↦ omega arith
     ]
+
+-- a word that is that of a row
+pub keeps_word : (rules : List RuleFacts) (tuple : TupleFacts) (words : List ℕ) (i word : ℕ) → word ≡ get_or words i 0 → Sifts rules tuple words → KeepsMatches rules tuple (i * 64) word
+keeps_word rules tuple words i word same sifts = subst (λ (w : ℕ). KeepsMatches rules tuple (i * 64) w) (sym same) (keeps_row rules tuple words i sifts)

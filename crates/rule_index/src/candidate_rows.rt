@@ -1,12 +1,14 @@
 //! The rows of bits for one packet.
+use crate::numbered_row::Row;
 
 /// For one packet, a row of each kind: a rule that matches has its bit in all of them.
 #[derive(Clone, Copy)]
 pub struct Candidates<'a> {
-    pub source: &'a [u64],
-    pub dest: &'a [u64],
-    pub protocol: &'a [u64],
-    pub first: &'a [u64],
-    pub second: &'a [u64],
-    pub flags: &'a [u64],
+    pub source: Row<'a>,
+    pub dest: Row<'a>,
+    pub protocol: Row<'a>,
+    pub first: Row<'a>,
+    pub second: Row<'a>,
+    /// That of its flags, where it has them.
+    pub flags: Option<&'a [u64]>,
 }

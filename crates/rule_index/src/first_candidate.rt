@@ -1,5 +1,5 @@
 //! The first rule that matches, among those that rows of bits leave.
-ghost use Rattle.std.specs.Prelude.{◌≤◌, ◌*◌, ◌+◌, List, map, length, MatchOption};
+ghost use Rattle.std.specs.Prelude.{◌≡◌, ◌≤◌, ◌<◌, ◌*◌, ◌+◌, List, map, length, slice_index, true, MatchOption};
 ghost use Rattle.acl_policy.specs.Matching.{Decides, IsRuling};
 ghost use Rattle.acl_policy.specs.Rules.{RuleFacts, rule_facts};
 ghost use Rattle.packet_view.specs.Tuples.{TupleFacts, tuple_facts};
@@ -44,16 +44,47 @@ fn first_in(rules: &[Rule], tuple: &Tuple, from: usize, word: u64) -> Option<(us
     None
 }
 
-/// The candidates that all rows leave among 64 rules, as a word. The addresses, which rules differ in most, come first.
+// A word of the row for flags.
+fn word_at(row: &[u64], i: usize) -> u64
+    requires { i < length row.now }
+    ensures { result ≡ slice_index row.now i }
+{
+    row[i]
+}
+
+// Whether a packet's flags leave none of 64 rules.
+fn flags_leave_none(rows: &Candidates<'_>, i: usize) -> bool
+    requires { AreLong rows.now (i + 1) }
+    ensures { result ≡ true → (rules : List RuleFacts) (tuple : TupleFacts) → AllSift rules tuple rows.now → KeepsMatches rules tuple (i * 64) 0 }
+{
+    match rows.flags {
+        Some(flags) => word_at(flags, i) == 0,
+        None => false,
+    }
+}
+
+/// The candidates that all rows leave among 64 rules, as a word. The flags, whose rows are few, come first, then the
+/// addresses, which rules differ in most, and then the second port.
 fn word_of(rows: &Candidates<'_>, i: usize) -> u64
     requires { AreLong rows.now (i + 1) }
     ensures { (rules : List RuleFacts) (tuple : TupleFacts) → AllSift rules tuple rows.now → KeepsMatches rules tuple (i * 64) result }
 {
-    let addresses = rows.source[i] & rows.dest[i];
+    if flags_leave_none(rows, i) {
+        return 0;
+    }
+    let addresses = rows.source.word(i) & rows.dest.word(i);
     if addresses == 0 {
         return 0;
     }
-    addresses & rows.protocol[i] & rows.first[i] & rows.second[i] & rows.flags[i]
+    let second = addresses & rows.second.word(i);
+    if second == 0 {
+        return 0;
+    }
+    let numbers = second & rows.protocol.word(i) & rows.first.word(i);
+    match rows.flags {
+        Some(flags) => numbers & word_at(flags, i),
+        None => numbers,
+    }
 }
 
 /// The first rule that matches, where each of the packet's rows has the bit of each rule that does.
@@ -61,7 +92,7 @@ pub fn first_of(rules: &[Rule], tuple: &Tuple, rows: &Candidates<'_>) -> Option<
     requires { AllSift (map rule_facts rules.now) (tuple_facts tuple.now) rows.now }
     ensures { IsRuling (map rule_facts rules.now) (tuple_facts tuple.now) result }
 {
-    for i in 0..rows.source.len() {
+    for i in 0..rows.source.numbers.len() {
         if let Some(found) = first_in(rules, tuple, i * 64, word_of(rows, i)) {
             return Some(found);
         }

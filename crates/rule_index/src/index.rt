@@ -102,8 +102,8 @@ impl RuleIndex {
         })
     }
 
-    /// The rows that are looked up for a packet. Where it has no ports, no type or no flags, none of these leaves a
-    /// rule out.
+    /// The rows that are looked up for a packet. Where it has no ports or no type, none of these leaves a rule
+    /// out.
     fn candidates(&self, tuple: &Tuple) -> Candidates<'_>
         ensures { AllSift (map rule_facts self.now.rules.items) (tuple_facts tuple.now) result }
     {
@@ -114,7 +114,7 @@ impl RuleIndex {
             protocol,
             first: self.first.row_or(lookup_first(&tuple.fields), protocol),
             second: self.second.row_or(lookup_second(&tuple.fields), protocol),
-            flags: self.flags.row_or(lookup_flags(&tuple.fields), protocol),
+            flags: self.flags.row_of(lookup_flags(&tuple.fields)),
         }
     }
 

@@ -2,8 +2,9 @@
 //!
 //! Bit vectors by interval (Lakshman and Stiliadis, SIGCOMM 1998): for each number of a packet that rules are about, the
 //! numbers fall into intervals within which the same rules may match, and each interval has a row of bits, one for each
-//! rule. A packet's rows are intersected, and the first rule of the intersection that matches decides. The rows only leave
-//! out rules that can't match: each rule that they leave is asked itself.
+//! rule. Rows in turn share the words in which they are alike. A packet's rows are intersected, and the first rule of the
+//! intersection that matches decides. The rows only leave out rules that can't match: each rule that they leave is asked
+//! itself.
 #![tactic(auto)]
 
 mod bit_rows;
@@ -13,6 +14,8 @@ mod dimension;
 mod first_candidate;
 mod flag_rows;
 mod index;
+mod numbered_row;
+mod numbered_words;
 mod ranges_of_rules;
 mod when_to_prepare;
 

@@ -63,6 +63,24 @@ pub struct Counts {
 }
 
 #[repr(C)]
+pub struct RawEnd {
+    pub address: [u8; 16],
+    pub port: u16,
+    pub flags: u8,
+}
+
+#[repr(C)]
+pub struct RawSession {
+    pub until: u64,
+    pub last: u32,
+    pub interface: u8,
+    pub family: u8,
+    pub protocol: u8,
+    pub first: RawEnd,
+    pub second: RawEnd,
+}
+
+#[repr(C)]
 pub struct RawChecked {
     pub kind: u32,
     pub length: u64,
@@ -112,4 +130,13 @@ unsafe extern "C" {
     pub fn racl_sweep_ipv6(handle: *mut Handle, from: u64, to: u64, second: u32, most: u64) -> RawSwept;
     pub fn racl_unused_ipv4(handle: *mut Handle) -> u64;
     pub fn racl_unused_ipv6(handle: *mut Handle) -> u64;
+    pub fn racl_close_ipv4(handle: *mut Handle, sessions: *mut Handle) -> u32;
+    pub fn racl_close_ipv6(handle: *mut Handle, sessions: *mut Handle) -> u32;
+    pub fn racl_session_count(sessions: *mut Handle) -> u64;
+    pub fn racl_session_at(sessions: *mut Handle, at: u64, session: *mut RawSession) -> u32;
+    pub fn racl_free_sessions(sessions: *mut Handle);
+    pub fn racl_rule_counts_new(counts: *mut Handle, text: *const u8, length: usize) -> Made;
+    pub fn racl_count_rule(counts: *mut Handle, interface: u8, direction: u32, rule: u32);
+    pub fn racl_rule_count(counts: *mut Handle, interface: u8, direction: u32, rule: u32) -> u64;
+    pub fn racl_free_rule_counts(counts: *mut Handle);
 }

@@ -24,12 +24,13 @@
 
 mod calls;
 
-use calls::{Handle, Made, RawAnswer, RawOptions};
+use calls::{Handle, Made, RawAnswer, RawEnd, RawOptions, RawSession};
 use std::cell::Cell;
 use std::fmt;
 use std::hint::spin_loop;
 use std::marker::PhantomData;
-use std::mem::size_of;
+use std::mem::{MaybeUninit, size_of};
+use std::net::{IpAddr, Ipv6Addr};
 use std::ops::{Deref, DerefMut, Range};
 use std::ptr::null_mut;
 use std::sync::atomic::{AtomicU64, Ordering};
@@ -173,6 +174,33 @@ impl fmt::Debug for Answer {
 pub enum Family {
     V4,
     V6,
+}
+
+/// An end of a flow. Without ports its port is 0; the flags that are kept are of TCP.
+#[derive(Clone, Copy, Debug, PartialEq, Eq)]
+pub struct End {
+    pub address: IpAddr,
+    pub port: u16,
+    pub flags: u8,
+}
+
+impl End {
+    fn of(family: u8, told: &RawEnd) -> End {
+        let [a, b, c, d, ..] = told.address;
+        let address = if family == 4 { IpAddr::from([a, b, c, d]) } else { Ipv6Addr::from(told.address).into() };
+        End { address, port: told.port, flags: told.flags }
+    }
+}
+
+/// A session: its flow, the latest second of its frames, and the last one in which it is live.
+#[derive(Clone, Copy, Debug, PartialEq, Eq)]
+pub struct Session {
+    pub interface: u8,
+    pub protocol: u8,
+    pub first: End,
+    pub second: End,
+    pub last: u32,
+    pub until: u64,
 }
 
 /// A frame's flow: the same for both directions at one interface.
@@ -404,6 +432,86 @@ impl Filter {
             }
         };
         done(told, 0)
+    }
+
+    /// The sessions of a family, in the order of `racl --sessions`; its table begins anew without them. Each other worker was joined
+    /// before.
+    pub fn close(&mut self, family: Family) -> Result<Vec<Session>, Fault> {
+        let mut sessions = Sessions(Handle(null_mut()));
+        let told = unsafe {
+            match family {
+                Family::V4 => calls::racl_close_ipv4(&mut self.first.handle, &mut sessions.0),
+                Family::V6 => calls::racl_close_ipv6(&mut self.first.handle, &mut sessions.0),
+            }
+        };
+        done(told, 0)?;
+        let count = unsafe { calls::racl_session_count(&mut sessions.0) };
+        Ok((0..count).filter_map(|at| sessions.at(at)).collect())
+    }
+}
+
+struct Sessions(Handle);
+
+impl Sessions {
+    fn at(&mut self, at: u64) -> Option<Session> {
+        let mut told = MaybeUninit::<RawSession>::zeroed();
+        let it = unsafe {
+            match calls::racl_session_at(&mut self.0, at, told.as_mut_ptr()) {
+                1 => told.assume_init(),
+                _ => return None,
+            }
+        };
+        let (first, second) = (End::of(it.family, &it.first), End::of(it.family, &it.second));
+        Some(Session { interface: it.interface, protocol: it.protocol, first, second, last: it.last, until: it.until })
+    }
+}
+
+impl Drop for Sessions {
+    fn drop(&mut self) {
+        if !self.0.0.is_null() {
+            unsafe { calls::racl_free_sessions(&mut self.0) }
+        }
+    }
+}
+
+/// How many frames each rule of a policy decided.
+pub struct RuleCounts {
+    handle: Handle,
+    not_sync: PhantomData<Cell<()>>,
+}
+
+unsafe impl Send for RuleCounts {}
+
+impl RuleCounts {
+    /// Of no frame, for the rules of this policy.
+    pub fn new(text: &[u8]) -> Result<RuleCounts, Fault> {
+        let mut counts = RuleCounts { handle: Handle(null_mut()), not_sync: PhantomData };
+        let told = unsafe { calls::racl_rule_counts_new(&mut counts.handle, text.as_ptr(), text.len()) };
+        made(told).map(|()| counts)
+    }
+
+    /// Counts a frame of this interface by its answer; one that no rule decided as one of rule 0.
+    pub fn count(&mut self, interface: u8, answer: Answer) {
+        unsafe { calls::racl_count_rule(&mut self.handle, interface, answer.0.direction, answer.0.rule) }
+    }
+
+    /// How many frames the rule decided.
+    pub fn of(&mut self, interface: u8, direction: Direction, rule: u32) -> u64 {
+        unsafe { calls::racl_rule_count(&mut self.handle, interface, direction as u32 + 1, rule) }
+    }
+}
+
+impl Drop for RuleCounts {
+    fn drop(&mut self) {
+        if !self.handle.0.is_null() {
+            unsafe { calls::racl_free_rule_counts(&mut self.handle) }
+        }
+    }
+}
+
+impl fmt::Debug for RuleCounts {
+    fn fmt(&self, f: &mut fmt::Formatter<'_>) -> fmt::Result {
+        f.debug_struct("RuleCounts").finish_non_exhaustive()
     }
 }
 

@@ -1,5 +1,8 @@
 //! Threads that judge the flows of one filter, and policies that are replaced meanwhile.
-use racl::{Answer, Descriptor, Direction, Family, Fault, Filter, Options, Tables, Verdict, Worker, check, flow_of, line_of};
+use racl::{
+    Answer, Descriptor, Direction, End, Family, Fault, Filter, Options, RuleCounts, Session, Tables, Verdict, Worker, check, flow_of,
+    line_of,
+};
 use std::thread;
 
 const OUTWARD: &[u8] = b"mac 02:00:00:00:00:01\nout permit+reflect ipv4 any any\n";
@@ -89,6 +92,25 @@ fn workers_meet() {
     assert!(filter.meet(&mut worker) && !filter.meet(&mut other) && !filter.is_lone());
     filter.join(worker).unwrap();
     assert!(filter.is_lone() && filter.unused_pages(Family::V4) < 16_384);
+}
+
+#[test]
+fn sessions_and_rules_are_told() {
+    let mut filter = Filter::new(OUTWARD, &Options::default()).unwrap();
+    let worker = filter.split().unwrap();
+    let mut counts = RuleCounts::new(OUTWARD).unwrap();
+    for is_outward in [true, false] {
+        let answer = filter.judge(0, 10, &frame(is_outward, 4000));
+        counts.count(0, answer);
+    }
+    assert_eq!((counts.of(0, Direction::Outbound, 1), counts.of(0, Direction::Inbound, 0)), (1, 1));
+    assert_eq!(filter.close(Family::V4), Err(Fault::Strangers));
+    filter.join(worker).unwrap();
+    let end = |last, port| End { address: [10, 0, 0, last].into(), port, flags: 0 };
+    let session = Session { interface: 0, protocol: 17, first: end(1, 4000), second: end(2, 53), last: 10, until: 610 };
+    assert_eq!(filter.close(Family::V4), Ok(vec![session]));
+    assert_eq!((filter.close(Family::V4), filter.close(Family::V6)), (Ok(vec![]), Ok(vec![])));
+    assert_eq!(RuleCounts::new(b"in\n").unwrap_err(), Fault::BadLine(1));
 }
 
 #[test]

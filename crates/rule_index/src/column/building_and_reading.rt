@@ -6,13 +6,16 @@ ghost use Rattle.rule_index.specs.inner.Columns.{Holds};
 ghost use Rattle.rule_index.specs.declared.dimension.Dimension.{Dimension};
 ghost use Rattle.rule_index.specs.Dimensions.{IsAt};
 ghost use Rattle.rule_index.specs.Indexes.{Sieves};
+ghost use Rattle.rule_index.specs.inner.NumberedRows.{words_of};
 ghost use Rattle.rule_index.specs.inner.Sieves.{Sifts};
 
 use super::Column;
-use super::interval_rows::fill;
+use super::block_rows::lay_blocks;
 use super::interval_starts::{place, starts_of};
 use crate::bit_rows::words_for;
 use crate::dimension::Dimension;
+use crate::numbered_row::Row;
+use crate::numbered_words::carry;
 use crate::ranges_of_rules::ranges_of;
 use acl_policy::Rule;
 use std::alloc::{AllocError, Global};
@@ -25,13 +28,14 @@ impl Column {
     {
         let starts = starts_of(alloc, ranges)?;
         let width = words_for(ranges.len());
-        let words = starts.len() * width;
-        let mut rows = Vec::from_elem(alloc, 0u64, words)?;
-        fill(&mut rows, &starts, width, ranges);
+        let mut numbers = Vec::from_elem(alloc, 0u16, starts.len() * width)?;
+        let words = lay_blocks(alloc, &mut numbers, &starts, ranges)?;
+        carry(&mut numbers, width);
         Ok(Column {
             width,
             starts,
-            rows,
+            numbers,
+            words,
         })
     }
 
@@ -49,18 +53,21 @@ impl Column {
     }
 
     /// The row of a built column for a number.
-    pub fn row(&self, x: u128) -> &[u64]
+    pub fn row(&self, x: u128) -> Row<'_>
         ensures { (dimension : Dimension) (rules : List RuleFacts) (tuple : TupleFacts) → Sieves dimension rules self.now → IsAt dimension tuple x
-            → Sifts rules tuple result.now }
+            → Sifts rules tuple (words_of result) }
     {
         let from = place(&self.starts, x) * self.width;
-        &self.rows[from..from + self.width]
+        Row {
+            numbers: &self.numbers[from..from + self.width],
+            words: &self.words,
+        }
     }
 
     /// The row of a built column for a number that not every packet has, and another row without it.
-    pub fn row_or<'a>(&'a self, x: Option<u128>, other: &'a [u64]) -> &'a [u64]
+    pub fn row_or<'a>(&'a self, x: Option<u128>, other: Row<'a>) -> Row<'a>
         ensures { (dimension : Dimension) (rules : List RuleFacts) (tuple : TupleFacts) → Sieves dimension rules self.now
-            → IfSome x (IsAt dimension tuple) → Sifts rules tuple other.now → Sifts rules tuple result.now }
+            → IfSome x (IsAt dimension tuple) → Sifts rules tuple (words_of other.entry) → Sifts rules tuple (words_of result) }
     {
         match x {
             Some(x) => self.row(x),

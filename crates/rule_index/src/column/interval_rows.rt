@@ -40,7 +40,8 @@ fn mark_all(rows: &mut [u64], starts: &[u128], width: usize, ranges: &[(u128, u1
 pub fn fill(rows: &mut [u64], starts: &[u128], width: usize, ranges: &[(u128, u128)])
     requires starts { AreStarts starts.now }
     requires rows { length rows.now ≡ length starts.now * width }
-    requires width { length ranges.now < 64 * width }
+    requires width { 0 < width }
+    requires few { length ranges.now ≤ 64 * width }
     requires clear { (row k : ℕ) → bit_in width rows.now row k ≡ 0 }
     ensures len { length rows.new ≡ length rows.old }
     ensures filled { (k row x : ℕ) (range : ℕ × ℕ) → slice_get ranges.now k ≡ Some range → IsWithin range x

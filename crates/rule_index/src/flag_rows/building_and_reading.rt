@@ -1,5 +1,6 @@
 //! Rows for flags, made of rules and read at a value.
 ghost use Rattle.std.specs.Prelude.{◌≡◌, ◌≢◌, ◌≤◌, ◌<◌, ◌*◌, ◌/◌, ℕ, IfOk, IfSome, IsTrue, List, Some, length, map, slice_get};
+ghost use Rattle.std.specs.Option.{ForSome};
 ghost use Rattle.acl_policy.specs.Matching.{Matches};
 ghost use Rattle.acl_policy.specs.Rules.{RuleFacts, most_rules, rule_facts};
 ghost use Rattle.packet_view.specs.Tuples.{TupleFacts};
@@ -105,14 +106,14 @@ impl FlagRows {
         &self.rows[from..from + self.width]
     }
 
-    /// The row that was built for flags, and another row for a packet without them.
-    pub fn row_or<'a>(&'a self, flags: Option<u8>, other: &'a [u64]) -> &'a [u64]
+    /// The row that was built for the flags of a packet that has them.
+    pub fn row_of(&self, flags: Option<u8>) -> Option<&[u64]>
         ensures { (rules : List RuleFacts) (tuple : TupleFacts) → SievesFlags rules self.now → IfSome flags (IsFlagsOf tuple.fields)
-            → Sifts rules tuple other.now → Sifts rules tuple result.now }
+            → ForSome result (λ row. Sifts rules tuple row.now) }
     {
         match flags {
-            Some(flags) => self.row(flags),
-            None => other,
+            Some(flags) => Some(self.row(flags)),
+            None => None,
         }
     }
 }

@@ -19,7 +19,7 @@ use std::thread::{Threads, join};
 type OnePage = Tiny<1, 100000>;
 
 // Ageing: a sweep gives the page of expired pairs back to a table that had none left, and a value that isn't expired
-// stays, with its page.
+// stays, with its page. Once another bucket has that page, the first one is refused its pairs.
 #[test]
 fn a_sweep_gives_pages_back(rt: HostRuntime) -> Result<(), Fail> {
     let Ok((table, mut caller)) = create::<OnePage>(rt.alloc()) else {
@@ -45,7 +45,10 @@ fn a_sweep_gives_pages_back(rt: HostRuntime) -> Result<(), Fail> {
     assert!(rt; table.sweep(&rt, caller, 1, 2, &BelowHundred) == 0);
     assert!(rt; table.sweep(&rt, caller, 0, 1, &BelowHundred) == 1);
     assert!(rt; block(&table, caller, 0) == (0, 0, false));
-    const AGAIN: [Row; 1] = [(Add(9), [1, 0], Changed(None), (1, 1))];
+    const AGAIN: [Row; 2] = [
+        (Add(9), [1, 0], Changed(None), (1, 1)),
+        (Add(7), [0, 0], NoPages { log2: 0, left: 0 }, (0, 7)),
+    ];
     assert!(rt; first_wrong(&table, caller, &AGAIN) == None);
     Ok(())
 }

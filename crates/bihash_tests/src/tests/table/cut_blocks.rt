@@ -3,10 +3,10 @@ ghost use Rattle.std.specs.Prelude.{◌≡◌};
 ghost use Rattle.bihash_rule.specs.Views.{nothing_held};
 
 use super::Call::{Add, Remove};
-use super::{add_keys_to_table, block, has, table_answer, table_refused};
-use bihash_table::{Caller, Contended, Sessions, create, create_cutting};
+use super::{Row, add_keys_to_table, block, first_wrong, has, table_answer, table_refused};
+use bihash_table::{Caller, Sessions, create, create_cutting};
 use bihash_words::Reply::{Changed, NoPages};
-use bihash_words::{Reply, Tiny};
+use bihash_words::Tiny;
 use std::test::Fail;
 
 // For tests of cut blocks: removes keys of these numbers, each with its number as value.
@@ -29,12 +29,13 @@ fn remove_keys_from_table<const P: u64>(
     all_gone
 }
 
-// For tests of cut blocks: a block of four pages is returned, and the only page that is left taken. Then each page of a
-// table of five was used, and bucket 1 wants one.
-fn one_page_after_four(
+// For tests of cut blocks: a block of four pages is returned, and the only page that is left is filled with these four keys.
+// Then each page of a table of five was used.
+fn four_pages_returned(
     table: &Sessions<Tiny<5, 1000>>,
     caller: &mut Caller<Tiny<5, 1000>>,
-) -> Option<Result<Reply, Contended>>
+    kept: &[u32],
+) -> bool
     requires own { caller.old.seat.row ≡ table.now.row }
     requires free { caller.old.seat.view.holds ≡ nothing_held }
     ensures own { caller.new.seat.row ≡ table.now.row }
@@ -43,11 +44,8 @@ fn one_page_after_four(
     const SPREAD: [u32; 5] = [0, 4, 8, 12, 16];
     let mut all_done = add_keys_to_table(table, caller, &SPREAD);
     all_done &= remove_keys_from_table(table, caller, &SPREAD);
-    all_done &= add_keys_to_table(table, caller, &[0, 8, 16, 24]);
-    if !all_done {
-        return None;
-    }
-    Some(table_answer(table, caller, Add(1), &[1, 0]))
+    all_done &= add_keys_to_table(table, caller, kept);
+    all_done
 }
 
 // Cut blocks: pages 2 to 5 were one block. Bucket 1 gets page 2 of them, page 3 and the block of pages 4 and 5 are returned,
@@ -57,8 +55,9 @@ fn block_of_four_pages_is_cut_until_no_larger_is_left(rt: HostRuntime) -> Result
     let Ok((table, mut caller)) = create_cutting::<Tiny<5, 1000>>(rt.alloc()) else {
         return table_refused();
     };
-    assert!(rt; one_page_after_four(&table, &mut caller) == Some(Ok(Changed(None))));
+    assert!(rt; four_pages_returned(&table, &mut caller, &[0, 8, 16, 24]));
     assert!(rt; block(&table, &mut caller, 0) == (1, 0, false));
+    assert!(rt; add_keys_to_table(&table, &mut caller, &[1]));
     assert!(rt; block(&table, &mut caller, 1) == (2, 0, false));
     assert!(rt; add_keys_to_table(&table, &mut caller, &[32, 9, 17, 25]));
     assert!(rt; block(&table, &mut caller, 0) == (4, 1, true));
@@ -68,14 +67,39 @@ fn block_of_four_pages_is_cut_until_no_larger_is_left(rt: HostRuntime) -> Result
     Ok(())
 }
 
-// Blocks that aren't cut: the same calls find no page.
+// Blocks that aren't cut: one page is refused, once, and the block of four pages is there for bucket 0, whose page then serves
+// bucket 1.
 #[test]
 fn block_of_four_pages_stays_whole(rt: HostRuntime) -> Result<(), Fail> {
     let Ok((table, mut caller)) = create::<Tiny<5, 1000>>(rt.alloc()) else {
         return table_refused();
     };
-    let refused = Some(Ok(NoPages { log2: 0, left: 0 }));
-    assert!(rt; one_page_after_four(&table, &mut caller) == refused);
-    assert!(rt; block(&table, &mut caller, 1) == (0, 0, false));
+    assert!(rt; four_pages_returned(&table, &mut caller, &[0, 4, 8, 12]));
+    const ROWS: [Row; 3] = [
+        (Add(1), [1, 0], NoPages { log2: 0, left: 0 }, (1, 0)),
+        (Add(16), [16, 0], Changed(None), (0, 15)),
+        (Add(1), [1, 0], Changed(None), (1, 1)),
+    ];
+    assert!(rt; first_wrong(&table, &mut caller, &ROWS) == None);
+    assert!(rt; block(&table, &mut caller, 0) == (2, 2, false));
+    Ok(())
+}
+
+// Cut blocks, by the same calls: the one page is cut from the block of four, and bucket 0 is refused these again and again,
+// also once the page is back, since pieces never merge.
+#[test]
+fn block_that_was_cut_is_wanting(rt: HostRuntime) -> Result<(), Fail> {
+    let Ok((table, mut caller)) = create_cutting::<Tiny<5, 1000>>(rt.alloc()) else {
+        return table_refused();
+    };
+    assert!(rt; four_pages_returned(&table, &mut caller, &[0, 4, 8, 12]));
+    const ROWS: [Row; 5] = [
+        (Add(1), [1, 0], Changed(None), (1, 1)),
+        (Add(16), [16, 0], NoPages { log2: 2, left: 0 }, (0, 14)),
+        (Add(16), [16, 0], NoPages { log2: 2, left: 0 }, (0, 14)),
+        (Remove, [1, 0], Changed(Some(1)), (1, 2)),
+        (Add(16), [16, 0], NoPages { log2: 2, left: 0 }, (0, 14)),
+    ];
+    assert!(rt; first_wrong(&table, &mut caller, &ROWS) == None);
     Ok(())
 }

@@ -1,0 +1,77 @@
+"""Plain policies that `expand` writes of written ones, and what it says of wrong ones."""
+from support.cases import TOP, Case, each, wanted
+
+# What is written, and the plain lines that it stands for, each behind the number of the line in which it was written.
+RIGHT = [
+    ("no line", "", []),
+    ("a comment and a line without words", "# nothing\n\n \t\n", []),
+    ("a plain policy", "mac 02:00:00:00:00:01 # own\nin  permit\tipv4 any 10.0.0.1\ninterface 2\nout deny ipv6 any any icmp type 8\r\n",
+     [(1, "mac 02:00:00:00:00:01"), (2, "in permit ipv4 any 10.0.0.1"), (3, "interface 2"), (4, "out deny ipv6 any any icmp type 8")]),
+    ("lists of addresses, the sources changing last", "in deny ipv4 10.0.0.1,10.0.0.2 192.0.2.1,any tcp\n",
+     [(1, "in deny ipv4 10.0.0.1 192.0.2.1 tcp"), (1, "in deny ipv4 10.0.0.1 any tcp"),
+      (1, "in deny ipv4 10.0.0.2 192.0.2.1 tcp"), (1, "in deny ipv4 10.0.0.2 any tcp")]),
+    ("lists of ports and protocols", "in permit ipv4 any any tcp,udp sport 53 dport 80,1024-2047\n",
+     [(1, "in permit ipv4 any any tcp sport 53 dport 80"), (1, "in permit ipv4 any any tcp sport 53 dport 1024-2047"),
+      (1, "in permit ipv4 any any udp sport 53 dport 80"), (1, "in permit ipv4 any any udp sport 53 dport 1024-2047")]),
+    ("a set of addresses and one of ports", "set web 192.0.2.10 192.0.2.11\nset ports 80 443\nin permit ipv4 any @web tcp dport @ports\n",
+     [(3, "in permit ipv4 any 192.0.2.10 tcp dport 80"), (3, "in permit ipv4 any 192.0.2.10 tcp dport 443"),
+      (3, "in permit ipv4 any 192.0.2.11 tcp dport 80"), (3, "in permit ipv4 any 192.0.2.11 tcp dport 443")]),
+    ("a set of a set and of a list", "set a 10.0.0.1\nset b @a 10.0.0.2,10.0.0.3\nin deny ipv4 @b,10.0.0.4 any\n",
+     [(3, "in deny ipv4 10.0.0.1 any"), (3, "in deny ipv4 10.0.0.2 any"), (3, "in deny ipv4 10.0.0.3 any"), (3, "in deny ipv4 10.0.0.4 any")]),
+    ("both families, with any", "in permit ip any any icmp\n", [(1, "in permit ipv4 any any icmp"), (1, "in permit ipv6 any any icmp")]),
+    ("both families, each with its own addresses", "in deny ip 10.0.0.1,2001:db8::1,any 192.0.2.0/24,2001:db8::/32\n",
+     [(1, "in deny ipv4 10.0.0.1 192.0.2.0/24"), (1, "in deny ipv4 any 192.0.2.0/24"),
+      (1, "in deny ipv6 2001:db8::1 2001:db8::/32"), (1, "in deny ipv6 any 2001:db8::/32")]),
+    ("both families, of which one has addresses on each side", "in deny ip 10.0.0.1,2001:db8::1 192.0.2.1\n", [(1, "in deny ipv4 10.0.0.1 192.0.2.1")]),
+    ("what is written right before stays in front", "in deny ip any any tcp dport 22\nin permit ip any any\n",
+     [(1, "in deny ipv4 any any tcp dport 22"), (1, "in deny ipv6 any any tcp dport 22"), (2, "in permit ipv4 any any"), (2, "in permit ipv6 any any")]),
+    ("as many rules as may be", "in deny ipv4 10.0.0.1,10.0.0.2 any tcp dport " + ",".join(str(it) for it in range(2048)) + "\n",
+     [(1, f"in deny ipv4 10.0.0.{host} any tcp dport {port}") for host in (1, 2) for port in range(2048)]),
+]
+
+# What is written, and what is said of it behind the file's name.
+WRONG = [
+    ("a name that no set has", "in deny ipv4 @web any\n", "1: `@web` names no set of a line before: set NAME WORD .."),
+    ("a set that comes later", "in deny ipv4 @web any\nset web 10.0.0.1\n", "1: `@web` names no set of a line before: set NAME WORD .."),
+    ("a name twice", "set web 10.0.0.1\n\nset web 10.0.0.2\n", "3: `web` names a set that is there already"),
+    ("a set without words", "set web\n", "1: ends too early"),
+    ("a name with a comma", "set a,b 10.0.0.1\n", "1: `a,b` is no name of a set: it has a comma or @"),
+    ("a comma at the end", "in deny ipv4 any any tcp dport 80,\n", "1: `80,` has a comma without a word on one side"),
+    ("a word of other bytes", "set web ü\n", "1: `\\xc3\\xbc` has a byte that is no visible ASCII"),
+    ("no family with both addresses", "in deny ip 10.0.0.1 2001:db8::1\n", "1: stands for no rule: no family has an address of each side"),
+    ("more rules than a direction may have", "in deny ipv4 10.0.0.1,10.0.0.2,10.0.0.3 any tcp dport " + ",".join(str(it) for it in range(2048)) + "\n",
+     "1: stands for more than 4096 rules of a family"),
+    ("a rule too many", "in deny ipv4 any any tcp dport " + ",".join(str(it) for it in range(4096)) + "\n# one more\nin deny ipv4 any any\n",
+     "3: `in` is one rule too many: a direction has at most 4096"),
+    ("an address of the other family", "in deny ipv4 any 10.0.0.1,2001:db8::1\n", "1: `2001:db8::1` is of the other family"),
+    ("a word that is no address", "set web 10.0.0.1 10.0.0.256\nin deny ip any @web\n", "2: `10.0.0.256` is neither `any` nor an address or a prefix of one"),
+    ("a second own address", "mac 02:00:00:00:00:01\nmac 02:00:00:00:00:02\n", "2: `mac` stands in this section already"),
+    ("two wrong lines, each of which stands for two", "in allow ip any any\nin deny ip any any\nin deny ip any any tcp dport 70000\n",
+     "1: `allow` is no action: deny, permit or permit+reflect\nracl: -:3: `70000` is over 65535"),
+    ("a list of actions", "in permit,deny ipv4 any any\n", "1: `permit,deny` is no action: deny, permit or permit+reflect"),
+]
+
+
+def want(told):
+    """What is wanted of an expansion: plain lines, or what is said."""
+    if isinstance(told, str):
+        return wanted(b"", f"racl: -:{told}\n", 1)
+    return wanted("".join(f"{line} # -:{number}\n" for number, line in told).encode())
+
+
+class Expansions(Case):
+    @each(RIGHT + WRONG)
+    def standard_input(self, written, told):
+        self.compare(self.program.run(["expand", "-"], written.encode()), want(told))
+
+    def test_example(self):
+        """The expansion of the example is a policy, and that of a plain one."""
+        got = self.program.run(["expand", f"{TOP}/examples/office.rules"])
+        self.compare(got, wanted(None, "", 0))
+        self.compare(self.program.run(["check", "-"], got["stdout"]), wanted(None, "", 0))
+
+    def test_words(self):
+        self.compare(self.program.run(["expand"]), {"stdout": b"", "status": 2})
+        self.compare(self.program.run(["expand", "/nowhere"]),
+                     wanted(b"", "racl: /nowhere: No such file or directory (os error 2)\n", 4))
+        self.compare(self.program.run(["expand", "--help"]), {"stderr": b"", "status": 0})

@@ -1,0 +1,5 @@
+pub mod CarriedLaws
+pub mod EndLaws
+pub mod ListLaws
+pub mod QuestionLaws
+pub mod StepLaws

@@ -1,0 +1,60 @@
+use Rattle.std.proofs.Common.{◌≡◌, ◌∙◌, ℕ, List, [], ◌∷◌, None, ap, false, length, map, rules, subst, sym}
+use Rattle.packet_view.specs.Captures.{PacketFacts, packet_facts}
+use Rattle.acl_policy.specs.Policies.{IsPolicyText, PolicyFacts, policy_facts}
+use Rattle.session_state.specs.declared.shown_verdicts.Shown.TheVariants.{Every}
+use Rattle.session_state.specs.declared.verdict.Verdict.{Verdict}
+use Rattle.bihash_words.specs.contracts.flow_shapes.ShapeV4Shape.TheImpl as four
+use Rattle.bihash_words.specs.contracts.flow_shapes.ShapeV6Shape.TheImpl as six
+use Rattle.flow_filter.specs.OneThread.{AreVerdicts, layout_of}
+use Rattle.racl_io.specs.Reports.{totals_of}
+use Rattle.racl_views.specs.RunEntries.{RunFacts, run_facts}
+use Rattle.packet_questions.specs.Answers.{AreAnswers, answer_facts, asked_facts, packet_asked}
+use Rattle.packet_questions.specs.declared.asked_packet.AskedPacket.{AskedPacket}
+use Rattle.packet_questions.proofs.answers.answer_questions.Goals as goal
+
+-- a run of these packets, of which so many are told
+told_run : PolicyFacts → List ℕ → List PacketFacts → List Verdict → ℕ → RunFacts
+told_run policy text packets verdicts n = record {
+  policy = policy;
+  text = text;
+  packets = packets;
+  verdicts = verdicts;
+  captures = record { named = None; packets = n; truncated = false } ∷ [];
+  shown = Every;
+}
+
+pub returns-in-Ok-write_answers-clause-ok : goal.returns-in-Ok-write_answers-clause-ok
+unfolding told_run
+returns-in-Ok-write_answers-clause-ok g c =
+    let policy = policy_facts c.in-Ok.policy in
+    let text = c.args.text.now in
+    let asked = map asked_facts c.in-Ok-asked_in.asked.items in
+    let verdicts = c.in-Ok-verdicts_on.verdicts.items in
+    let listed : map packet_facts c.in-Ok-packets_of.packets.items ≡ map packet_asked asked =
+    c.in-Ok-packets_of.ensures ∙ ap (λ (them : List AskedPacket). map packet_asked (map asked_facts them)) c.deref.ensures.value in
+    let judged : map packet_facts c.deref-2.result.now ≡ map packet_asked asked = ap (map packet_facts) c.deref-2.ensures.value ∙ listed in
+    let shown : map packet_facts c.deref-3.result.now ≡ map packet_asked asked = ap (map packet_facts) c.deref-3.ensures.value ∙ listed in
+    let count : c.len.result ≡ length verdicts = search rules in
+    let run_is : run_facts c.run_of-run.result ≡ answer_facts policy text asked verdicts =
+    c.run_of-run.ensures.told ∙ ap (λ (ps : List PacketFacts). told_run policy text ps c.deref-4.result.now c.len.result) shown
+    ∙ ap (λ (vs : List Verdict). told_run policy text (map packet_asked asked) vs c.len.result) c.deref-4.ensures.value
+    ∙ ap (λ (n : ℕ). told_run policy text (map packet_asked asked) verdicts n) count in
+    let text_is : c.run_of-run.result.text.now ≡ text = ap (λ (r : RunFacts). r.text) c.run_of-run.ensures.told in
+    let policy_is : policy_facts c.run_of-run.result.policy.now ≡ policy = ap (λ (r : RunFacts). r.policy) c.run_of-run.ensures.told in
+    let says = subst (λ (t : List ℕ). IsPolicyText t (policy_facts c.run_of-run.result.policy.now)) (sym text_is)
+    (subst (λ (p : PolicyFacts). IsPolicyText text p) (sym policy_is) c.in-Ok.ensures.ok) in
+    record {
+      policy = policy;
+      says = c.in-Ok.ensures.ok;
+      asked = asked;
+      are = c.in-Ok-asked_in.ensures.ok;
+      times = c.default_times.result;
+      lives = c.default_times.ensures;
+      verdicts = verdicts;
+      by_one_thread = λ pages. subst (λ (ps : List PacketFacts). AreVerdicts (layout_of four.ghosts six.ghosts) c.default_times.result policy ps verdicts) judged
+          (c.in-Ok-verdicts_on.ensures.ok pages);
+      lines = c.in-Ok-write_answers.ensures.0;
+      told = subst (λ (r : RunFacts). AreAnswers c.args.ask.now.explained r c.in-Ok-write_answers.ensures.0) run_is (c.in-Ok-write_answers.ensures.1 says);
+      behind = c.in-Ok-write_answers.ensures.2.whole;
+      counted = c.in-Ok-write_answers.ensures.2.counted ∙ ap (λ (r : RunFacts). totals_of r.verdicts r.captures) run_is;
+    }

@@ -1,0 +1,46 @@
+-- The words `ask POLICY PACKET ..`, perhaps with `--explain` behind `ask` (this project's profile).
+use Rattle.std.specs.Prelude.{ℕ, Bool, true, false, List, [], ◌∷◌, codes, map, if◌then◌else◌}
+use Rattle.std.specs.Borrow.{Bor}
+use Rattle.std.specs.Str.{bytes_eq}
+use Rattle.packet_questions.specs.declared.ask_words.AskedAbout.{AskedAbout}
+use Rattle.packet_questions.specs.declared.ask_words.AskedAbout.TheVariants as code
+
+-- the texts behind references
+abbrev pub texts : List (Bor (List ℕ)) → List (List ℕ)
+texts = map (λ t. t.now)
+
+-- the policy's file, the packets' texts, and whether lines are explained
+pub record AskFacts : Type 0 where
+  pub explained : Bool
+  pub policy : List ℕ
+  pub packets : List (List ℕ)
+
+-- what words ask: nothing of packets, that but not how it is written, or this
+pub data Asks : Type 0 where
+  Nothing : Asks
+  Unclear : Asks
+  These : AskFacts → Asks
+
+abbrev pub ask_facts : AskedAbout → Asks
+ask_facts code.Nothing = Nothing
+ask_facts code.Unclear = Unclear
+ask_facts (code.These ask) = These (record { explained = ask.explained; policy = ask.policy.now; packets = texts ask.packets.now })
+
+-- a policy and a packet, at least
+abbrev pub asked_by : Bool → List (List ℕ) → Asks
+asked_by explained [] = Unclear
+asked_by explained (policy ∷ []) = Unclear
+asked_by explained (policy ∷ packet ∷ packets) = These (record { explained = explained; policy = policy; packets = packet ∷ packets })
+
+abbrev pub behind_ask : List (List ℕ) → Asks
+behind_ask [] = Unclear
+behind_ask (word ∷ words) = if bytes_eq word (codes "--explain") then asked_by true words else asked_by false (word ∷ words)
+
+abbrev pub asks_by : List ℕ → List (List ℕ) → Asks
+asks_by word words = if bytes_eq word (codes "ask") then behind_ask words else Nothing
+
+-- what the program's words ask, of which the first is its name
+abbrev pub asks_of : List (List ℕ) → Asks
+asks_of [] = Nothing
+asks_of (program ∷ []) = Nothing
+asks_of (program ∷ word ∷ words) = asks_by word words

@@ -1,0 +1,12 @@
+pub mod Expansions
+pub mod Families
+pub mod FirstMatch
+pub mod Lists
+pub mod Meaning
+pub mod Sources
+pub mod Texts
+pub mod ToldExpansions
+pub mod Visible
+pub mod Written
+pub mod WrittenLines
+pub mod inner

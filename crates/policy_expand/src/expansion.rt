@@ -1,0 +1,108 @@
+//! The plain policy that written lines stand for.
+ghost use Rattle.std.specs.Prelude.{◌≡◌, ◌++◌, ◌∷◌, [], List, ℕ, IfOk, IsTrue, OnOk, map};
+ghost use Rattle.policy_expand.specs.Expansions.{IsExpansion, IsLineExpanded};
+ghost use Rattle.policy_expand.specs.Meaning.{MatchAlike};
+ghost use Rattle.policy_expand.specs.Sources.{line_text};
+ghost use Rattle.policy_expand.specs.Written.{LineWritten, list_words};
+ghost use Rattle.policy_expand.specs.WrittenLines.{line_written};
+ghost use Rattle.policy_expand.specs.inner.Rows;
+ghost use Rattle.policy_expand.specs.declared.visible_word.Word.{Word};
+
+use crate::named_set::NamedSet;
+use crate::plain_text::{mark_of, push_plain_lines};
+use crate::rows_of_rule::rule_rows;
+use crate::source_line::SourceLine;
+use crate::visible_word::WordList;
+use crate::word_reading::words_of_written_line;
+use crate::written::Written;
+use crate::written_fault::{LineFault, WrittenReason, wrong};
+use crate::written_line::read_written_words;
+use std::alloc::{AllocError, Global};
+
+/// A plain policy, and where its lines were written.
+#[derive(Drop)]
+pub struct Expansion {
+    pub text: Vec<u8>,
+    /// For each line the place of the written one among all, from 0.
+    pub origins: Vec<usize>,
+}
+
+/// Why lines stand for no plain policy: what is the matter with the one at this place among them, from 0.
+#[derive(Clone, Copy)]
+pub struct ExpansionFault<'a> {
+    pub place: usize,
+    pub fault: LineFault<'a>,
+}
+
+// The plain lines that a written one stands for, each as its words.
+fn plain_rows<'a>(alloc: Global, written: Written<'a>) -> Result<Vec<WordList<'a>>, LineFault<'a>>
+    ensures { IfOk result (λ rows. Rows.line_rows (line_written written.entry) ≡ map list_words rows.items) }
+{
+    match written {
+        Written::Nothing => Ok(Vec::new(alloc)),
+        Written::Plain(list) => {
+            let mut rows = Vec::new(alloc);
+            rows.push(list)?;
+            Ok(rows)
+        }
+        Written::Rule(rule) => {
+            let rows = rule_rows(alloc, &rule)?;
+            if rows.is_empty() {
+                return Err(wrong(WrittenReason::NoFamily, b""));
+            }
+            Ok(rows)
+        }
+    }
+}
+
+// Adds the plain lines of a written one, and the set that it names.
+fn expand_line<'a>(
+    alloc: Global,
+    sets: &mut Vec<NamedSet<'a>>,
+    line: &SourceLine<'a>,
+    text: &mut Vec<u8>,
+) -> Result<usize, LineFault<'a>>
+    ensures { OnOk result ((written : LineWritten) × (rows : List (List Word)) × (added : List ℕ)
+        × (text.new.items ≡ text.old.items ++ added)
+        × IsLineExpanded sets.old.items (line_text line.now) sets.new.items written rows added) }
+{
+    let words = words_of_written_line(alloc, line.text)?;
+    let written = read_written_words(alloc, sets, words)?;
+    let rows = plain_rows(alloc, written)?;
+    let mark = mark_of(alloc, line)?;
+    push_plain_lines(text, rows.as_slice(), &mark)?;
+    Ok(rows.len())
+}
+
+// Notes the place of a written line for each plain line that it adds.
+fn push_origins(origins: &mut Vec<usize>, place: usize, count: usize) -> Result<(), AllocError> {
+    for _ in 0..count {
+        origins.push(place)?;
+    }
+    Ok(())
+}
+
+/// The plain policy that lines stand for. No clause says that a fault is right.
+pub fn expanded<'a>(
+    alloc: Global,
+    lines: &[SourceLine<'a>],
+) -> Result<Expansion, ExpansionFault<'a>>
+    ensures { IfOk result (λ expansion. IsExpansion (map line_text lines.now) expansion.text.items) }
+{
+    let mut sets = Vec::new(alloc);
+    let mut text = Vec::new(alloc);
+    let mut origins = Vec::new(alloc);
+    for place in 0..lines.len() {
+        let count = match expand_line(alloc, &mut sets, &lines[place], &mut text) {
+            Ok(count) => count,
+            Err(fault) => return Err(ExpansionFault { place, fault }),
+        };
+        if push_origins(&mut origins, place, count).is_err() {
+            return Err(ExpansionFault {
+                place,
+                fault: LineFault::Memory,
+            });
+        }
+    }
+    Ok(Expansion { text, origins })
+}

@@ -1,0 +1,61 @@
+//! Why a written line is wrong, before a plain line is made of it.
+ghost use Rattle.std.specs.Prelude.{◌≡◌};
+
+use std::alloc::{AllocError, AllocFailed};
+use thiserror::Error;
+
+/// What is the matter with a written line. It is said of a word of it; `Missing`, `NoFamily` and `TooMany` are said of none.
+#[derive(Clone, Copy, Debug, PartialEq, Eq, Error)]
+pub enum WrittenReason {
+    #[error("has a byte that is no visible ASCII")]
+    Unseen,
+    #[error("names no set of a line before: set NAME WORD ..")]
+    NoSet,
+    #[error("names a set that is there already")]
+    SecondSet,
+    #[error("is no name of a set: it has a comma or @")]
+    NoName,
+    #[error("has a comma without a word on one side")]
+    EmptyPiece,
+    #[error("ends too early")]
+    Missing,
+    #[error("stands for no rule: no family has an address of each side")]
+    NoFamily,
+    #[error("stands for more than 4096 rules of a family")]
+    TooMany,
+}
+
+/// Why no plain lines are made of a written one.
+#[derive(Clone, Copy)]
+pub enum LineFault<'a> {
+    Memory,
+    /// The reason, and the word of which it is said: of none where that is empty.
+    Wrong(WrittenReason, &'a [u8]),
+}
+
+/// A written line is wrong for this reason, which is said of this word.
+pub fn wrong(reason: WrittenReason, word: &[u8]) -> LineFault<'_> {
+    LineFault::Wrong(reason, word)
+}
+
+impl<'a, T: Drop> From<AllocFailed<T>> for LineFault<'a> {
+    ghost use Rattle.policy_expand.specs.declared.written_fault.LineFault.TheVariants.{Memory};
+    ghost use Rattle.std.specs.Prelude.{◌≡◌};
+
+    ghost from_gives = { λ _ fault. fault ≡ Memory };
+
+    fn from(_failed: AllocFailed<T>) -> LineFault<'a> {
+        LineFault::Memory
+    }
+}
+
+impl<'a> From<AllocError> for LineFault<'a> {
+    ghost use Rattle.policy_expand.specs.declared.written_fault.LineFault.TheVariants.{Memory};
+    ghost use Rattle.std.specs.Prelude.{◌≡◌};
+
+    ghost from_gives = { λ _ fault. fault ≡ Memory };
+
+    fn from(_failed: AllocError) -> LineFault<'a> {
+        LineFault::Memory
+    }
+}

@@ -1,0 +1,32 @@
+use Rattle.std.proofs.Common.{◌∙◌, ◌++◌, ◌-◌, ℕ, List, ap, flat_map, subst, sym}
+use Rattle.racl_views.specs.Hits.{hit_told, live_stored, reason_hits, rule_hits, session_hits}
+use Rattle.racl_views.specs.RuleLines.{AreRules}
+use Rattle.racl_views.specs.Stored.{stored_facts}
+use Rattle.acl_policy.specs.Policies.{IsPolicyText}
+use Rattle.racl_views.specs.declared.hit.Hit.{Hit}
+use Rattle.racl_views.specs.declared.rule_name.RuleLine.{RuleLine}
+use Rattle.racl_views.specs.declared.session_counts.SessionCounts.{SessionCounts}
+use Rattle.racl_views.proofs.hits_as_text_and_json.counted_hits_text.Goals as goal
+
+pub returns : goal.returns
+returns c = λ run text says have.
+    let told : List Hit → List ℕ = flat_map (hit_told c.args.view) in
+    let others = reason_hits run.verdicts in
+    let stored = stored_facts c.args.stored.now in
+    let hits = c.in_ok-hits.ensures have.rules run.verdicts have.counted have.reasons
+    ∙ ap (λ (rules : List RuleLine). rule_hits have.rules rules ++ (others ++ session_hits c.count_sessions-sessions.result)) c.deref.ensures.value
+    ∙ ap (λ (sessions : SessionCounts). rule_hits have.rules c.in_ok-rules.rules.items ++ (others ++ session_hits sessions))
+    (c.count_sessions-sessions.ensures
+    ∙ (λ i. record {
+      entered = have.entered i;
+      matched = have.reasons.session i;
+      expired = have.entered i - live_stored c.args.times (have.latest i) stored;
+    })) in
+    record {
+      rules = c.in_ok-rules.rules.items;
+      lines = subst (λ (t : List ℕ). AreRules t c.in_ok-rules.rules.items) (sym text)
+          (c.in_ok-rules.ensures run.policy (subst (λ (t : List ℕ). IsPolicyText t run.policy) text says));
+      deciding = have.rules;
+      decided = have.decided;
+      all = c.in_ok-told.ensures ∙ ap told (c.deref-2.ensures.value ∙ hits);
+    }

@@ -1,0 +1,14 @@
+-- Sessions that are counted by counts of packets.
+use Rattle.std.specs.Prelude.{◌-◌}
+use Rattle.session_state.specs.declared.timeouts.Timeouts.{Timeouts}
+use Rattle.racl_views.specs.Hits.{live_stored}
+use Rattle.racl_views.specs.Stored.{StoredFacts}
+use Rattle.racl_views.specs.declared.hit_counts.HitCounts.{HitCounts}
+use Rattle.racl_views.specs.declared.session_counts.SessionCounts.{SessionCounts}
+
+abbrev pub sessions_by : Timeouts → HitCounts → StoredFacts → SessionCounts
+sessions_by times counts stored = record {
+  entered = counts.entered;
+  matched = counts.reasons.session;
+  expired = counts.entered - live_stored times counts.latest stored;
+}
