@@ -8,7 +8,7 @@ ghost use Rattle.racl_options.specs.Diffs;
 ghost use Rattle.racl_options.specs.Diffs.{AskForDiff, IsDiff, RefusesDiff, names_of, racl_diff, unnamed_diff};
 ghost use Rattle.racl_options.specs.declared.settings.TableSize.TheVariants.{Standard};
 
-use crate::diff_files::DiffFiles;
+use crate::files_of_diff::DiffFiles;
 use crate::settings::{Lines, Options, TableSize};
 use clap::error::ErrorKind;
 use clap::{Arg, ArgAction, Command, Error};
