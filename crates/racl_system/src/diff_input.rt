@@ -7,11 +7,11 @@ ghost use Rattle.racl_system.specs.Readers.{left_in};
 use crate::live_files::live_policy_text;
 use crate::named_reader::{Reader, opened_or_told};
 use crate::say_and_answer_status::say_fault;
-use crate::say_policy_remarks::say_unlooked;
+use crate::say_policy_remarks::{Seen, say_unlooked};
 use crate::system_files::SystemFiles;
 use racl_io::Fault;
 use racl_options::DiffFiles;
-use racl_report::{Remark, remark};
+use racl_report::{Remark, remark, shown_name};
 use std::alloc::Global;
 use std::io;
 use std::io::Eprint;
@@ -53,8 +53,12 @@ pub fn opened_diff<S: SystemFiles + Eprint>(
         Ok(None) => return Ok(Err(4)),
         Err(error) => return Err(error),
     };
-    say_unlooked(system, alloc, files.before, before.as_slice());
-    say_unlooked(system, alloc, files.after, after.as_slice());
+    let seen = Seen {
+        interface: 0,
+        front: &[],
+    };
+    say_unlooked(system, alloc, files.before, before.as_slice(), &[seen]);
+    say_unlooked(system, alloc, files.after, after.as_slice(), &[seen]);
     Ok(Ok(DiffInput {
         before,
         after,
@@ -70,7 +74,8 @@ pub fn say_policy_fault(system: &impl Eprint, name: &str, fault: Fault) -> io::R
         Ok(status) => status,
         Err(error) => return Err(error),
     };
-    match system.eprintln(format_args!("racl: that is {name}")) {
+    let shown = shown_name(name);
+    match system.eprintln(format_args!("racl: that is {shown}")) {
         Ok(()) => Ok(status),
         Err(error) => Err(error),
     }
