@@ -79,7 +79,8 @@ class Diff(Case):
     @each((it[0], *it[1:]) for it in OTHERS)
     def other_files(self, front, fault, said):
         """A file that is no capture is told for what it is."""
-        self.compare(self.run_on(NAMES, NAMES, front), wanted(b"", f"racl: {fault}\nracl: - is {said}\n", 1))
+        second = f"racl: - is {said}\n" if said else ""
+        self.compare(self.run_on(NAMES, NAMES, front), wanted(b"", f"racl: {fault}\n{second}", 1))
 
     def test_words(self):
         for words, status in ((["diff"], 2), (["diff", "-", "-", "-"], 2), (["diff", "/nowhere", "-", "/dev/null"], 4), (["diff", "--help"], 0)):

@@ -4,13 +4,13 @@ ghost use Rattle.racl_io.specs.Inputs.{most_bytes};
 ghost use Rattle.racl_report.specs.Statuses.{status_of_fault};
 ghost use Rattle.racl_system.specs.Readers.{left_in};
 
-use crate::live_files::live_policy_text;
-use crate::named_reader::{Reader, opened_or_told};
+use crate::live_files::{live_policy_text, opened_live};
+use crate::named_reader::Reader;
 use crate::say_and_answer_status::say_fault;
 use crate::say_policy_remarks::{Seen, say_unlooked};
 use crate::system_files::SystemFiles;
 use racl_io::Fault;
-use racl_options::DiffFiles;
+use racl_options::{DiffFiles, Files};
 use racl_report::{Remark, remark, shown_name};
 use std::alloc::Global;
 use std::io;
@@ -38,8 +38,12 @@ pub fn opened_diff<S: SystemFiles + Eprint>(
     ensures capture { IfOk result (λ found. IfOk found (λ opened.
         left_in S.Input.remaining S.File.remaining opened.capture ≡ S.named system.now files.now.capture.now)) }
 {
-    let before = match live_policy_text(system, alloc, files.before) {
-        Ok(Ok(text)) => text,
+    let named = Files {
+        policy: files.before,
+        capture: files.capture,
+    };
+    let opened = match opened_live(system, alloc, &named) {
+        Ok(Ok(opened)) => opened,
         Ok(Err(status)) => return Ok(Err(status)),
         Err(error) => return Err(error),
     };
@@ -48,21 +52,15 @@ pub fn opened_diff<S: SystemFiles + Eprint>(
         Ok(Err(status)) => return Ok(Err(status)),
         Err(error) => return Err(error),
     };
-    let capture = match opened_or_told(system, files.capture) {
-        Ok(Some(capture)) => capture,
-        Ok(None) => return Ok(Err(4)),
-        Err(error) => return Err(error),
-    };
     let seen = Seen {
         interface: 0,
         front: &[],
     };
-    say_unlooked(system, alloc, files.before, before.as_slice(), &[seen]);
     say_unlooked(system, alloc, files.after, after.as_slice(), &[seen]);
     Ok(Ok(DiffInput {
-        before,
+        before: opened.text,
         after,
-        capture,
+        capture: opened.capture,
     }))
 }
 
