@@ -1,6 +1,6 @@
 """What the word `check` tells of policies."""
 from program.inputs import WRONG_LINES
-from support.captures import MOST_BYTES
+from support.captures import CAPTURE, MOST_BYTES, NAMES
 from support.cases import TOP, Case, each, names_in, wanted
 
 # Runs of the word `check`: name, words, standard input, what is told, what is said, and the status.
@@ -12,6 +12,15 @@ CHECKS = [
     ("check of a byte too many", ["check", "-"], b" " * (MOST_BYTES + 1), b"", "racl: input over 67108864 bytes\n", 1),
     ("check of as many bytes as may be", ["check", "-"], b" " * MOST_BYTES,
      b"remark: there is no rule, so each packet of IP is dropped\npolicy: rules 0 sections 1\n", "", 0),
+    ("check of a capture", ["check", "-"], CAPTURE + b"\xff",
+     b"line 1 is not UTF-8\nremark: the file is a capture; racl check takes a policy\nno policy: wrong lines 1\n", "", 1),
+    ("check of an input", ["check", "-"], NAMES + b"hex\n00\n",
+     b"line 3: `hex` begins no line: in, out, mac and interface do\nline 4: `00` begins no line: in, out, mac and interface do\n"
+     b"remark: the file is an input with its capture behind line 3; the policy is what stands before that line\nno policy: wrong lines 2\n",
+     "", 1),
+    *((f"check of {code}", ["check", "-"], mark + NAMES.decode().encode(code),
+       b"line 1 is not UTF-8\nremark: the file is UTF-16; a policy that is read is made by: iconv -f UTF-16 -t UTF-8 IN > OUT\n"
+       b"no policy: wrong lines 1\n", "", 1) for code, mark in (("UTF-16-LE", b"\xff\xfe"), ("UTF-16-BE", b"\xfe\xff"))),
     ("help of check", ["check", "--help"], b"", None, "", 0),
 ]
 

@@ -5,4 +5,5 @@ pub mod ReaderLemmas
 pub mod RemarkLemmas
 pub mod ShadowLemmas
 pub mod SortedLemmas
+pub mod TextKindLemmas
 pub mod WalkLemmas

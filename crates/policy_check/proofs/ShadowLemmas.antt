@@ -1,5 +1,6 @@
--- What one rule lets through is let through by another.
-use Rattle.std.proofs.Common.{◌≡◌, ◌≤◌, ℕ, ◌+◌, ◌-◌, ◌/◌, ◌^◌, bit_and, sym, ap, ◌∙◌, arith}
+-- What one rule lets through is let through by another, and which flags none lets through.
+use Rattle.std.proofs.Common.{◌≡◌, ◌≢◌, ◌≤◌, ℕ, ◌+◌, ◌-◌, ◌/◌, ◌^◌, bit_and, sym, ap, ◌∙◌, arith}
+use Rattle.std.specs.Int.Bits.{and_self}
 use Rattle.std.proofs.lemmas.Nat.{and_assoc, shr-shr}
 use Rattle.packet_view.specs.declared.tuple.Family.{Family}
 use Rattle.acl_policy.specs.Matching.{HoldsPrefix}
@@ -20,3 +21,8 @@ prefix_taken family earlier later address less within first second =
 pub flags_taken : (flags value mask first kept : ℕ) → bit_and mask kept ≡ kept → bit_and value kept ≡ first → bit_and flags mask ≡ value → bit_and flags kept ≡ first
 flags_taken flags value mask first kept more same has =
     ap (bit_and flags) (sym more) ∙ sym (and_assoc kept flags mask) ∙ ap (λ (n : ℕ). bit_and n kept) has ∙ same
+
+-- a value with bits outside the mask is that of no flags
+pub no_flags_match : (mask value : ℕ) → bit_and value mask ≢ value → (flags : ℕ) → bit_and flags mask ≢ value
+no_flags_match mask value outside flags = λ has.
+    outside (ap (λ (n : ℕ). bit_and n mask) (sym has) ∙ and_assoc mask flags mask ∙ ap (bit_and flags) (and_self mask) ∙ has)

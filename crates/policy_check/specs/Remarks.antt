@@ -3,12 +3,13 @@ use Rattle.std.specs.Prelude.{◌≡◌, ◌≢◌, ◌≤◌, ◌<◌, ◌⊎�
 use Rattle.packet_view.specs.Tuples.{TupleFacts}
 use Rattle.packet_view.specs.declared.tuple.Direction.{Direction}
 use Rattle.packet_view.specs.declared.tuple.Family.{Family}
+use Rattle.packet_view.specs.declared.tuple.Family.TheVariants.{V4}
 use Rattle.acl_policy.specs.Matching.{HoldsPrefix, Matches}
 use Rattle.acl_policy.specs.Policies.{PolicyFacts, SectionFacts, rules_of}
 use Rattle.acl_policy.specs.Rules.{RuleFacts}
 use Rattle.policy_words.specs.Widths.{width}
 use Rattle.policy_check.specs.declared.remark_kinds.Remark.{Remark}
-use Rattle.policy_check.specs.declared.remark_kinds.Remark.TheVariants.{NoMac, NoRule, Shadowed, SourceBits, DestBits}
+use Rattle.policy_check.specs.declared.remark_kinds.Remark.TheVariants.{NoMac, NoRule, Shadowed, SourceBits, DestBits, Mask, UnmatchedFlags}
 
 -- Each packet that the later rule matches is matched by the earlier one.
 abbrev pub TakesAll : RuleFacts → RuleFacts → Type 0
@@ -46,6 +47,20 @@ NoneCovers rules place later = (k : ℕ) → k < place → (other : RuleFacts) �
 abbrev pub HasBits : Family → ℕ × ℕ → Type 0
 HasBits family prefix = prefix.0 % 2 ^ (width family - prefix.1) ≢ 0
 
+-- An IPv4 address reads as the mask of a network with so many bits: these are set and all others aren't (RFC 950), or the
+-- other way round, as access lists of some routers have it.
+abbrev pub ReadsAsMask : ℕ → ℕ → Type 0
+ReadsAsMask address bits = (address ≡ 2 ^ 32 - 2 ^ (32 - bits)) ⊎ (address ≡ 2 ^ (32 - bits) - 1)
+
+-- The destination of a rule is one address that reads so, of a network with 8 to 31 bits.
+abbrev pub HasMaskAsDest : RuleFacts → ℕ → Type 0
+HasMaskAsDest rule bits =
+    (rule.family ≡ V4) × (rule.dest.1 ≡ 32) × (8 ≤ bits) × (bits < 32) × ReadsAsMask rule.dest.0 bits
+
+-- A rule of TCP whose flags no packet has.
+abbrev pub MatchesNoFlags : RuleFacts → Type 0
+MatchesNoFlags rule = (rule.proto ≡ 6) × ((flags : ℕ) → bit_and flags rule.mask ≢ rule.value)
+
 -- The rule at a place, counted from 0, is never the first that matches: the first before it that covers it takes all its
 -- packets.
 pub record IsShadowed (rules : List RuleFacts) (place first : ℕ) : Type 0 where
@@ -71,6 +86,12 @@ IsRuleRemark section direction place (SourceBits interface way number) =
 IsRuleRemark section direction place (DestBits interface way number) =
     (interface ≡ section.interface) × (way ≡ direction) × (number ≡ place + 1)
     × ((rule : RuleFacts) × (slice_get (rules_of direction section) place ≡ Some rule) × HasBits rule.family rule.dest)
+IsRuleRemark section direction place (Mask interface way number bits) =
+    (interface ≡ section.interface) × (way ≡ direction) × (number ≡ place + 1)
+    × ((rule : RuleFacts) × (slice_get (rules_of direction section) place ≡ Some rule) × HasMaskAsDest rule bits)
+IsRuleRemark section direction place (UnmatchedFlags interface way number) =
+    (interface ≡ section.interface) × (way ≡ direction) × (number ≡ place + 1)
+    × ((rule : RuleFacts) × (slice_get (rules_of direction section) place ≡ Some rule) × MatchesNoFlags rule)
 
 -- A section with rules for outbound packets and no own address, so that none of them is looked at.
 abbrev pub LacksMac : SectionFacts → Type 0

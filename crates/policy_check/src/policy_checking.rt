@@ -59,8 +59,8 @@ fn check_lines(alloc: Global, text: &str) -> Result<Checked<'_>, AllocError>
     Ok(Checked { complaints, policy })
 }
 
-// The check of a policy's text: the number of the line in which it stops being UTF-8, behind these bytes.
-fn line_in_checked_policy(bytes: &[u8]) -> u64
+/// The check of a policy's text: the number of the line behind these bytes, in which it stops being UTF-8 or a policy.
+pub fn line_in_checked_policy(bytes: &[u8]) -> u64
     ensures { result ≡ length (filter (λ b. b == 10) bytes.now) + 1 }
 {
     let mut count = 0;

@@ -51,7 +51,7 @@ pub enum Reason {
     /// It is, or ends with, a number over this one.
     #[error("is over {0}")]
     TooLarge(u16),
-    #[error("is no value and mask, two hexadecimal digits each, as 02/12")]
+    #[error("is no value and mask, two hexadecimal digits each, as 02/17")]
     NoFlags,
     #[error("is no Ethernet address, as 02:00:00:00:00:01")]
     NoMac,

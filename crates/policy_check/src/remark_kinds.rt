@@ -20,7 +20,18 @@ pub enum Remark {
     /// So has its destination.
     #[error("interface {0}: the destination of {way} rule {2} has bits behind its prefix, which aren't looked at", way = direction_in_remark(*.1))]
     DestBits(u8, Direction, u64),
+    /// Its destination is one address, which reads as the mask of a network with so many bits.
+    #[error("interface {0}: the destination of {way} rule {2} is one address, which reads as a mask; a network is written ADDRESS/{3}", way = direction_in_remark(*.1))]
+    Mask(u8, Direction, u64, u8),
+    /// No TCP flags are this rule's: its value has bits outside its mask.
+    #[error("interface {0}: {way} rule {2} matches no flags, since its value has bits outside its mask", way = direction_in_remark(*.1))]
+    UnmatchedFlags(u8, Direction, u64),
 }
+
+/// That a policy has no rule for the interface of a capture with this number.
+#[derive(Clone, Copy, Debug, PartialEq, Eq, Error)]
+#[error("interface {0} has no rule, so each of its packets of IP is dropped")]
+pub struct Unruled(pub u8);
 
 // The word that a remark has for the direction of its rule.
 fn direction_in_remark(direction: Direction) -> &'static str {

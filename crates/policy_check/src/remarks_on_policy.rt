@@ -1,13 +1,13 @@
 //! The remarks on a policy.
-ghost use Rattle.std.specs.Prelude.{◌≡◌, ◌≤◌, ◌<◌, ◌++◌, All, IfOk, IfSome, IsTrue, None, OnOk, Some, length, map, option_to_list, slice_get};
-ghost use Rattle.acl_policy.specs.Policies.{policy_facts, rules_of, section_facts};
+ghost use Rattle.std.specs.Prelude.{◌≡◌, ◌≤◌, ◌<◌, ◌++◌, All, IfOk, IfSome, IsTrue, None, OnOk, Some, false, length, map, option_to_list, slice_get};
+ghost use Rattle.acl_policy.specs.Policies.{policy_facts, rules_of, section_facts, section_of};
 ghost use Rattle.acl_policy.specs.Rules.{RuleFacts, rule_facts};
 ghost use Rattle.policy_words.specs.Widths.{width};
-ghost use Rattle.policy_check.specs.Remarks.{HasBits, HasNoRule, IsRemark, IsRuleRemark, IsSectionRemark, IsShadowed, LacksMac, NoneCovers};
+ghost use Rattle.policy_check.specs.Remarks.{HasBits, HasMaskAsDest, HasNoRule, IsRemark, IsRuleRemark, IsSectionRemark, IsShadowed, LacksMac, MatchesNoFlags, NoneCovers, ReadsAsMask};
 ghost use Rattle.policy_check.specs.declared.remark_kinds.Remark.TheVariants.{NoMac};
 ghost use Rattle.policy_check.specs.inner.Added.{Adds};
 
-use crate::remark_kinds::Remark;
+use crate::remark_kinds::{Remark, Unruled};
 use crate::shadowing_rules::takes_all;
 use acl_policy::{Policy, Rule, Section, width_of};
 use packet_view::{Direction, Family};
@@ -34,6 +34,14 @@ fn rules_for_remarks(section: &Section, direction: Direction) -> &[Rule]
         Direction::Inbound => section.inbound.as_slice(),
         Direction::Outbound => section.outbound.as_slice(),
     }
+}
+
+// The rule at this place of a direction of a section, on which remarks are made.
+fn rule_for_remarks(section: &Section, direction: Direction, place: usize) -> Rule
+    requires { place < length (rules_of direction (section_facts section.now)) }
+    ensures { slice_get (rules_of direction (section_facts section.now)) place ≡ Some (rule_facts result) }
+{
+    rules_for_remarks(section, direction)[place]
 }
 
 // The first rule before this one that covers it, by its place, for the remark that this one never decides.
@@ -70,7 +78,7 @@ fn source_bits(section: &Section, direction: Direction, place: usize) -> Option<
     requires { place < length (rules_of direction (section_facts section.now)) }
     ensures { IfSome result (IsRuleRemark (section_facts section.now) direction place) }
 {
-    let rule = rules_for_remarks(section, direction)[place];
+    let rule = rule_for_remarks(section, direction, place);
     if has_bits(rule.family, rule.source) {
         Some(Remark::SourceBits(section.interface, direction, place as u64 + 1))
     } else {
@@ -83,9 +91,66 @@ fn dest_bits(section: &Section, direction: Direction, place: usize) -> Option<Re
     requires { place < length (rules_of direction (section_facts section.now)) }
     ensures { IfSome result (IsRuleRemark (section_facts section.now) direction place) }
 {
-    let rule = rules_for_remarks(section, direction)[place];
+    let rule = rule_for_remarks(section, direction, place);
     if has_bits(rule.family, rule.dest) {
         Some(Remark::DestBits(section.interface, direction, place as u64 + 1))
+    } else {
+        None
+    }
+}
+
+// How many bits the network has of which an IPv4 address reads as the mask, where there is a remark on that.
+fn bits_of_mask(address: u128) -> Option<u8>
+    ensures { IfSome result (λ bits. (8 ≤ bits) × (bits < 32) × ReadsAsMask address bits) }
+{
+    for bits in 8..32u8 {
+        let hosts: u128 = 1 << (32 - bits);
+        if address == (1 << 32) - hosts || address == hosts - 1 {
+            return Some(bits);
+        }
+    }
+    None
+}
+
+// How many bits the mask has that is the destination of a rule, where there is a remark on that.
+fn mask_as_dest(rule: &Rule) -> Option<u8>
+    ensures { IfSome result (λ bits. HasMaskAsDest (rule_facts rule.now) bits) }
+{
+    if rule.family == Family::V4 && rule.dest.1 == 32 {
+        bits_of_mask(rule.dest.0)
+    } else {
+        None
+    }
+}
+
+// The remark on a rule of a policy that its destination reads as a mask.
+fn mask(section: &Section, direction: Direction, place: usize) -> Option<Remark>
+    requires { place < length (rules_of direction (section_facts section.now)) }
+    ensures { IfSome result (IsRuleRemark (section_facts section.now) direction place) }
+{
+    let rule = rule_for_remarks(section, direction, place);
+    let Some(bits) = mask_as_dest(&rule) else {
+        return None;
+    };
+    Some(Remark::Mask(section.interface, direction, place as u64 + 1, bits))
+}
+
+// Whether a rule of TCP has a value with bits outside its mask, on which there is a remark.
+#[tactic(auto, using(crate::proofs::ShadowLemmas::no_flags_match))]
+fn has_no_flags(rule: &Rule) -> bool
+    ensures { IsTrue result → MatchesNoFlags (rule_facts rule.now) }
+{
+    rule.proto == 6 && rule.value & rule.mask != rule.value
+}
+
+// The remark on a rule of a policy that it matches no flags.
+fn unmatched_flags(section: &Section, direction: Direction, place: usize) -> Option<Remark>
+    requires { place < length (rules_of direction (section_facts section.now)) }
+    ensures { IfSome result (IsRuleRemark (section_facts section.now) direction place) }
+{
+    let rule = rule_for_remarks(section, direction, place);
+    if has_no_flags(&rule) {
+        Some(Remark::UnmatchedFlags(section.interface, direction, place as u64 + 1))
     } else {
         None
     }
@@ -111,6 +176,8 @@ fn add_rules(
     for place in 0..rules_for_remarks(section, direction).len() {
         add(all, source_bits(section, direction, place))?;
         add(all, dest_bits(section, direction, place))?;
+        add(all, mask(section, direction, place))?;
+        add(all, unmatched_flags(section, direction, place))?;
         add(all, shadow(section, direction, place))?;
     }
     Ok(())
@@ -141,9 +208,21 @@ fn add_section(all: &mut Vec<Remark>, section: &Section) -> Result<(), AllocErro
 
 // Whether a section has no rule; where no section has one, that is the only remark on the policy.
 fn is_bare(section: &Section) -> bool
-    ensures { IsTrue result → HasNoRule (section_facts section.now) }
+    ensures yes { IsTrue result → HasNoRule (section_facts section.now) }
+    ensures no { result ≡ false → HasNoRule (section_facts section.now) → ⊥ }
 {
     section.inbound.is_empty() && section.outbound.is_empty()
+}
+
+/// The remark that a policy has no rule for the interface with this number; None where it has one.
+pub fn unruled(policy: &Policy, interface: u8) -> Option<Unruled>
+    ensures holds { IfSome result (λ told. (told.0 ≡ interface) × HasNoRule (section_of interface (policy_facts policy.now))) }
+    ensures none { result ≡ None → HasNoRule (section_of interface (policy_facts policy.now)) → ⊥ }
+{
+    match policy.section(interface) {
+        Some(section) if !is_bare(section) => None,
+        _ => Some(Unruled(interface)),
+    }
 }
 
 // Whether no section of a policy has a rule, which is then the only remark on it.

@@ -3,6 +3,7 @@ ghost use Rattle.std.specs.Prelude.{◌↔◌, IfOk, IsTrue};
 ghost use Rattle.acl_policy.specs.Policies.{IsPolicyText, PolicyFacts};
 
 use crate::complaint::{Checked, Complaint};
+use crate::kinds_of_other_texts::kind_of_other;
 use crate::policy_checking::check_policy;
 use crate::remark_kinds::Remark;
 use crate::remarks_on_policy::remarks_on;
@@ -86,14 +87,19 @@ fn push_told_policy(alloc: Global, out: &mut Vec<u8>, policy: &Policy) -> Result
     )
 }
 
-// Adds what the text of a check tells where there is no policy: each complaint, and then how many lines are wrong.
+// Adds what the check of this text tells where there is no policy: each complaint, what the text is where that is known, and
+// then how many lines are wrong.
 fn push_told_complaints(
     alloc: Global,
     out: &mut Vec<u8>,
+    text: &[u8],
     checked: &Checked<'_>,
 ) -> Result<(), AllocError> {
     for told in &checked.complaints {
         push_told_complaint(alloc, out, told)?;
+    }
+    if let Some(kind) = kind_of_other(text) {
+        push_told_text(out, format!(in alloc; "remark: {kind}\n")?.as_str())?;
     }
     let lines = checked.complaints.len();
     push_told_text(
@@ -113,7 +119,7 @@ pub fn tell(alloc: Global, text: &[u8]) -> Result<Told, AllocError>
     if is_policy {
         push_told_policy(alloc, &mut out, &checked.policy)?;
     } else {
-        push_told_complaints(alloc, &mut out, &checked)?;
+        push_told_complaints(alloc, &mut out, text, &checked)?;
     }
     Ok(Told {
         text: out,

@@ -12,4 +12,6 @@ loop-place-preserved c =
     let place = c.loop-place.place in
     let first = Adds-rule section c.args.direction place _ _ _ c.source_bits.result c.loop-place.invariant c.source_bits.ensures c.in_ok-add.ensures in
     let second = Adds-rule section c.args.direction place _ _ _ c.dest_bits.result first c.dest_bits.ensures c.in_ok-add-2.ensures in
-    Adds-rule section c.args.direction place _ _ _ c.shadow.result second c.shadow.ensures c.in_ok-add-3.ensures
+    let third = Adds-rule section c.args.direction place _ _ _ c.mask.result second c.mask.ensures c.in_ok-add-3.ensures in
+    let fourth = Adds-rule section c.args.direction place _ _ _ c.unmatched_flags.result third c.unmatched_flags.ensures c.in_ok-add-4.ensures in
+    Adds-rule section c.args.direction place _ _ _ c.shadow.result fourth c.shadow.ensures c.in_ok-add-5.ensures

@@ -11,7 +11,7 @@ pub loop-section-preserved : goal.loop-section-preserved
 loop-section-preserved c =
     let P = λ (s : Section). HasNoRule (section_facts s) in
     All-more P c.deref-section-items.result.now c.loop-section.section-index c.section-item.result c.loop-section-test.true c.loop-section.invariant
-    (subst P c.section-item.is (c.is_bare.ensures c.if-not-is_bare.false))
+    (subst P c.section-item.is (c.is_bare.ensures.yes c.if-not-is_bare.false))
 
 pub returns : goal.returns
 returns c = λ yes.
