@@ -52,7 +52,8 @@ class Files(Case):
     def test_report_to_a_full_device(self):
         files = [self.hold("policy", NAMES), self.hold("capture", CAPTURE)]
         with open("/dev/full", "wb") as full:
-            self.compare(self.program.run(files, stdout=full), {"stderr": b"racl: write failed\n", "status": 4})
+            told = b"racl: write failed\nracl: standard output: No space left on device (os error 28)\n"
+            self.compare(self.program.run(files, stdout=full), {"stderr": told, "status": 4})
 
     def test_missing_file_and_folder(self):
         policy, capture = self.hold("policy", NAMES), self.hold("capture", CAPTURE)
@@ -67,11 +68,11 @@ class Files(Case):
 
     def test_captures_put_together(self):
         late = header() + udp(1_700_000_000, True, (1, 1000), (2, 53))
-        self.compare(self.run_on(NAMES, late * 2), wanted(stderr=f"racl: record 3 is too long\n{PUT_TOGETHER}", status=1))
+        self.compare(self.run_on(NAMES, late * 2), wanted(stderr=f"racl: record 3 is too long\nracl: that is {self.capture}\n{PUT_TOGETHER}", status=1))
 
     def test_first_record_that_is_too_long(self):
         got = self.run_on(NAMES, header() + record(1, b"", MOST_KEPT + 1))
-        self.compare(got, wanted(stderr="racl: record 1 is too long\n", status=1))
+        self.compare(got, wanted(stderr=f"racl: record 1 is too long\nracl: that is {self.capture}\n", status=1))
 
     @each((f"{name} as the policy", name, data) for name, data in [("pcap", CAPTURE), *((it[0], it[1]) for it in OTHERS)])
     def swapped(self, name, data):
@@ -91,6 +92,25 @@ class Files(Case):
         unlooked = (f"racl: {self.policy}: interface {it} has no mac line, so none of its out rules is looked at\n" for it in (0, 7))
         self.compare(got, wanted(DEFAULTS, "".join(unlooked)))
 
+    def test_interfaces_without_rules(self):
+        files = [self.hold("policy", b"mac 02:00:00:00:00:01\ninterface 2\n" + NAMES), self.hold("capture", CAPTURE)]
+        unruled = "racl: %s: interface %d has no rule, so each of its packets of IP is dropped\n"
+        self.compare(self.program.run(files), wanted(DEFAULTS, unruled % (self.policy, 0)), "one capture")
+        names = [f"--interface={it}={self.capture}" for it in (7, 2)]
+        got = self.program.run([files[0], "--summary", *names])
+        self.compare({"stderr": got["stderr"]}, {"stderr": (unruled % (self.policy, 7)).encode()}, "interfaces")
+
+    def test_names_that_terminals_obey(self):
+        policy, name = self.hold("policy", NAMES), self.folder + "/\x1b[31m\u00fc"
+        shown = self.folder + "/\\x1b[31m\\xc3\\xbc"
+        told = f"racl: {shown}: No such file or directory (os error 2)\n"
+        self.compare(self.program.run([policy, name]), wanted(stderr=told, status=4), "no file")
+        with open(name, "wb") as file:
+            file.write(b"pcap")
+        self.compare(self.program.run([policy, name]), wanted(stderr=f"racl: capture header is short\nracl: that is {shown}\n", status=1))
+        told = f"racl: {shown}: the same file as {shown}, which is read\n"
+        self.compare(self.program.run(["--drops", name, policy, name]), wanted(stderr=told, status=2), "saved")
+
     def test_frames_of_other_stations(self):
         foreign = f"racl: {self.policy}: none of the first frames of interface 0 is from or to the address of its mac line\n"
         self.compare(self.run_on(NAMES.replace(b":01", b":09"), CAPTURE), wanted(DEFAULTS, foreign))
@@ -106,6 +126,6 @@ class Files(Case):
     @each(OTHERS)
     def others(self, data, fault, said):
         """Captures that are refused for what they are, which is said of files alone."""
-        second = f"racl: {self.capture} is {said}\n" if said else ""
+        second = f"racl: {self.capture} is {said}\n" if said else f"racl: that is {self.capture}\n"
         self.compare(self.run_on(NAMES, data), wanted(stderr=f"racl: {fault}\n{second}", status=1), "files")
         self.compare(self.program.run([], NAMES + b"pcap\n" + data), wanted(stderr=f"racl: {fault}\n", status=1), "standard input")

@@ -10,7 +10,7 @@ CAPTURES = [
     ("an interface twice", [*TWO, (1, CAPTURE)]), ("a cut capture first", [(7, CAPTURE[:-1]), *TWO]),
     ("an empty capture", [(255, b""), *TWO], 0), ("many interfaces", [(it, CAPTURE) for it in range(255, -1, -1)]),
     ("a wrong capture last", [*TWO, (0, CAPTURE[:20] + bytes(4) + CAPTURE[24:])], 2),
-    ("a long record", [*TWO, (9, header() + LONG), (3, header() + LONG)], 2), ("of one interface", [(1, b"")]),
+    ("a long record", [*TWO, (9, header() + LONG), (3, header() + LONG)], 2), ("of one interface", [(1, b"")], 0),
     ("many bytes", [(0, CAPTURE + record(1, bytes(200_000)) * 50), (1, CAPTURE)]),
     ("too many bytes", [(0, header() + bytes(MOST_BYTES // 2)), (1, CAPTURE)]),
 ]
@@ -19,6 +19,18 @@ CAPTURES = [
 def glued(first, captures):
     """One input with the captures' digits."""
     return first + b"".join(b"\nhex %d\n%s" % (number, data.hex().encode()) for number, data in captures)
+
+
+def ruled(policy):
+    """The interfaces for which a policy has rules."""
+    numbers, at = set(), 0
+    for line in policy.decode().split("\n"):
+        word, *more = (line.partition("#")[0].split() or [""])
+        if word == "interface":
+            at = int(more[0])
+        elif word in ("in", "out"):
+            numbers.add(at)
+    return numbers
 
 
 class Interfaces(Case):
@@ -33,12 +45,19 @@ class Interfaces(Case):
     def that_is(self, place, number):
         return f"racl: that is {self.folder}/{place}, the capture of interface {number}\n"
 
+    def unruled(self, first, captures, policy=None):
+        """What is said behind a report of interfaces without rules."""
+        return "".join(f"racl: {policy or self.policy}: interface {it} has no rule, so each of its packets of IP is dropped\n"
+                       for it, _ in captures if it not in ruled(first)).encode()
+
     def compare_both(self, first, captures, faulty=None):
         self.hold("policy", first)
         for number in FEW_WORKERS:
             want = self.program.run(["--workers", number], glued(first, captures))
             if faulty is not None:
-                want["stderr"] += self.that_is(faulty, captures[faulty][0]).encode()
+                want["stderr"] += (self.that_is(faulty, captures[faulty][0]) if captures[1:] else f"racl: that is {self.folder}/0\n").encode()
+            if want["status"] in (0, 3):
+                want["stderr"] += self.unruled(first, captures)
             words = ["--workers", number, *self.words_of(captures), self.policy]
             self.compare(self.program.run(words), want, "policy last", f"{number} workers")
             words = [self.policy, *self.words_of(captures, True), "--workers", number]
@@ -62,8 +81,8 @@ class Interfaces(Case):
     def test_standard_input(self):
         words = self.words_of(TWO)
         want = self.program.run([], glued(NAMES, TWO))
-        self.compare(self.program.run([*words, "-"], NAMES), want, "the policy")
-        self.compare(self.program.run([*words[:2], "--interface", "2=-", self.policy], CAPTURE), want, "a capture")
+        for words, data, policy in (([*words, "-"], NAMES, "-"), ([*words[:2], "--interface", "2=-", self.policy], CAPTURE, self.policy)):
+            self.compare(self.program.run(words, data), {**want, "stderr": self.unruled(NAMES, TWO, policy)}, *words)
 
     def test_frames_of_other_stations(self):
         strange = NAMES + b"interface 2\n" + NAMES.replace(b":01", b":09")

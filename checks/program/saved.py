@@ -53,6 +53,22 @@ class Saved(Case):
         self.compare(got, wanted(stderr="racl: policy line 1 is wrong\n", status=1), "the run")
         self.compare({"is there": os.path.exists(self.drops)}, {"is there": False}, "the file")
 
+    def test_files_that_are_there(self):
+        """A file is replaced as a whole, with its permissions, behind a link; one of several names or in a folder that takes no other
+        file is written in place."""
+        older = self.hold("older", b"older")
+        os.chmod(older, 0o640)
+        os.symlink("older", f"{self.folder}/link")
+        before = os.stat(older).st_ino
+        self.compare(self.program.run(["--passes", f"{self.folder}/link", *self.files]), {"status": 0, "stderr": b""}, "the run")
+        self.compare({"capture": held(older), "mode": os.stat(older).st_mode & 0o777, "replaced": os.stat(older).st_ino != before,
+                      "there": sorted(os.listdir(self.folder))},
+                     {"capture": CAPTURE, "mode": 0o640, "replaced": True, "there": ["capture", "link", "older", "policy"]}, "behind a link")
+        self.hold("two", b"older")
+        os.link(f"{self.folder}/two", f"{self.folder}/names")
+        self.program.run(["--passes", f"{self.folder}/two", *self.files])
+        self.compare({"capture": held(f"{self.folder}/names")}, {"capture": CAPTURE}, "of two names")
+
     def test_file_that_cant_be_made(self):
         report = self.program.run(self.files)
         got = self.program.run(["--passes", f"{self.folder}/none/passes", *self.files])

@@ -64,7 +64,7 @@ class ShortWrites(Case):
         for code in (errno.EIO, errno.ENOSPC, errno.EDQUOT):
             got = self.program.run(self.words, env={**self.env, "FAILED_SYNC": str(code)})
             told = "".join(f"racl: {path}: {os.strerror(code)} (os error {code})\n" for path in (self.drops, self.passes))
-            self.compare({**got, **self.saved()}, {**wanted(self.report, told, 4), **self.chosen}, code)
+            self.compare({**got, **self.saved()}, {**wanted(self.report, told, 4), **self.nothing}, code)
 
     def test_nothing_to_be_synced(self):
         for code in (errno.EINVAL, errno.ENOTSUP):
@@ -72,6 +72,15 @@ class ShortWrites(Case):
             self.compare({**got, **self.saved()}, {**wanted(self.report), **self.chosen}, code)
         got = self.program.run(["--drops", "/dev/null", *self.words[4:]], env={**self.env, "FAILED_SYNC": str(errno.EIO)})
         self.compare(got, wanted(self.report), "a device")
+
+    def test_failures_leave_what_was_there(self):
+        older = {path: b"older" for path in self.nothing}
+        for path, data in older.items():
+            self.hold(os.path.basename(path), data)
+        before = sorted(os.listdir(self.folder))
+        got = self.program.run(self.words, env={**self.env, "FAILED_SYNC": str(errno.EIO)})
+        self.compare({"status": got["status"], "there": sorted(os.listdir(self.folder)), **self.saved()},
+                     {"status": 4, "there": before, **older})
 
     def test_full_device(self):
         got = self.program.run(["--passes", "/dev/full", *self.words[4:]])

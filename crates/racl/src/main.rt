@@ -105,6 +105,7 @@ fn run_main_program<T: Threads + Wait + Sync, R: Source + Send>(
     Ok(Some(Ran {
         outcome,
         is_closed: writer.inner.is_closed,
+        reason: writer.inner.reason,
     }))
 }
 

@@ -11,6 +11,6 @@ mod saved_packets;
 
 pub use asked_report::{needs_bytes, write_judged, write_plain};
 pub use judged_packets::Judged;
-pub use message_texts::{Ending, Hint, Message, Remark, Shortage, Unopened};
+pub use message_texts::{Ending, Hint, Message, Remark, Shortage, Unopened, shown_name};
 pub use program_ending::{ending, failure_ending, hint, remark, shortage, status, words_ending};
 pub use saved_packets::{Saves, save_packets};

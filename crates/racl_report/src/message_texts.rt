@@ -1,8 +1,20 @@
 //! What the program says where it makes no report.
+ghost use Rattle.std.specs.Prelude.{◌≡◌, []};
+ghost use Rattle.std.specs.Slice.Iter.{escape_ascii_current, escape_ascii_rest};
+ghost use Rattle.std.specs.Char.Iter.{escape_byte_rest};
 
 use racl_io::{Fault, Other};
 use std::io;
+use std::slice::EscapeAscii;
 use thiserror::Error;
+
+/// The name of a file as messages show it, so that nothing in it is one for a terminal: what is no visible ASCII stands as
+/// its number.
+pub fn shown_name<'a>(name: &'a str) -> EscapeAscii<'a>
+    ensures { (escape_ascii_rest result ≡ name.now) × (escape_byte_rest (escape_ascii_current result) ≡ []) }
+{
+    name.as_bytes().escape_ascii()
+}
 
 /// What is said on standard error: `racl: ` and the cause.
 #[derive(Clone, Copy, Debug, PartialEq, Eq, Error)]
@@ -25,7 +37,7 @@ pub struct Ending {
 
 /// A file that can't be opened.
 #[derive(Debug, Drop, Error)]
-#[error("racl: {name}: {reason}")]
+#[error("racl: {shown}: {reason}", shown = shown_name(.name))]
 pub struct Unopened<'a> {
     pub name: &'a str,
     pub reason: io::Error,
@@ -33,7 +45,7 @@ pub struct Unopened<'a> {
 
 /// What is said behind a fault of a capture file that isn't read for what it is.
 #[derive(Clone, Copy, Debug, PartialEq, Eq, Error)]
-#[error("racl: {name} is {other}")]
+#[error("racl: {shown} is {other}", shown = shown_name(.name))]
 pub struct Remark<'a> {
     pub name: &'a str,
     pub other: Other,

@@ -10,16 +10,18 @@ use crate::say_and_answer_status::say_ending;
 use crate::say_policy_remarks::{Seen, say_foreign, say_unlooked};
 use racl_io::{Fault, Joined, Totals};
 use racl_options::{Asked, Files, Options, Origin, TableSize};
-use racl_report::{Remark, ending, hint, remark, shortage};
+use racl_report::{Remark, ending, hint, remark, shortage, shown_name};
 use std::alloc::Global;
 use std::io;
 use std::io::{Eprint, Read};
 
-/// How a run ended, and whether the reader of what it wrote was gone.
+/// How a run ended, whether the reader of what it wrote was gone, and the number of the system's reason why it couldn't be
+/// written, where there is one.
 #[derive(Drop)]
 pub struct Ran {
     pub outcome: Result<Totals, Fault>,
     pub is_closed: bool,
+    pub reason: Option<i32>,
 }
 
 // The first bytes of a run's captures, for the notes on these, as far as there is memory for their list.
@@ -43,8 +45,7 @@ fn seen_at_run_end<'a, S: Read, F: Read>(
     seen
 }
 
-// Notes on a run that ended with a fault: says which capture has it, where there are several, and what it is where it
-// isn't read for that.
+// Notes on a run that ended with a fault: says which capture has it, and what it is where it isn't read for that.
 fn say_remark<S: Read, F: Read>(
     rt: &HostRuntime,
     alloc: Global,
@@ -66,10 +67,11 @@ fn say_remark<S: Read, F: Read>(
     {
         return rt.eprintln(&Remark { name, other });
     }
+    let shown = shown_name(name);
     if input_name_at(origin, 1).is_none() {
-        return Ok(());
+        return rt.eprintln(format_args!("racl: that is {shown}"));
     }
-    rt.eprintln(format_args!("racl: that is {name}, the capture of interface {interface}"))
+    rt.eprintln(format_args!("racl: that is {shown}, the capture of interface {interface}"))
 }
 
 // Says behind a report how many packets found no pages, where some did, and what helps. Where standard error fails, the
@@ -95,14 +97,9 @@ fn say_run_notes<S: Read, F: Read>(
     if outcome.is_ok() {
         let name = input_policy_name(origin);
         let text = policy.get_ref().as_slice();
-        say_unlooked(rt, alloc, name, text);
-        say_foreign(
-            rt,
-            alloc,
-            name,
-            text,
-            seen_at_run_end(alloc, origin, reader).as_slice(),
-        );
+        let seen = seen_at_run_end(alloc, origin, reader);
+        say_unlooked(rt, alloc, name, text, seen.as_slice());
+        say_foreign(rt, alloc, name, text, seen.as_slice());
     }
     if let Err(fault) = outcome {
         say_remark(rt, alloc, origin, reader, *fault)?;
@@ -112,6 +109,17 @@ fn say_run_notes<S: Read, F: Read>(
     }
     say_shortage(rt, outcome, asked.options.ages, asked.options.tables);
     Ok(())
+}
+
+// Says why a report on files couldn't be written, but that its reader was gone.
+fn say_unwritten(rt: &impl Eprint, ran: &Ran) -> io::Result<()> {
+    match ran.reason {
+        Some(number) if !ran.is_closed && matches!(ran.outcome, Err(Fault::Write)) => {
+            let reason = io::Error::from_raw_os_error(number);
+            rt.eprintln(format_args!("racl: standard output: {reason}"))
+        }
+        _ => Ok(()),
+    }
 }
 
 /// Says how a run ended, with notes on what is likely to be wrong with its files; and answers the status. No more is
@@ -135,6 +143,9 @@ pub fn say_end_of_run<S: Read, F: Read>(
         Ok(status) => status,
         Err(error) => return Err(error),
     };
+    if !matches!(asked.origin, Origin::Standard) {
+        say_unwritten(rt, ran)?;
+    }
     say_run_notes(rt, alloc, asked, &reader.source, &ran.outcome)?;
     Ok(status)
 }

@@ -3,6 +3,7 @@
 #![tactic(auto)]
 
 mod command_words;
+mod draft;
 mod end_of_run;
 mod faulty_capture;
 mod file_checking;

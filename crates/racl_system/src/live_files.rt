@@ -5,7 +5,7 @@ ghost use Rattle.racl_system.specs.Readers.{IsLiveStatus, left_in};
 
 use crate::named_reader::{Reader, bytes_of, opened_or_told};
 use crate::say_and_answer_status::say_fault;
-use crate::say_policy_remarks::say_unlooked;
+use crate::say_policy_remarks::{Seen, say_unlooked};
 use crate::system_files::SystemFiles;
 use racl_io::{Fault, MOST_BYTES};
 use racl_options::Files;
@@ -73,6 +73,10 @@ pub fn opened_live<S: SystemFiles + Eprint>(
         Ok(None) => return Ok(Err(4)),
         Err(error) => return Err(error),
     };
-    say_unlooked(system, alloc, files.policy, text.as_slice());
+    let seen = Seen {
+        interface: 0,
+        front: &[],
+    };
+    say_unlooked(system, alloc, files.policy, text.as_slice(), &[seen]);
     Ok(Ok(LiveFiles { text, capture }))
 }

@@ -12,8 +12,7 @@ use racl_report::{Saves, Unopened};
 use std::io;
 use std::io::{Eprint, Write};
 
-/// A file that is created at its first write, or emptied then: so nothing becomes of a file before there is something
-/// to write.
+/// A file that is created at its first write: so nothing becomes of a file before there is something to write.
 #[derive(Drop)]
 pub struct SaveFile<'a, S, F> {
     system: &'a S,
@@ -24,7 +23,7 @@ pub struct SaveFile<'a, S, F> {
 }
 
 // The file of this name, whatever that is: `-` is a file too.
-fn saved_to<'a, S: SystemFiles>(system: &'a S, name: &'a str) -> SaveFile<'a, S, S::File>
+fn saved_to<'a, S: SystemFiles>(system: &'a S, name: &'a str) -> SaveFile<'a, S, S::Save>
     ensures { IsUnwritten system.entry.now name.entry.now result }
 {
     SaveFile {
@@ -35,15 +34,15 @@ fn saved_to<'a, S: SystemFiles>(system: &'a S, name: &'a str) -> SaveFile<'a, S,
     }
 }
 
-impl<S: SystemFiles> SaveFile<'_, S, S::File> {
+impl<S: SystemFiles> SaveFile<'_, S, S::Save> {
     fn write_some(&mut self, buf: &[u8]) -> io::Result<usize>
         ensures bound { IfOk result (λ count. count ≤ length buf.now) }
-        ensures bytes { WriteAppends (saved_in S.emptied S.File.contents self.old) (saved_in S.emptied S.File.contents self.new) result buf.now }
+        ensures bytes { WriteAppends (saved_in S.emptied S.Save.contents self.old) (saved_in S.emptied S.Save.contents self.new) result buf.now }
     {
         match &mut self.file {
             Some(file) => file.write(buf),
             None => {
-                let mut file = match self.system.created_file(self.name) {
+                let mut file = match self.system.created_save(self.name) {
                     Ok(file) => file,
                     Err(reason) => return Err(reason),
                 };
@@ -58,7 +57,7 @@ impl<S: SystemFiles> SaveFile<'_, S, S::File> {
     // is tried again and goes through leaves none.
     fn write_or_keep_reason(&mut self, buf: &[u8]) -> io::Result<usize>
         ensures bound { IfOk result (λ count. count ≤ length buf.now) }
-        ensures bytes { WriteAppends (saved_in S.emptied S.File.contents self.old) (saved_in S.emptied S.File.contents self.new) result buf.now }
+        ensures bytes { WriteAppends (saved_in S.emptied S.Save.contents self.old) (saved_in S.emptied S.Save.contents self.new) result buf.now }
         ensures reason { is_some self.new.reason ≡ is_err result }
         ensures kind { IfErr result (λ error. IfSome self.new.reason (λ reason. error_kind error ≡ error_kind reason)) }
     {
@@ -75,27 +74,29 @@ impl<S: SystemFiles> SaveFile<'_, S, S::File> {
         }
     }
 
-    // Syncs what was written, where all was, and keeps the reason where that fails.
+    // Syncs what was written, where all was, so that it is the file of its name, and keeps the reason where that fails. What
+    // failed before is given up.
     fn settle(&mut self)
         ensures failed { IsTrue (is_some self.old.reason) → self.new ≡ self.old }
         ensures unopened { self.old.file ≡ None → self.new ≡ self.old }
-        ensures bytes { saved_in S.emptied S.File.contents self.new ≡ saved_in S.emptied S.File.contents self.old }
-        ensures synced { self.new.reason ≡ None → IsSynced S.synced S.File.contents self.new }
+        ensures bytes { saved_in S.emptied S.Save.contents self.new ≡ saved_in S.emptied S.Save.contents self.old }
+        ensures synced { self.new.reason ≡ None → IsSynced S.synced S.Save.contents self.new }
     {
-        if self.reason.is_some() {
-            return;
-        }
         let Some(file) = &mut self.file else {
             return;
         };
-        if let Err(reason) = S::sync(file) {
+        if self.reason.is_some() {
+            self.system.discard(file);
+            return;
+        }
+        if let Err(reason) = self.system.settle(file) {
             self.reason = Some(reason);
         }
     }
 }
 
-impl<S: SystemFiles> Write for SaveFile<'_, S, S::File> {
-    ghost contents = { λ s. saved_in S.emptied S.File.contents s };
+impl<S: SystemFiles> Write for SaveFile<'_, S, S::Save> {
+    ghost contents = { λ s. saved_in S.emptied S.Save.contents s };
 
     fn write(&mut self, buf: &[u8]) -> io::Result<usize> {
         self.write_or_keep_reason(buf)
@@ -110,7 +111,7 @@ impl<S: SystemFiles> Write for SaveFile<'_, S, S::File> {
 fn file_to<'a, S: SystemFiles>(
     system: &'a S,
     name: Option<&'a str>,
-) -> Option<Device<SaveFile<'a, S, S::File>>>
+) -> Option<Device<SaveFile<'a, S, S::Save>>>
     ensures named { IsSaveOf system.entry.now (text_behind name.entry) result }
     ensures sound { IfSome result (λ file. file.failures < 2 ^ 64 - 1) }
 {
@@ -124,7 +125,7 @@ fn file_to<'a, S: SystemFiles>(
 pub fn saves_to<'a, S: SystemFiles>(
     system: &'a S,
     saved: &Saved<'a>,
-) -> Saves<Device<SaveFile<'a, S, S::File>>>
+) -> Saves<Device<SaveFile<'a, S, S::Save>>>
     ensures drops { IsSaveOf system.entry.now (text_behind saved.now.drops) result.drops }
     ensures passes { IsSaveOf system.entry.now (text_behind saved.now.passes) result.passes }
     ensures sound { IfSome result.drops (λ file. file.failures < 2 ^ 64 - 1) × IfSome result.passes (λ file. file.failures < 2 ^ 64 - 1) }
@@ -137,11 +138,11 @@ pub fn saves_to<'a, S: SystemFiles>(
 
 // A file of a run that saved packets, synced as far as it was written.
 fn settled_file<'a, S: SystemFiles>(
-    file: Option<Device<SaveFile<'a, S, S::File>>>,
-) -> Option<Device<SaveFile<'a, S, S::File>>>
+    file: Option<Device<SaveFile<'a, S, S::Save>>>,
+) -> Option<Device<SaveFile<'a, S, S::Save>>>
     ensures failed { IsTrue (has_failed file.entry) → result ≡ file.entry }
-    ensures bytes { option_map (λ d. saved_in S.emptied S.File.contents d.inner) result ≡ option_map (λ d. saved_in S.emptied S.File.contents d.inner) file.entry }
-    ensures synced { IsLeftSynced S.synced S.File.contents result }
+    ensures bytes { option_map (λ d. saved_in S.emptied S.Save.contents d.inner) result ≡ option_map (λ d. saved_in S.emptied S.Save.contents d.inner) file.entry }
+    ensures synced { IsLeftSynced S.synced S.Save.contents result }
 {
     let Some(mut file) = file else {
         return None;
@@ -153,13 +154,13 @@ fn settled_file<'a, S: SystemFiles>(
 /// The files of a run that saved packets, synced as far as they were written: what fails then is a reason to be told. No
 /// clause says what the system does: `checks/run` looks at it.
 pub fn settled<'a, S: SystemFiles>(
-    saves: Saves<Device<SaveFile<'a, S, S::File>>>,
-) -> Saves<Device<SaveFile<'a, S, S::File>>>
+    saves: Saves<Device<SaveFile<'a, S, S::Save>>>,
+) -> Saves<Device<SaveFile<'a, S, S::Save>>>
     ensures drops { IsTrue (has_failed saves.entry.drops) → result.drops ≡ saves.entry.drops }
     ensures passes { IsTrue (has_failed saves.entry.passes) → result.passes ≡ saves.entry.passes }
-    ensures dropped { option_map (λ d. saved_in S.emptied S.File.contents d.inner) result.drops ≡ option_map (λ d. saved_in S.emptied S.File.contents d.inner) saves.entry.drops }
-    ensures passed { option_map (λ d. saved_in S.emptied S.File.contents d.inner) result.passes ≡ option_map (λ d. saved_in S.emptied S.File.contents d.inner) saves.entry.passes }
-    ensures synced { IsLeftSynced S.synced S.File.contents result.drops × IsLeftSynced S.synced S.File.contents result.passes }
+    ensures dropped { option_map (λ d. saved_in S.emptied S.Save.contents d.inner) result.drops ≡ option_map (λ d. saved_in S.emptied S.Save.contents d.inner) saves.entry.drops }
+    ensures passed { option_map (λ d. saved_in S.emptied S.Save.contents d.inner) result.passes ≡ option_map (λ d. saved_in S.emptied S.Save.contents d.inner) saves.entry.passes }
+    ensures synced { IsLeftSynced S.synced S.Save.contents result.drops × IsLeftSynced S.synced S.Save.contents result.passes }
 {
     let Saves { drops, passes } = saves;
     Saves {

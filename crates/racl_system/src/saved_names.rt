@@ -5,6 +5,7 @@ ghost use Rattle.racl_system.specs.Places;
 use crate::input_files::{input_name_at, input_policy_name};
 use crate::named_place::{Place, is_one_file, place_of};
 use racl_options::{Asked, Origin};
+use racl_report::shown_name;
 use std::alloc::Global;
 use std::io;
 
@@ -93,7 +94,8 @@ pub fn say_used_twice(rt: &HostRuntime, alloc: Global, asked: &Asked<'_>) -> io:
                 fate,
                 ..
             } = &used[first];
-            rt.eprintln(format_args!("racl: {name}: the same file as {other}, {fate}"))?;
+            let (shown, other) = (shown_name(name), shown_name(other));
+            rt.eprintln(format_args!("racl: {shown}: the same file as {other}, {fate}"))?;
             return Ok(Some(ONE_FILE_TWICE));
         }
         used.push(Used {

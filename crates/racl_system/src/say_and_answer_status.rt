@@ -8,6 +8,7 @@ ghost use Rattle.std.specs.IoError.{error_kind};
 use clap::Error;
 use racl_io::Fault;
 use racl_report::{Ending, ending, failure_ending, words_ending};
+use std::env::{Env, FillError};
 use std::io;
 use std::io::{Eprint, ErrorKind, Print};
 
@@ -42,13 +43,35 @@ pub fn say_refused(rt: &(impl Print + Eprint), error: &Error) -> io::Result<u8>
     say_ending(rt, &end)
 }
 
+/// The most words that are looked at for one that isn't UTF-8.
+const MOST_WORDS: usize = 1 << 20;
+
+// Says which word isn't UTF-8, where one is found that has at most 4096 bytes.
+fn say_broken_word(rt: &(impl Eprint + Env)) {
+    let mut room = [0u8; 4096];
+    for number in 1..MOST_WORDS {
+        match rt.arg(number, &mut room) {
+            Ok(length) if str::from_utf8(&room[..length]).is_err() => {
+                let word = room[..length].escape_ascii();
+                let _ = rt.eprintln(format_args!("racl: that is word {number}: {word}"));
+                return;
+            }
+            Ok(_) | Err(FillError::TooLong) => {}
+            Err(FillError::NotPresent) => return,
+        }
+    }
+}
+
 /// Says why the program ends where the words can't be had, or a text can't be printed, and answers the status.
-pub fn failure_status(rt: &impl Eprint, error: &io::Error) -> u8
+pub fn failure_status(rt: &(impl Eprint + Env), error: &io::Error) -> u8
     ensures word { error_kind error.now ≡ ErrorKind.InvalidData → result ≡ 2 }
     ensures other { error_kind error.now ≢ ErrorKind.InvalidData → result ≡ 4 }
 {
     let end = failure_ending(error);
     // Where standard error fails too, the status alone is left to tell.
     let _ = say_ending(rt, &end);
+    if error.kind() == ErrorKind::InvalidData {
+        say_broken_word(rt);
+    }
     end.status
 }

@@ -1,6 +1,7 @@
 //! What is said of a policy that is right, and unlikely to be meant.
 
-use policy_check::{Checked, check_policy, foreign_mac, no_mac};
+use policy_check::{Checked, check_policy, foreign_mac, no_mac, unruled};
+use racl_report::shown_name;
 use std::alloc::Global;
 use std::io::Eprint;
 
@@ -19,16 +20,23 @@ fn policy_for_remarks(alloc: Global, text: &[u8]) -> Option<Checked<'_>> {
     }
 }
 
-/// Says a remark on each section of the policy of this file whose `out` rules aren't looked at. Nothing is said of a
-/// text that is no policy, where memory runs out, or where standard error fails: the report stands. No clause can say
-/// what standard error gets: `checks/run` looks at it.
-pub fn say_unlooked(rt: &impl Eprint, alloc: Global, name: &str, text: &[u8]) {
+/// Says a remark on each section of the policy of this file whose `out` rules aren't looked at, and on each interface of a
+/// capture for which it has no rule. Nothing is said of a text that is no policy, where memory runs out, or where standard
+/// error fails: the report stands. No clause can say what standard error gets: `checks/run` looks at it.
+pub fn say_unlooked(rt: &impl Eprint, alloc: Global, name: &str, text: &[u8], seen: &[Seen<'_>]) {
     let Some(checked) = policy_for_remarks(alloc, text) else {
         return;
     };
     for section in &checked.policy.sections {
         if let Some(remark) = no_mac(section) {
-            let _ = rt.eprintln(format_args!("racl: {name}: {remark}"));
+            let shown = shown_name(name);
+            let _ = rt.eprintln(format_args!("racl: {shown}: {remark}"));
+        }
+    }
+    for capture in seen {
+        if let Some(remark) = unruled(&checked.policy, capture.interface) {
+            let shown = shown_name(name);
+            let _ = rt.eprintln(format_args!("racl: {shown}: {remark}"));
         }
     }
 }
@@ -45,7 +53,8 @@ pub fn say_foreign(rt: &impl Eprint, alloc: Global, name: &str, text: &[u8], see
                 continue;
             }
             if let Some(remark) = foreign_mac(section, capture.front) {
-                let _ = rt.eprintln(format_args!("racl: {name}: {remark}"));
+                let shown = shown_name(name);
+                let _ = rt.eprintln(format_args!("racl: {shown}: {remark}"));
             }
         }
     }

@@ -1,20 +1,14 @@
 //! The files that names lead to.
-ghost use Rattle.std.specs.Prelude.{◌≡◌, ℕ, List, Option, None, IfErr, IfOk, IsTrue, OnOk, ◌↔◌, false};
-ghost use Rattle.std.specs.IoError.{raw_os_error};
+ghost use Rattle.std.specs.Prelude.{◌≡◌, ℕ, List, Option, None, IfOk, IsTrue, OnOk, false};
 ghost use Rattle.racl_options.specs.Origins.{is_standard};
-ghost use Rattle.racl_system.specs.Syncs.{IsNeverSynced};
 
+use crate::draft::{Draft, created_draft};
 use std::fs::File;
 use std::io;
 use std::io::{IsTerminal, Read, Stdin, Stdout, Write};
 
 /// The number of the system's reason for what a folder refuses (Linux: EISDIR).
 const IS_A_DIRECTORY: i32 = 21;
-
-/// The numbers of the system's reasons where there is nothing to be synced (Linux: EINVAL, ENOTSUP).
-const INVALID: i32 = 22;
-
-const NOT_SUPPORTED: i32 = 95;
 
 /// What the program asks of a system that has files by names. Where these tell their bytes, so does all that stands on
 /// them. The operating system's don't: `checks/run` looks at what a name opens there.
@@ -23,16 +17,19 @@ pub trait SystemFiles {
 
     type Output: Write + Drop;
 
-    type File: Read + Write + Drop;
+    type File: Read + Drop;
+
+    /// A file that packets are saved in.
+    type Save: Write + Drop;
 
     /// The bytes that are read by a name, where they are known: of `-` those of standard input.
     ghost named: { Self → List ℕ → Option (List ℕ) };
 
-    /// The bytes that the file of a name has when it was created or emptied, where they are known.
+    /// The bytes that the file has that is to be the one of a name, before it is written, where they are known.
     ghost emptied: { Self → List ℕ → Option (List ℕ) };
 
     /// The bytes of a file that are on its device, where they are known.
-    ghost synced: { Self.File → Option (List ℕ) };
+    ghost synced: { Self.Save → Option (List ℕ) };
 
     fn standard_input(&self, name: &str) -> Self::Input
         requires { IsTrue (is_standard name.now) }
@@ -45,29 +42,18 @@ pub trait SystemFiles {
         requires { is_standard name.now ≡ false }
         ensures { IfOk result (λ file. Self.File.remaining file ≡ named self.now name.now) };
 
-    /// The file of a name, whatever that is, to be written: it is created, or emptied.
-    fn created_file(&self, name: &str) -> io::Result<Self::File>
-        ensures { IfOk result (λ file. Self.File.contents file ≡ emptied self.now name.now) };
+    /// A file that is to be the one of a name, whatever that is, to be written.
+    fn created_save(&self, name: &str) -> io::Result<Self::Save>
+        ensures { IfOk result (λ file. Self.Save.contents file ≡ emptied self.now name.now) };
 
-    /// Puts on its device what was written to a file, so that a write that was delayed and that failed is told.
-    fn sync(file: &mut Self::File) -> io::Result<()>
-        ensures bytes { Self.File.contents file.new ≡ Self.File.contents file.old }
-        ensures synced { OnOk result (synced file.new ≡ Self.File.contents file.new) };
-}
+    /// Puts on its device what was written to a file, so that a write that was delayed and that failed is told, and has it
+    /// be the file of its name.
+    fn settle(&self, file: &mut Self::Save) -> io::Result<()>
+        ensures bytes { Self.Save.contents file.new ≡ Self.Save.contents file.old }
+        ensures synced { OnOk result (synced file.new ≡ Self.Save.contents file.new) };
 
-// Whether the reason why a file can't be synced is that such a file never can.
-fn is_never_synced(reason: &io::Error) -> bool
-    ensures { IsTrue result ↔ IsNeverSynced (raw_os_error reason.now) }
-{
-    matches!(reason.raw_os_error(), Some(INVALID | NOT_SUPPORTED))
-}
-
-// Syncs a regular file; of others there is nothing to be synced.
-fn sync_regular(file: &File) -> io::Result<()> {
-    if file.metadata()?.is_file() {
-        return file.sync_all();
-    }
-    Ok(())
+    /// Gives up a file that failed.
+    fn discard(&self, file: &Self::Save);
 }
 
 impl SystemFiles for HostRuntime {
@@ -76,6 +62,8 @@ impl SystemFiles for HostRuntime {
     type Output = Stdout;
 
     type File = File;
+
+    type Save = Draft;
 
     ghost named = { λ _ _. None };
 
@@ -99,17 +87,16 @@ impl SystemFiles for HostRuntime {
         Ok(file)
     }
 
-    fn created_file(&self, name: &str) -> io::Result<File> {
-        File::create(self, name)
+    fn created_save(&self, name: &str) -> io::Result<Draft> {
+        created_draft(self, self.alloc(), name)
     }
 
     // The toolchain tells nothing of how closing ends.
-    fn sync(file: &mut File) -> io::Result<()>
-        ensures { IfErr result (λ reason. IsNeverSynced (raw_os_error reason) → ⊥) }
-    {
-        match sync_regular(file) {
-            Err(reason) if !is_never_synced(&reason) => Err(reason),
-            _ => Ok(()),
-        }
+    fn settle(&self, file: &mut Draft) -> io::Result<()> {
+        file.settle(self)
+    }
+
+    fn discard(&self, file: &Draft) {
+        file.discard(self);
     }
 }
