@@ -5,6 +5,7 @@ mod callers_split_and_joined;
 mod counts;
 mod judge;
 mod judge_aged;
+mod judge_ahead;
 mod judge_closed;
 mod judge_made_and_ruled;
 mod judge_of_packets;

@@ -1,11 +1,20 @@
 //! Frames judged one after the other in one call.
 ghost use Rattle.std.specs.Prelude.{◌≡◌};
+ghost use Rattle.flow_filter.specs.OneThread.{IsFlowLayout, layout_of};
 ghost use Rattle.racl_c.specs.Bursts.{BurstTold, frame_in, packet_in};
 ghost use Rattle.racl_c.specs.Contents.{JudgeTold};
 
 use crate::answer_numbers::{Answer, CONTENDED, judged_answer};
 use bihash_words::Shape;
 use flow_judge::Judge;
+use packet_dealing::see_plain;
+use packet_view::Packet;
+
+// For how many frames loads are made before the first of them is judged.
+const AHEAD: usize = 16;
+
+// How many buckets a table has at least for which loads are made ahead, as log2: a smaller one stays near anyway.
+const FAR: u64 = 13;
 
 /// A frame in an area of memory, which was seen at this interface in this second.
 #[repr(C)]
@@ -34,6 +43,38 @@ fn frame_of<'a>(memory: &'a [u8], descriptor: &Descriptor) -> &'a [u8]
     &rest[..length]
 }
 
+// The hash of the key of a plain frame's flow. `None` says nothing of the frame.
+fn plain_hash<A: Shape, B: Shape>(memory: &[u8], descriptor: &Descriptor) -> Option<u64>
+    requires { IsFlowLayout (layout_of ⟦<A as Shape>⟧ ⟦<B as Shape>⟧) }
+{
+    let frame = frame_of(memory, descriptor);
+    let seen = see_plain::<A, B>(&Packet {
+        interface: descriptor.interface,
+        moment: descriptor.second,
+        frame,
+    })?;
+    Some(seen.hash)
+}
+
+// Loads what judging the first frames of these will load of the table of IPv4, where they are plain: the buckets of all, then
+// the pages of all.
+#[inline(never)]
+fn load_ahead<A: Shape, B: Shape>(judge: &Judge<A, B>, memory: &[u8], descriptors: &[Descriptor])
+    requires { IsFlowLayout (layout_of ⟦<A as Shape>⟧ ⟦<B as Shape>⟧) }
+{
+    let mut hashes = [0; AHEAD];
+    let count = descriptors.len().min(AHEAD);
+    for i in 0..count {
+        if let Some(hash) = plain_hash::<A, B>(memory, &descriptors[i]) {
+            hashes[i] = hash;
+            judge.peek_bucket(hash);
+        }
+    }
+    for hash in &hashes[..count] {
+        judge.peek_page(*hash);
+    }
+}
+
 // One try of judging the frame that a descriptor names.
 #[inline(always)]
 fn judge_described<A: Shape, B: Shape>(
@@ -56,10 +97,14 @@ pub fn judge_burst<A: Shape, B: Shape>(
     descriptors: &[Descriptor],
     answers: &mut [Answer],
 ) -> usize
+    requires { IsFlowLayout (layout_of ⟦<A as Shape>⟧ ⟦<B as Shape>⟧) }
     ensures { BurstTold ⟦<A as Shape>⟧ ⟦<B as Shape>⟧ memory.now descriptors.now answers.old answers.new result judge.old judge.new }
 {
     let mut done = 0;
     'frames: while done < descriptors.len() && done < answers.len() {
+        if A::LOG2_BUCKETS >= FAR && done % AHEAD == 0 {
+            load_ahead(judge, memory, &descriptors[done..]);
+        }
         let answer = judge_described(judge, memory, &descriptors[done]);
         answers[done] = answer;
         if answer.kind == CONTENDED {
