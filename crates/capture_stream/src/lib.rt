@@ -8,6 +8,7 @@ mod live_telling;
 mod stream_judging;
 mod windows_of_records;
 
+pub use engine::{Engine, is_cut};
 pub use hex_digits::{HexDigits, are_digits};
 pub use judge::Judge;
 pub use live_telling::{ToldCapture, tell_live};
