@@ -1,6 +1,7 @@
 pub mod CountedLemmas
 pub mod DigitLemmas
 pub mod InputLaws
+pub mod KeptLemmas
 pub mod LiveEndLemmas
 pub mod LiveLemmas
 pub mod OpenedLemmas

@@ -1,7 +1,7 @@
 -- What was read of an input up to the records of its capture, and what is answered of it once these are judged.
-use Rattle.std.proofs.Common.{◌≡◌, ◌∙◌, ◌+◌, ◌-◌, ◌≤◌, ℕ, Bool, true, false, List, [], ◌∷◌, ◌++◌, Option, IfOk, IfErr, Result, Ok, Err, drop, length, append-nil, append_assoc, arith, refl, sym, ap, subst, inl, inr}
+use Rattle.std.proofs.Common.{◌≡◌, ◌∙◌, ◌+◌, ◌-◌, ◌≤◌, ℕ, Bool, true, false, List, [], ◌∷◌, ◌++◌, Option, IfOk, IfErr, Result, Ok, Err, drop, length, take, append-nil, append_assoc, arith, refl, sym, ap, subst, inl, inr}
 use Rattle.std.proofs.Math.Seq.{drop-append-add}
-use Rattle.std.proofs.lemmas.List.{drop-append-le, length-append}
+use Rattle.std.proofs.lemmas.List.{drop-append-le, length-append, take_at}
 use Rattle.std.proofs.lemmas.List.Filters.{length-filter_both}
 use Rattle.std.specs.Prelude.{not}
 use Rattle.hex.proofs.HexLemmas.{decode_of-ok}
@@ -68,6 +68,13 @@ records_behind_header bytes capture last =
     let whole = ap length last.parted in let sizes = length-append last.front capture in
     let place : length bytes - length capture + 24 ≡ length last.front + 24 = omega arith in
     ap (λ n. drop n bytes) place ∙ ap (drop (length last.front + 24)) last.parted ∙ drop-append-add last.front capture 24
+
+-- the policy's text stands at the front of the input
+pub text_before : (bytes : List ℕ) (parts : InputFacts) → IsInput bytes parts → take (length parts.policy) bytes ≡ parts.policy
+text_before bytes parts is = ap (take (length parts.policy)) is.parted ∙ take_at parts.policy is.marked (length parts.policy) refl
+
+pub text_within : (bytes : List ℕ) (parts : InputFacts) → IsInput bytes parts → length parts.policy ≤ length bytes
+text_within bytes parts is = let whole = ap length is.parted in let sizes = length-append parts.policy is.marked in omega arith
 
 -- what follows a marker line stands at the end of the input
 pub content_behind : (bytes : List ℕ) (parts : InputFacts) → IsInput bytes parts → drop (length bytes - length parts.content) bytes ≡ parts.content

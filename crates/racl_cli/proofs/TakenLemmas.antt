@@ -1,8 +1,9 @@
 -- Captures with numbers that are taken one after the other.
-use Rattle.std.proofs.Common.{◌≡◌, ◌∙◌, ◌+◌, ◌-◌, ◌≤◌, ◌⊎◌, ◌==◌, ◌||◌, ℕ, Bool, true, false, List, [], ◌∷◌, ◌++◌, Option, Some, None, Result, Ok, Err, IfErr, IfOk, drop, take, length, append-nil, append_assoc, arith, refl, sym, ap, ap₂, subst, inl, inr}
+use Rattle.std.proofs.Common.{◌≡◌, ◌∙◌, ◌+◌, ◌≤◌, ◌⊎◌, ◌==◌, ◌||◌, ℕ, zero, suc, Bool, true, false, List, [], ◌∷◌, ◌++◌, Option, Some, None, Result, Ok, Err, IfErr, IfOk, drop, length, append-nil, append_assoc, arith, refl, sym, ap, ap₂, subst, inl, inr}
 use Rattle.std.specs.List.{list_any}
 use Rattle.std.proofs.lemmas.Bool.{cases_eq, eq-eqb, ne_eqb}
-use Rattle.std.proofs.lemmas.List.{length-append, length-drop, length-map, take_all}
+use Rattle.std.proofs.lemmas.List.{length-append, length-drop, length-map}
+use Rattle.packet_view.specs.Bytes.{AreBytes}
 use Rattle.packet_view.specs.Captures.{IsCaptureAt, PacketFacts, end_of, packet_at}
 use Rattle.packet_view.proofs.RecordListLemmas.{records_within}
 use Rattle.acl_policy.specs.Policies.{IsAmong, policy_facts}
@@ -18,7 +19,7 @@ use Rattle.racl_io.specs.Inputs.{AreCaptures, DigitsFacts, IsContent, AreCutDigi
 use Rattle.racl_io.specs.Reports.{packets_in}
 use Rattle.racl_io.proofs.PartingLemmas.{some_captures}
 use Rattle.capture_stream.specs.declared.stream_judging.Streamed.{Streamed}
-use Rattle.racl_cli.specs.declared.digit_captures_in_turn.Walk.{Walk}
+use Rattle.racl_cli.specs.declared.captures_at_hand.Walk.{Walk}
 use Rattle.racl_cli.specs.declared.ended_workers.Ended.{Ended}
 use Rattle.racl_cli.specs.declared.sized_tables_and_workers.SizedWorkers.{SizedWorkers}
 use Rattle.racl_cli.specs.declared.workers_as_judges.Crew.{Crew}
@@ -30,8 +31,8 @@ use Rattle.racl_report.specs.ReadInputs.{HasPackets, IsTaken}
 use Rattle.racl_report.specs.RunReports.{JudgedFacts}
 use Rattle.racl_report.specs.inner.NumberedCaptures.{AreTakenFrom, IsFaultFrom, left_at}
 use Rattle.racl_cli.specs.inner.Plans.{HasReached}
-use Rattle.racl_cli.specs.inner.Captures.{HasTaken, HaveJudgedDigits, HaveTakenDigits, MayTake}
-use Rattle.racl_report.proofs.CaptureLaws.{AreFit, fit_digits, no_fault_of_packets, one_fault_of_content, one_packets}
+use Rattle.racl_cli.specs.inner.Captures.{HasTaken, HaveJudgedCapture, HaveTaken, MayTake}
+use Rattle.racl_report.proofs.CaptureLaws.{AreFit, IsUnnumbered, alone_plain, fit_bytes, no_fault_of_packets, one_fault_of_content, one_packets}
 use Rattle.racl_cli.proofs.OpenedLemmas.{content_short}
 use Rattle.racl_cli.proofs.OutcomeLemmas.{memory_answers, said_at_end}
 use Rattle.racl_cli.proofs.RunLemmas.{fault_of_known_parts, fault_of_right_policy}
@@ -61,10 +62,10 @@ not_among number (other ∷ seen) none (inr is) = not_among number seen (or_fals
 
 -- ---- what a capture's digits and those behind them come to
 
-abbrev from_here : ℕ → List ℕ → Option NumberedFacts
+abbrev pub from_here : ℕ → List ℕ → Option NumberedFacts
 from_here number content = Some (record { interface = number; content = content })
 
-abbrev digits_at : ℕ → List ℕ → DigitsFacts
+abbrev pub digits_at : ℕ → List ℕ → DigitsFacts
 digits_at number digits = record { interface = number; digits = digits }
 
 -- the capture and those behind it
@@ -138,8 +139,14 @@ pub digits_within : (content digits : List ℕ) (next : Option NumberedFacts) �
 digits_within content digits None cut = let same = ap length cut.0 in omega arith
 digits_within content digits (Some behind) cut = let whole = ap length cut.parted in let sizes = length-append digits cut.marked in omega arith
 
-pub all_behind : (bytes : List ℕ) (from : ℕ) → take (length bytes - from) (drop from bytes) ≡ drop from bytes
-all_behind bytes from = ap (λ n. take n (drop from bytes)) (sym (length-drop from bytes)) ∙ take_all (length (drop from bytes)) (drop from bytes) (omega arith)
+bytes_behind : (from : ℕ) (bytes : List ℕ) → AreBytes bytes → AreBytes (drop from bytes)
+bytes_behind zero bytes fit = fit
+bytes_behind (suc from) [] fit = fit
+bytes_behind (suc from) (b ∷ bytes) fit = bytes_behind from bytes (λ place. fit (suc place))
+
+-- what follows a marker line are bytes, and so is a capture that it is
+pub fit_behind : (form : Form) (bytes : List ℕ) (from : ℕ) → AreBytes bytes → AreFit form (drop from bytes)
+fit_behind form bytes from fit = fit_bytes form (drop from bytes) (bytes_behind from bytes fit)
 
 -- ---- a walk over all captures
 
@@ -215,27 +222,24 @@ all_taken begun walk amid none =
 
 -- ---- the only capture behind a marker line
 
-pub only_taken : {T : Type 0} (workers : SizedWorkers T) (form : Form) (content : List ℕ) (streamed : Streamed (Crew T)) (ended : Ended) → form ≡ Hexadecimal
-    → AreResting [] workers → HaveJudgedDigits workers 0 content streamed → HasEnded streamed.judges.workers streamed.truncated ended
-    → HaveTakenDigits workers form content ended
-only_taken workers form content streamed ended same rest has end =
+pub only_taken : {T : Type 0} (workers : SizedWorkers T) (form : Form) (content capture : List ℕ) (streamed : Streamed (Crew T)) (ended : Ended) → IsUnnumbered form
+    → IsContent form content capture → AreResting [] workers → HaveJudgedCapture workers 0 capture streamed → HasEnded streamed.judges.workers streamed.truncated ended
+    → HaveTaken workers form content ended
+only_taken workers form content capture streamed ended plain spelt rest has end =
     let said =
     said_at_end (orders_of workers) streamed.judges.workers has.packets streamed.truncated ended (record { given = has.by; rest = has.rest [] rest }) end in
     record {
       packets = has.packets;
-      taken = subst (λ f. HasPackets f content has.packets ended.captures.items) (sym same)
-          (record { capture = has.capture; spelt = has.spelt; truncated = streamed.truncated; records = has.records; told = said.1 });
+      taken = alone_plain form content has.packets ended.captures.items plain
+          (record { capture = capture; spelt = spelt; truncated = streamed.truncated; records = has.records; told = said.1 });
       said = said.0;
     }
 
 -- ---- what is answered
 
-module _ (options : Options) (bytes : List ℕ) (marked : Marked) (has : HasMarked options bytes marked) where
+module _ (options : Options) (bytes : List ℕ) (marked : Marked) (has : HasMarked options bytes marked) (fit : AreFit marked.form (drop marked.from bytes)) where
   abbrev form : Form
   form = marked.form
-
-  fit : AreFit marked.form (drop marked.from bytes)
-  fit = fit_digits marked.form (drop marked.from bytes) has.digits
 
   abbrev content : List ℕ
   content = drop marked.from bytes

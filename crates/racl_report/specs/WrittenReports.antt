@@ -16,10 +16,6 @@ use Rattle.racl_report.specs.RunReports.{IsReport, JudgedFacts, sessions_behind}
 abbrev pub needs_bytes : Options → Bool
 needs_bytes options = options.hits || not (is_plain options.lines)
 
--- these bytes are those of the input, where they are needed
-abbrev pub MayTell : Options → List ℕ → List ℕ → Type 0
-MayTell options bytes input = needs_bytes options ≡ true → bytes ≡ input
-
 -- memory ran out before anything was written, or a write failed, once
 pub record EndsOnce {W X : Type 0} (failures : W → ℕ) (old new : W) (result : Result X Fault) : Type 0 where
   pub fault : IfErr result (λ e. (e ≡ Memory) ⊎ (e ≡ Write))

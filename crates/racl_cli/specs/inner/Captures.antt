@@ -1,14 +1,14 @@
--- Captures as digits that are taken one after the other.
-use Rattle.std.specs.Prelude.{◌≡◌, ◌≢◌, ◌+◌, ◌≤◌, ◌++◌, ℕ, List, [], ◌∷◌, Some, length}
+-- Captures that are at hand, and are taken one after the other.
+use Rattle.std.specs.Prelude.{◌≡◌, ◌+◌, ◌≤◌, ◌++◌, ℕ, List, [], ◌∷◌, Some, length}
 use Rattle.packet_view.specs.Captures.{IsCaptureAt, PacketFacts, end_of}
 use Rattle.racl_io.specs.declared.fault.Fault.{Fault}
 use Rattle.racl_io.specs.declared.marker_line.Numbered as mark
 use Rattle.racl_io.specs.declared.totals_and_truncation.Captured.{Captured}
 use Rattle.racl_io.specs.declared.marker_line.Form.{Form}
-use Rattle.racl_io.specs.declared.marker_line.Form.TheVariants.{Binary, Hexadecimal}
+use Rattle.racl_io.specs.declared.marker_line.Form.TheVariants.{Hexadecimal}
 use Rattle.racl_io.specs.Inputs.{AreCutDigits, IsContent, most_bytes, numbered_facts}
 use Rattle.capture_stream.specs.declared.stream_judging.Streamed.{Streamed}
-use Rattle.racl_cli.specs.declared.digit_captures_in_turn.Walk.{Walk}
+use Rattle.racl_cli.specs.declared.captures_at_hand.Walk.{Walk}
 use Rattle.racl_cli.specs.declared.ended_workers.Ended.{Ended}
 use Rattle.racl_cli.specs.declared.sized_tables_and_workers.SizedWorkers.{SizedWorkers}
 use Rattle.racl_cli.specs.declared.workers_as_judges.Crew.{Crew}
@@ -20,21 +20,24 @@ use Rattle.racl_report.specs.inner.NumberedCaptures.{AreTakenFrom, IsFaultFrom, 
 abbrev pub IsFaultAt : List ℕ → mark.Numbered → Fault → Type 0
 IsFaultAt seen capture fault = IsFaultFrom seen (Some (facts_of capture)) fault
 
--- workers at rest may judge the packets that these digits stand for
-pub record CanJudge {T : Type 0} (workers : SizedWorkers T) (digits : List ℕ) : Type 0 where
+-- workers at rest may judge the packets of a capture that these bytes are, or stand for
+pub record CanJudge {T : Type 0} (workers : SizedWorkers T) (bytes : List ℕ) : Type 0 where
   pub packets : List PacketFacts
   pub rest : AreResting packets workers
-  pub few : length packets + length digits ≤ most_bytes
+  pub few : length packets + length bytes ≤ most_bytes
 
--- the digits are a capture that was taken at the interface with this number, and they judged its packets behind those before
-pub record HaveJudgedDigits {T : Type 0} (old : SizedWorkers T) (interface : ℕ) (digits : List ℕ) (streamed : Streamed (Crew T)) : Type 0 where
-  pub capture : List ℕ
-  pub spelt : IsContent Hexadecimal digits capture
+-- they judged the packets of this capture, which was taken at the interface with this number, behind those before
+pub record HaveJudgedCapture {T : Type 0} (old : SizedWorkers T) (interface : ℕ) (capture : List ℕ) (streamed : Streamed (Crew T)) : Type 0 where
   pub packets : List PacketFacts
   pub records : IsCaptureAt interface capture packets (end_of streamed.truncated)
   pub count : streamed.packets ≡ length packets
   pub by : orders_of streamed.judges.workers ≡ orders_of old
   pub rest : (before : List PacketFacts) → AreResting before old → AreResting (before ++ packets) streamed.judges.workers
+
+-- the digits are a capture, and they judged its packets
+abbrev pub HaveJudgedDigits : {T : Type 0} → SizedWorkers T → ℕ → List ℕ → Streamed (Crew T) → Type 0
+HaveJudgedDigits old interface digits streamed =
+    (capture : List ℕ) × IsContent Hexadecimal digits capture × HaveJudgedCapture old interface capture streamed
 
 -- workers at rest may judge this capture's packets
 pub record CanTake {T : Type 0} (walk : Walk T) (capture : mark.Numbered) : Type 0 where
@@ -71,14 +74,13 @@ pub record HasTakenAll {T : Type 0} (begun : Walk T) (ended : Ended) : Type 0 wh
 abbrev pub IsFaultOfWalk : {T : Type 0} → Walk T → Fault → Type 0
 IsFaultOfWalk begun fault = IsFaultFrom [] (numbered_facts begun.next) fault
 
--- workers that judged no packet may judge those of captures as digits, which follow a marker line of this form
-pub record MayTakeDigits {T : Type 0} (workers : SizedWorkers T) (form : Form) (content : List ℕ) : Type 0 where
+-- workers that judged no packet may judge those of captures that are this content
+pub record MayTakeAll {T : Type 0} (workers : SizedWorkers T) (content : List ℕ) : Type 0 where
   pub rest : AreResting [] workers
-  pub digits : form ≢ Binary
   pub few : length content ≤ most_bytes
 
 -- all captures that follow a marker line of this form were taken, and these are the verdicts on their packets, and the callers
-pub record HaveTakenDigits {T : Type 0} (workers : SizedWorkers T) (form : Form) (content : List ℕ) (ended : Ended) : Type 0 where
+pub record HaveTaken {T : Type 0} (workers : SizedWorkers T) (form : Form) (content : List ℕ) (ended : Ended) : Type 0 where
   pub packets : List PacketFacts
   pub taken : HasPackets form content packets ended.captures.items
   pub said : AreSaidBy (orders_of workers) packets ended.verdicts.items ended.callers

@@ -1,10 +1,9 @@
 -- Who judges the packets of an input, and what came of them.
-use Rattle.std.specs.Prelude.{◌≡◌, ◌≢◌, ◌≤◌, ℕ, List, Option, length}
+use Rattle.std.specs.Prelude.{◌≡◌, ◌≤◌, ℕ, List, Option, length}
 use Rattle.packet_view.specs.Captures.{PacketFacts}
 use Rattle.acl_policy.specs.Policies.{PolicyFacts}
 use Rattle.racl_options.specs.declared.settings.Options.{Options}
 use Rattle.racl_io.specs.declared.marker_line.Form.{Form}
-use Rattle.racl_io.specs.declared.marker_line.Form.TheVariants.{Binary}
 use Rattle.racl_io.specs.Inputs.{most_bytes}
 use Rattle.capture_stream.specs.declared.stream_judging.Opening.{Opening}
 use Rattle.racl_cli.specs.declared.run_plan.Plan.{Plan}
@@ -22,10 +21,9 @@ pub record IsPlanFor {T : Type 0} (options : Options) (plan : Plan T) : Type 0 w
 abbrev pub MayJudgeBy : {T : Type 0} → Options → Plan T → Opening → Option (List ℕ) → Type 0
 MayJudgeBy options plan opening before = IsPlanFor options plan × MayJudge plan.manner.filter.now.times options opening before
 
--- by it the packets of captures as digits may be judged, which follow a marker line of this form
-pub record MayJudgeContent {T : Type 0} (options : Options) (plan : Plan T) (form : Form) (content : List ℕ) : Type 0 where
+-- by it the packets of captures may be judged that are this content
+pub record MayJudgeContent {T : Type 0} (options : Options) (plan : Plan T) (content : List ℕ) : Type 0 where
   pub by : IsPlanFor options plan
-  pub digits : form ≢ Binary
   pub few : length content ≤ most_bytes
 
 -- the content is captures, and this is what their packets met

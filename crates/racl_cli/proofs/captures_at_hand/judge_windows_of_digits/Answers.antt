@@ -2,7 +2,7 @@ use Rattle.std.proofs.Common.{◌∙◌, [], ap, arith, inl, inr, length, refl, 
 use Rattle.std.proofs.lemmas.List.{length-map}
 use Rattle.packet_view.specs.Captures.{packet_at, packets_at}
 use Rattle.racl_cli.proofs.DigitLemmas.{headless, known_capture, on_ok, records_behind, right_header, unknown_capture, unstreamed_result}
-use Rattle.racl_cli.proofs.digit_captures_in_turn.judge_digits.Goals as goal
+use Rattle.racl_cli.proofs.captures_at_hand.judge_windows_of_digits.Goals as goal
 
 pub returns-then-not-are_digits-clause-fault : goal.returns-then-not-are_digits-clause-fault
 returns-then-not-are_digits-clause-fault g c = inr (inl (refl, unknown_capture c.args.digits.now (sym c.are_digits.ensures ∙ c.if-not-are_digits.true)))
@@ -36,9 +36,7 @@ returns-clause-ok g c =
     let crew = c.args.crew in
     let known = known_capture digits (sym c.are_digits.ensures ∙ c.if-not-are_digits.false) in
     let head = c.in-Ok.ensures.header in
-    on_ok _ _ _ c.judge_stream.result (rw c.new-opening.ensures.opening at c.judge_stream.ensures.streamed) (λ streamed s. record {
-      capture = known.0;
-      spelt = known.1;
+    on_ok _ _ _ c.judge_stream.result (rw c.new-opening.ensures.opening at c.judge_stream.ensures.streamed) (λ streamed s. (known.0, known.1, record {
       packets = packets_at interface s.packets;
       records = (
         s.packets,
@@ -54,7 +52,7 @@ returns-clause-ok g c =
       count = s.count ∙ sym (length-map s.packets (packet_at interface));
       by = (s.judged crew c.requires.packets [] (search rules, record { given = refl; rest = c.requires.rest })).1.given;
       rest = λ before at. (s.judged crew before [] (search rules, record { given = refl; rest = at })).1.rest;
-    })
+    }))
 
 pub returns-clause-fault : goal.returns-clause-fault
 returns-clause-fault g c =

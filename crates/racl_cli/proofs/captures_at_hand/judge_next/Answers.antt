@@ -3,7 +3,8 @@ use Rattle.std.proofs.Common.{◌≡◌, ◌==◌, ℕ, true, false, List, Some,
 use Rattle.std.specs.List.{list_any}
 use Rattle.racl_io.specs.Inputs.{numbered_facts}
 use Rattle.racl_cli.proofs.TakenLemmas.{among, digits_within, few_taken, not_among, own_fault, second_of_one}
-use Rattle.racl_cli.proofs.digit_captures_in_turn.judge_next.Goals as goal
+use Rattle.racl_cli.proofs.KeptLemmas.{gains_as}
+use Rattle.racl_cli.proofs.captures_at_hand.judge_next.Goals as goal
 
 pub returns-then-is_digit_capture_seen-clause-fault : goal.returns-then-is_digit_capture_seen-clause-fault
 returns-then-is_digit_capture_seen-clause-fault g c =
@@ -38,7 +39,7 @@ returns-clause-ok g c =
     subst (λ (seen : List ℕ). list_any (λ other. other == number) seen ≡ false) c.deref.ensures.value (sym c.if-is_digit_capture_seen.ensures) in
     let digits = c.cut_at_numbered_marker.result.digits.now in
     let streamed = c.in-Ok.streamed in
-    let has = c.in-Ok.ensures.ok in
+    let (capture, spelt, has) = c.in-Ok.ensures.ok in
     record {
       digits = digits;
       cut = c.cut_at_numbered_marker.ensures.cut;
@@ -46,8 +47,8 @@ returns-clause-ok g c =
       captured = record { named = Some number; packets = streamed.packets; truncated = streamed.truncated };
       taken = record {
         first = not_among number seen none;
-        capture = has.capture;
-        spelt = has.spelt;
+        capture = capture;
+        spelt = spelt;
         truncated = streamed.truncated;
         records = has.records;
         told = ap (λ n. record { named = Some number; packets = n; truncated = streamed.truncated }) has.count;
@@ -56,6 +57,10 @@ returns-clause-ok g c =
       seen = c.in_ok-insert.ensures.items;
       by = has.by;
       rest = has.rest;
-      few = few_taken number c.args.capture.content.now digits has.capture (numbered_facts c.cut_at_numbered_marker.result.next) has.packets streamed.truncated
-          c.cut_at_numbered_marker.ensures.cut has.spelt has.records;
+      few = few_taken number c.args.capture.content.now digits capture (numbered_facts c.cut_at_numbered_marker.result.next) has.packets streamed.truncated
+          c.cut_at_numbered_marker.ensures.cut spelt has.records;
     }
+
+pub returns-clause-kept : goal.returns-clause-kept
+returns-clause-kept g c =
+    gains_as _ _ c.args.kept.now c.judge_digits.new.kept (λ more is. (c.cut_at_numbered_marker.result.digits.now, c.cut_at_numbered_marker.ensures.cut, is)) c.in-Ok.ensures.kept
