@@ -1,6 +1,7 @@
 -- Captures that are kept while their packets are judged.
-use Rattle.std.proofs.Common.{◌≡◌, ◌≢◌, ◌∙◌, ◌++◌, ◌||◌, ℕ, Bool, true, false, List, [], ◌∷◌, Option, Some, None, is_some, IfSome, Result, Ok, Err, OnOk, ◌⊎◌, ◌≤◌, inl, inr, arith, length, length-drop, ap, append-nil, append_assoc, drop, refl, sym, subst, take}
+use Rattle.std.proofs.Common.{◌≡◌, ◌≢◌, ◌∙◌, ◌++◌, ◌||◌, ℕ, Bool, true, false, List, [], ◌∷◌, Option, Some, None, is_some, IfSome, Result, Ok, Err, OnOk, ◌⊎◌, ◌≤◌, inl, inr, arith, length, ap, append-nil, append_assoc, drop, refl, sym, subst, take}
 use Rattle.std.specs.Global.{Vec}
+use Rattle.std.proofs.lemmas.List.{length-drop}
 use Rattle.packet_view.specs.Captures.{End, IsCapture, IsCaptureAt, PacketFacts, RecordFacts, end_of}
 use Rattle.packet_view.proofs.RecordListLemmas.{records_within}
 use Rattle.acl_policy.specs.Policies.{PolicyFacts, policy_facts}
@@ -21,7 +22,7 @@ use Rattle.racl_views.specs.declared.capture_bytes.CaptureBytes.{CaptureBytes}
 use Rattle.racl_report.specs.KeptInputs.{HaveCaptures, IsKept, IsKeptWhere, Keeps, KeepsWhere}
 use Rattle.racl_report.specs.ReadInputs.{AreTaken, HasPackets, IsRead, IsTaken}
 use Rattle.racl_report.specs.declared.kept_input.Kept.{Kept}
-use Rattle.racl_report.specs.declared.kept_input.KeptCaptures as kept
+use Rattle.racl_report.specs.declared.kept_input.KeptCaptures.{KeptCaptures}
 use Rattle.racl_report.specs.declared.kept_input.KeptCaptures.TheVariants.{Placed, Decoded}
 use Rattle.racl_report.specs.inner.NumberedCaptures.{AreTakenFrom, facts_of}
 use Rattle.racl_report.proofs.CaptureLaws.{one_content}
@@ -51,8 +52,8 @@ gains_more One Other All None None (Some new) joined first more = more
 gains_more One Other All None (Some mid) new joined first more = absurd first
 gains_more One Other All (Some old) None new joined first more = absurd first
 gains_more One Other All (Some old) (Some mid) None joined first more = more
-gains_more One Other All (Some old) (Some mid) (Some new) joined (xs, is, first) (ys, then, more) =
-    (xs ++ ys, then ∙ ap (λ (all : List CaptureBytes). all ++ ys) is ∙ append_assoc old.items xs ys, joined xs ys first more)
+gains_more One Other All (Some old) (Some mid) (Some new) joined (xs, is, first) (ys, also, more) =
+    (xs ++ ys, also ∙ ap (λ (all : List CaptureBytes). all ++ ys) is ∙ append_assoc old.items xs ys, joined xs ys first more)
 
 -- ---- captures as digits, which come in turn
 
@@ -118,9 +119,9 @@ all_decoded begun more before = λ packets told taken. amid_end more packets (be
 -- ---- all captures
 
 pub only_decoded : (content : List ℕ) (more : List CaptureBytes) → IsDecoded 0 content more → AreDecoded Hexadecimal content more
-only_decoded content more (own, is, zero, spelt) = λ digits packets told has.
+only_decoded content more (own, is, here, spelt) = λ digits packets told has.
     let alone = alone_in_capture Hexadecimal content own.bytes.items packets told tt spelt has in
-    let at = subst (λ n. IsCaptureAt n own.bytes.items packets (end_of alone.truncated)) (sym zero) alone.records in
+    let at = subst (λ n. IsCaptureAt n own.bytes.items packets (end_of alone.truncated)) (sym here) alone.records in
     subst (λ (all : List CaptureBytes). HavePackets all packets) (sym is) (packets, [], end_of alone.truncated, sym (append-nil packets), at, refl)
 
 pub numbered_decoded : {T : Type 0} (begun : Walk T) (number : ℕ) (content : List ℕ) (more : List CaptureBytes) → numbered_facts begun.next ≡ from_here number content
@@ -130,7 +131,7 @@ numbered_decoded begun number content more first decoded = λ digits packets tol
 -- ---- what is kept
 
 -- captures that are kept of what stands in the input
-kept_there : (bytes : List ℕ) (marked : Marked) (decoded : List CaptureBytes) (captures : kept.KeptCaptures) (options : Options) (has : HasMarked options bytes marked)
+kept_there : (bytes : List ℕ) (marked : Marked) (decoded : List CaptureBytes) (captures : KeptCaptures) (options : Options) (has : HasMarked options bytes marked)
     → AreKeptAs bytes marked decoded captures → AreDecoded marked.form (drop marked.from bytes) decoded
     → (packets : List PacketFacts) (told : List Captured) → HasPackets has.parts.form has.parts.content packets told → HaveCaptures captures has.parts packets
 kept_there bytes marked decoded (Placed own) options has (binary, whole, from) are = λ packets told is.

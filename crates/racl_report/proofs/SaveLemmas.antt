@@ -97,13 +97,3 @@ pub nothing_saved : {S : Type 0} (sink : S → Option (List ℕ)) (kept : Kept) 
 nothing_saved sink kept verdicts saves decoded = λ input policy packets captures read is.
     let digits = not_binary kept.captures is.parts packets decoded is.captures in
     (is.parts, is.parted, nothing_of sink is.parts Dropped verdicts saves.drops digits, nothing_of sink is.parts Passing verdicts saves.passes digits)
-
--- nor where there is no file
-none_saved : {S : Type 0} (sink : S → Option (List ℕ)) (parts : InputFacts) (verdicts : List Verdict) (drops passes : Option S) → (is_some drops || is_some passes) ≡ false
-    → HasSaved sink parts Dropped verdicts drops drops × HasSaved sink parts Passing verdicts passes passes
-none_saved sink parts verdicts None None none = (tt, tt)
-none_saved sink parts verdicts (Some file) passes none = absurd (let f : ⊥ = cc in f)
-none_saved sink parts verdicts None (Some file) none = absurd (let f : ⊥ = cc in f)
-
-pub unsaved : {S : Type 0} (sink : S → Option (List ℕ)) (verdicts : List Verdict) (saves : Saves S) → Saved sink None verdicts saves saves
-unsaved sink verdicts saves = λ input policy packets captures read none. (read.parts, read.parted, none_saved sink read.parts verdicts saves.drops saves.passes none)

@@ -4,7 +4,7 @@ use Rattle.std.specs.Io.KnownBytes.{Appends}
 use Rattle.packet_view.specs.Captures.{End, IsCapture, IsCaptureAt, PacketFacts, RecordFacts, packets_at}
 use Rattle.packet_view.specs.CheckedCaptures.{packets_of, records_of}
 use Rattle.packet_view.specs.declared.packets_of_records.Records.{Records}
-use Rattle.acl_policy.specs.Policies.{IsPolicyText, PolicyFacts}
+use Rattle.acl_policy.specs.Policies.{IsPolicyText, PolicyFacts, policy_facts}
 use Rattle.session_state.specs.declared.shown_verdicts.Shown.{Shown}
 use Rattle.session_state.specs.declared.timeouts.Timeouts.{Timeouts}
 use Rattle.session_state.specs.declared.verdict.Verdict.{Verdict}
@@ -19,6 +19,7 @@ use Rattle.racl_options.specs.declared.settings.Lines.TheVariants.{Plain, Explai
 use Rattle.racl_options.specs.declared.settings.Options.{Options}
 use Rattle.racl_views.specs.Hits.{AreHits}
 use Rattle.racl_views.specs.RunEntries.{RunFacts}
+use Rattle.racl_views.specs.Stored.{StoredFacts}
 use Rattle.racl_report.specs.KeptInputs.{IsKept}
 use Rattle.racl_report.specs.RunReports.{AreLines, JudgedFacts, Outcome, sessions_behind, told_facts, view_behind}
 use Rattle.racl_report.specs.WrittenReports.{HasPlain, HasReport, needs_bytes}
@@ -31,29 +32,30 @@ outcome_of verdicts captures = record { verdicts = verdicts; captures = captures
 -- ---- the packets of what is kept
 
 -- a capture that was checked where it stands has the packets of the input
-pub placed_packets : {E : Type 0} (records : Records) (form : Form) (content capture : List ℕ) (packets : List PacketFacts) (end : End)
-    → records.interface ≡ 0 → capture ≡ content → IsCaptureAt 0 content packets end
-    → ((all : List RecordFacts) (end : End) → IsCapture capture all end → (records_of records ≡ all) × E) → packets_of records ≡ packets
-placed_packets records form content capture packets end zero same at accepts =
+pub placed_packets : (records : Records) (content capture : List ℕ) (packets : List PacketFacts) (end ended : End) → records.interface ≡ 0 → capture ≡ content
+    → IsCaptureAt 0 content packets end → ((all : List RecordFacts) (other : End) → IsCapture capture all other → (records_of records ≡ all) × (ended ≡ other)) → packets_of records ≡ packets
+placed_packets records content capture packets end ended zero same at accepts =
     let is = subst (λ (b : List ℕ). IsCapture b at.0 end) (sym same) at.1 in
     ap (λ n. packets_at n (records_of records)) zero ∙ ap (packets_at 0) (accepts at.0 end is).0 ∙ sym at.2
 
 -- ---- what is told
 
 -- what is told of a run on an input of which this is kept
-pub told_of_kept : (options : Options) (input : List ℕ) (policy : PolicyFacts) (packets : List PacketFacts) (judged : JudgedFacts) (kept : Kept) (run : RunFacts) (old new : Option (List ℕ)) (result : Result Totals Fault)
-    → (is : IsKept input policy packets kept) → run ≡ told_facts policy is.parts.policy packets judged.outcome options.shown
-    → (IsPolicyText run.text run.policy → IfOk result (HasTold options run judged.stored old new))
-    → IfOk result (HasReport options input policy packets judged old new)
-told_of_kept options input policy packets judged kept run old new (Ok totals) is same told =
-    let has = subst (λ (r : RunFacts). IsPolicyText r.text r.policy → HasTold options r judged.stored old new totals) same told is.says in
+pub told_of_kept : (options : Options) (input : List ℕ) (policy : PolicyFacts) (packets : List PacketFacts) (judged : JudgedFacts) (kept : Kept) (run : RunFacts) (stored : StoredFacts) (old new : Option (List ℕ)) (result : Result Totals Fault)
+    → (is : IsKept input policy packets kept) → (listed : List PacketFacts) → listed ≡ packets → run ≡ told_facts (policy_facts kept.policy) kept.text.items listed judged.outcome options.shown
+    → stored ≡ judged.stored → (IsPolicyText run.text run.policy → IfOk result (HasTold options run stored old new)) → IfOk result (HasReport options input policy packets judged old new)
+told_of_kept options input policy packets judged kept run stored old new (Ok totals) is listed same made stood told =
+    let mine : run ≡ told_facts policy is.parts.policy packets judged.outcome options.shown =
+    made ∙ (λ i. told_facts (is.policy_is i) (is.text i) (same i) judged.outcome options.shown) in
+    let here = subst (λ (r : RunFacts). IsPolicyText r.text r.policy → HasTold options r stored old new totals) mine told is.says in
+    let has = subst (λ (s : StoredFacts). HasTold options (told_facts policy is.parts.policy packets judged.outcome options.shown) s old new totals) stood here in
     record {
       report = has.lines ++ (has.hits ++ sessions_behind options judged.stored);
       is = record { parts = is.parts; parted = is.parted; on = record { lines = has.lines; are = has.are; hits = has.hits; told = has.told; all = refl } };
       text = has.text;
       counted = has.counted;
     }
-told_of_kept options input policy packets judged kept run old new (Err fault) is same told = tt
+told_of_kept options input policy packets judged kept run stored old new (Err fault) is listed same made stood told = tt
 
 -- plain lines alone
 plain_alone_told : (asked : Bool) (form : Lines) (times : Timeouts) (policy : PolicyFacts) (text : List ℕ) (packets : List PacketFacts) (judged : JudgedFacts) (shown : Shown) → (asked || not (is_plain form)) ≡ false

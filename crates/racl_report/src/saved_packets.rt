@@ -82,10 +82,12 @@ pub fn save_packets<S: Sink>(
     let Some(kept) = kept else {
         return Ok(());
     };
-    let KeptCaptures::Placed(placed) = &kept.captures else {
-        return Ok(());
-    };
-    let capture = placed.capture();
-    save_chosen(capture, Chosen::Dropped, verdicts, &mut saves.drops)?;
-    save_chosen(capture, Chosen::Passing, verdicts, &mut saves.passes)
+    match &kept.captures {
+        KeptCaptures::Placed(placed) => {
+            let capture = placed.capture();
+            save_chosen(capture, Chosen::Dropped, verdicts, &mut saves.drops)?;
+            save_chosen(capture, Chosen::Passing, verdicts, &mut saves.passes)
+        }
+        KeptCaptures::Decoded(_) => Ok(()),
+    }
 }

@@ -11,7 +11,7 @@ use Rattle.racl_views.specs.CapturePackets.{HavePackets}
 use Rattle.racl_views.specs.declared.capture_bytes.CaptureBytes.{CaptureBytes}
 use Rattle.racl_report.specs.ReadInputs.{HasPackets}
 use Rattle.racl_report.specs.declared.kept_input.Kept.{Kept}
-use Rattle.racl_report.specs.declared.kept_input.KeptCaptures as kept
+use Rattle.racl_report.specs.declared.kept_input.KeptCaptures.{KeptCaptures}
 use Rattle.racl_report.specs.declared.kept_input.KeptCaptures.TheVariants.{Placed, Decoded}
 use Rattle.racl_report.specs.inner.NumberedCaptures.{AreTakenFrom}
 use Rattle.racl_cli.specs.declared.captures_at_hand.Walk.{Walk}
@@ -55,7 +55,7 @@ abbrev pub AreDecoded : Form → List ℕ → List CaptureBytes → Type 0
 AreDecoded form content more = form ≢ Binary → (packets : List PacketFacts) (told : List Captured) → HasPackets form content packets told → HavePackets more packets
 
 -- a capture where it stands in the bytes, or those that were decoded
-abbrev pub AreKeptAs : List ℕ → Marked → List CaptureBytes → kept.KeptCaptures → Type 0
+abbrev pub AreKeptAs : List ℕ → Marked → List CaptureBytes → KeptCaptures → Type 0
 AreKeptAs bytes marked decoded (Placed own) = (marked.form ≡ Binary) × (own.bytes.items ≡ bytes) × (own.from ≡ marked.from)
 AreKeptAs bytes marked decoded (Decoded all) = (marked.form ≢ Binary) × (all.items ≡ decoded)
 

@@ -1,4 +1,5 @@
-use Rattle.std.proofs.Common.{◌≡◌, ◌⊎◌, ◌-◌, ℕ, List, IfErr, IfOk, OnOk, arith, drop, length, subst, take, take_rest}
+use Rattle.std.proofs.Common.{◌≡◌, ◌⊎◌, ◌-◌, ℕ, List, IfErr, IfOk, OnOk, arith, drop, length, subst, take}
+use Rattle.std.proofs.lemmas.List.{take_rest}
 use Rattle.acl_policy.specs.Policies.{policy_facts}
 use Rattle.acl_policy.specs.declared.policy.Policy.{Policy}
 use Rattle.racl_io.specs.declared.fault.Fault.TheVariants.{Memory}

@@ -1,4 +1,4 @@
-use Rattle.std.proofs.Common.{arith, refl, sym, subst}
+use Rattle.std.proofs.Common.{arith, refl, rules, sym, subst}
 use Rattle.std.proofs.lemmas.Result.{err_from_is_err_and}
 use Rattle.racl_io.specs.declared.marker_line.Form.{Form}
 use Rattle.racl_io.specs.declared.marker_line.Form.TheVariants.{Binary}
@@ -35,7 +35,7 @@ returns-in_ok-order-in-Binary-clause-ok c =
     let parted : IsInput bytes (record { policy = input.policy.now; form = Binary; content = input.content.now }) =
     subst (λ (form : Form). IsInput bytes (record { policy = input.policy.now; form = form; content = input.content.now })) c.in-Binary.is c.in-Some.ensures.some in
     let last = capture_stands input.policy.now input.content.now bytes header.ok.whole parted in
-    record {
+    (search rules, record {
       parts = record { policy = input.policy.now; form = Binary; content = input.content.now };
       parted = parted;
       policy = record { says = c.in_ok-policy.ensures.ok; one = c.in_ok-policy.ensures.accepts; right = c.in_ok-policy.ensures.refuses };
@@ -48,7 +48,7 @@ returns-in_ok-order-in-Binary-clause-ok c =
       };
       within = records_within_input bytes input.content.now last header.ok.whole;
       behind = records_behind_header bytes input.content.now last;
-    }
+    })
 
 pub returns-in_default-clause-ok : goal.returns-in_default-clause-ok
 returns-in_default-clause-ok c =
