@@ -22,7 +22,7 @@ use crate::stored_sessions::with_stored;
 use crate::workers_as_judges::Crew;
 use capture_stream::{HexDigits, Judge, Opening, Streamed, are_digits, judge_stream};
 use flow_workers::Filter;
-use packet_view::{CheckedCapture, Packets, check_capture};
+use packet_view::{Packets, check_capture};
 use racl_io::{
     Captured, Digits, Fault, Form, Input, Numbered, cut_at_numbered_marker, decode_digits,
 };
@@ -88,13 +88,13 @@ fn judge_capture<'t, 'f, T: Threads + Wait + Sync>(
     ensures ok { IfOk result (HaveJudgedCapture crew.entry.workers interface capture.now) }
     ensures fault { IfErr result (λ fault. (fault ≡ Memory) ⊎ IsFaultOfCapture capture.now fault) }
 {
-    let CheckedCapture { records, truncated } = check_capture(capture, interface)?;
+    let checked = check_capture(capture, interface)?;
     let mut judges = crew;
-    match judges.judge(Packets::Records(records)) {
+    match judges.judge(Packets::Records(checked.records)) {
         Ok(_) => Ok(Streamed {
             judges,
-            packets: records.count(),
-            truncated,
+            packets: checked.records.count(),
+            truncated: checked.truncated,
         }),
         Err(_) => Err(Fault::Memory),
     }

@@ -1,5 +1,5 @@
 -- Packets of an input that are saved.
-use Rattle.std.proofs.Common.{◌≡◌, ◌≢◌, ◌∙◌, ◌||◌, ℕ, false, List, [], Option, None, Some, is_some, Result, Ok, Err, OnOk, drop, refl, subst, sym}
+use Rattle.std.proofs.Common.{◌≡◌, ◌≢◌, ◌∙◌, ℕ, List, [], Option, None, Some, Result, Ok, Err, OnOk, drop, refl, subst, sym}
 use Rattle.std.specs.Bool.{⊤}
 use Rattle.std.proofs.KnownBytes.{Appends-nil}
 use Rattle.packet_view.specs.Captures.{End, IsCaptureAt, PacketFacts, RecordFacts}

@@ -1,6 +1,5 @@
 -- What is told of an input of which its captures are kept.
 use Rattle.std.proofs.Common.{◌≡◌, ◌∙◌, ◌++◌, ◌||◌, ℕ, Bool, true, false, not, List, [], Option, Result, Ok, Err, IfOk, ap, refl, sym, subst}
-use Rattle.std.specs.Io.KnownBytes.{Appends}
 use Rattle.packet_view.specs.Captures.{End, IsCapture, IsCaptureAt, PacketFacts, RecordFacts, packets_at}
 use Rattle.packet_view.specs.CheckedCaptures.{packets_of, records_of}
 use Rattle.packet_view.specs.declared.packets_of_records.Records.{Records}

@@ -6,15 +6,15 @@ use Rattle.packet_view.specs.CheckedCaptures.{packets_of, records_of}
 use Rattle.racl_cli.proofs.KeptLemmas.{few_in_capture}
 use Rattle.racl_cli.proofs.captures_at_hand.judge_capture.Goals as goal
 
-pub returns-in_err-check_capture-clause-fault : goal.returns-in_err-check_capture-clause-fault
-returns-in_err-check_capture-clause-fault g c =
+pub returns-in_err-checked-clause-fault : goal.returns-in_err-checked-clause-fault
+returns-in_err-checked-clause-fault g c =
     let p = err_from_is_err_and c.from_residual.result c.from_residual.ensures.1 in
-    rw (p.1, p.2) (inr (_, c.in_err-check_capture.ensures.fault, refl))
+    rw (p.1, p.2) (inr (_, c.in_err-checked.ensures.fault, refl))
 
 pub judge-requires : goal.judge-requires
 judge-requires g c =
-    let records = c.in_ok-check_capture.check_capture.records in
-    let few = few_in_capture c.args.capture.now (records_of records) (end_of c.in_ok-check_capture.check_capture.truncated) c.in_ok-check_capture.ensures.ok in
+    let records = c.in_ok-checked.checked.records in
+    let few = few_in_capture c.args.capture.now (records_of records) (end_of c.in_ok-checked.checked.truncated) c.in_ok-checked.ensures.ok in
     let all = length-map (records_of records) (packet_at records.interface) in
     let room = c.requires.few in
     record {
@@ -27,12 +27,12 @@ judge-requires g c =
 
 pub returns-in-Ok-clause-ok : goal.returns-in-Ok-clause-ok
 returns-in-Ok-clause-ok g c =
-    let records = c.in_ok-check_capture.check_capture.records in
+    let records = c.in_ok-checked.checked.records in
     let crew = c.args.crew in
     let follows = c.in-Ok.ensures.follows in
     record {
       packets = packets_of records;
-      records = (records_of records, c.in_ok-check_capture.ensures.ok, ap (λ n. packets_at n (records_of records)) c.in_ok-check_capture.ensures.at);
+      records = (records_of records, c.in_ok-checked.ensures.ok, ap (λ n. packets_at n (records_of records)) c.in_ok-checked.ensures.at);
       count = c.count.ensures;
       by = (follows crew c.requires.packets [] (search rules, record { given = refl; rest = c.requires.rest })).1.given;
       rest = λ before at. (follows crew before [] (search rules, record { given = refl; rest = at })).1.rest;

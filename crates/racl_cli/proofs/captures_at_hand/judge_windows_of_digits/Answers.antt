@@ -36,23 +36,27 @@ returns-clause-ok g c =
     let crew = c.args.crew in
     let known = known_capture digits (sym c.are_digits.ensures ∙ c.if-not-are_digits.false) in
     let head = c.in-Ok.ensures.header in
-    on_ok _ _ _ c.judge_stream.result (rw c.new-opening.ensures.opening at c.judge_stream.ensures.streamed) (λ streamed s. (known.0, known.1, record {
-      packets = packets_at interface s.packets;
-      records = (
-        s.packets,
-        (
-          c.in-Ok.order,
-          s.rest,
-          right_header digits known.0 known.1 _ _ _ c.new.ensures.items refl head s.read s.whole,
-          records_behind digits known.0 known.1 _ _ _ c.new.ensures.items refl head s.read s.packets s.rest s.whole s.records,
-          s.end,
-        ),
-        refl,
-      );
-      count = s.count ∙ sym (length-map s.packets (packet_at interface));
-      by = (s.judged crew c.requires.packets [] (search rules, record { given = refl; rest = c.requires.rest })).1.given;
-      rest = λ before at. (s.judged crew before [] (search rules, record { given = refl; rest = at })).1.rest;
-    }))
+    on_ok _ _ _ c.judge_stream.result (rw c.new-opening.ensures.opening at c.judge_stream.ensures.streamed) (λ streamed s. (
+      known.0,
+      known.1,
+      record {
+        packets = packets_at interface s.packets;
+        records = (
+          s.packets,
+          (
+            c.in-Ok.order,
+            s.rest,
+            right_header digits known.0 known.1 _ _ _ c.new.ensures.items refl head s.read s.whole,
+            records_behind digits known.0 known.1 _ _ _ c.new.ensures.items refl head s.read s.packets s.rest s.whole s.records,
+            s.end,
+          ),
+          refl,
+        );
+        count = s.count ∙ sym (length-map s.packets (packet_at interface));
+        by = (s.judged crew c.requires.packets [] (search rules, record { given = refl; rest = c.requires.rest })).1.given;
+        rest = λ before at. (s.judged crew before [] (search rules, record { given = refl; rest = at })).1.rest;
+      },
+    ))
 
 pub returns-clause-fault : goal.returns-clause-fault
 returns-clause-fault g c =

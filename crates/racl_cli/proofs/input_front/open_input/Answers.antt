@@ -34,21 +34,23 @@ returns-in_ok-order-in-Binary-clause-ok c =
     let header = c.in_ok-order-in-Binary.ensures in
     let parted : IsInput bytes (record { policy = input.policy.now; form = Binary; content = input.content.now }) =
     subst (λ (form : Form). IsInput bytes (record { policy = input.policy.now; form = form; content = input.content.now })) c.in-Binary.is c.in-Some.ensures.some in
-    let last = capture_stands input.policy.now input.content.now bytes header.ok.whole parted in
-    (search rules, record {
-      parts = record { policy = input.policy.now; form = Binary; content = input.content.now };
-      parted = parted;
-      policy = record { says = c.in_ok-policy.ensures.ok; one = c.in_ok-policy.ensures.accepts; right = c.in_ok-policy.ensures.refuses };
-      times = refl;
-      form = refl;
-      header = record {
-        right = header.ok;
-        one = λ other right. let e = header.accepts other right in cc;
-        none = λ cause is. let e = header.refuses cause is in cc;
-      };
-      within = records_within_input bytes input.content.now last header.ok.whole;
-      behind = records_behind_header bytes input.content.now last;
-    })
+    let last = capture_stands input.policy.now input.content.now bytes header.ok.whole parted in (
+      search rules,
+      record {
+        parts = record { policy = input.policy.now; form = Binary; content = input.content.now };
+        parted = parted;
+        policy = record { says = c.in_ok-policy.ensures.ok; one = c.in_ok-policy.ensures.accepts; right = c.in_ok-policy.ensures.refuses };
+        times = refl;
+        form = refl;
+        header = record {
+          right = header.ok;
+          one = λ other right. let e = header.accepts other right in cc;
+          none = λ cause is. let e = header.refuses cause is in cc;
+        };
+        within = records_within_input bytes input.content.now last header.ok.whole;
+        behind = records_behind_header bytes input.content.now last;
+      },
+    )
 
 pub returns-in_default-clause-ok : goal.returns-in_default-clause-ok
 returns-in_default-clause-ok c =

@@ -4,7 +4,7 @@ use Rattle.packet_view.specs.CheckedCaptures.{packets_of}
 use Rattle.racl_views.specs.CapturePackets.{HavePackets}
 use Rattle.racl_views.specs.RunEntries.{run_facts}
 use Rattle.racl_views.specs.declared.capture_bytes.CaptureBytes.{CaptureBytes}
-use Rattle.racl_report.specs.KeptInputs.{HaveCaptures, IsKept, IsKeptWhere}
+use Rattle.racl_report.specs.KeptInputs.{HaveCaptures, IsKeptWhere}
 use Rattle.racl_report.specs.RunReports.{JudgedFacts}
 use Rattle.racl_report.specs.WrittenReports.{needs_bytes}
 use Rattle.racl_report.specs.declared.kept_input.KeptCaptures.{KeptCaptures}
