@@ -267,9 +267,9 @@ fn judge_content<T: Threads + Wait + Sync>(
     kept: &mut Option<Vec<CaptureBytes>>,
 ) -> Result<Judged, Fault>
     requires { MayJudgeContent options.now plan input.content.now }
-    ensures ok { IfOk result (HasReached options.now (policy_facts plan.entry.manner.filter.now.policy.now) input.form input.content.now) }
-    ensures kept { OnOk result (Gains (AreDecoded input.form input.content.now) kept.old kept.new) }
-    ensures fault { IfErr result (λ fault. (fault ≡ Memory) ⊎ IsFaultOfContent input.form input.content.now fault) }
+    ensures ok { IfOk result (HasReached options.now (policy_facts plan.entry.manner.filter.now.policy.now) input.entry.form input.entry.content.now) }
+    ensures kept { OnOk result (Gains (AreDecoded input.entry.form input.entry.content.now) kept.old kept.new) }
+    ensures fault { IfErr result (λ fault. (fault ≡ Memory) ⊎ IsFaultOfContent input.entry.form input.entry.content.now fault) }
 {
     let Plan { beside, manner } = plan;
     let Ok((tables, callers)) = create_sized(alloc, options.tables, options.ages) else {

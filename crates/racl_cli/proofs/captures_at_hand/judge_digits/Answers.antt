@@ -1,4 +1,4 @@
-use Rattle.std.proofs.Common.{◌≡◌, List, ℕ, [], ◌∷◌, ap, arith, inl, inr, refl, subst}
+use Rattle.std.proofs.Common.{◌≡◌, List, ℕ, [], ◌∷◌, ap, arith, inl, inr, length, refl, subst}
 use Rattle.racl_io.specs.Faults.{IsFaultOfCapture}
 use Rattle.racl_io.specs.declared.marker_line.Form.TheVariants.{Hexadecimal}
 use Rattle.racl_cli.specs.inner.Captures.{HaveJudgedCapture}

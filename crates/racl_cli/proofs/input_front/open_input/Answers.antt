@@ -52,8 +52,8 @@ returns-in_ok-order-in-Binary-clause-ok c =
       },
     )
 
-pub returns-in_default-clause-ok : goal.returns-in_default-clause-ok
-returns-in_default-clause-ok c =
+pub returns-in_default-form-clause-ok : goal.returns-in_default-form-clause-ok
+returns-in_default-form-clause-ok c =
     let input = c.in-Some.input in
     let bytes = c.args.bytes.now in
     let parts = input_facts input in
