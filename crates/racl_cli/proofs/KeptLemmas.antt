@@ -109,7 +109,7 @@ none_decoded next = λ packets told taken. record { seen = []; left = packets; t
 
 pub next_decoded : {T : Type 0} (begun : Option NumberedFacts) (capture : mark.Numbered) (new : Walk T) (first more : List CaptureBytes)
     → AreDecodedBefore begun (Some (facts_of capture)) first → IsNextDecoded capture new more → AreDecodedBefore begun (numbered_facts new.next) (first ++ more)
-next_decoded begun capture new first more before (digits, cut, own, is, at, spelt) = λ packets told taken.
+next_decoded begun capture new first more before (digits, cut, (own, is, at, spelt)) = λ packets told taken.
     let amid = subst (λ n. AreAmid first (from_here n capture.content.now) packets) (sym at) (before packets told taken) in
     amid_more first (first ++ more) own capture.content.now digits (numbered_facts new.next) packets amid cut spelt (ap (λ (all : List CaptureBytes). first ++ all) is)
 
