@@ -5,6 +5,7 @@ mod callers_split_and_joined;
 mod counts;
 mod judge;
 mod judge_aged;
+mod judge_ahead;
 mod judge_closed;
 mod judge_made_and_ruled;
 mod judge_of_packets;
@@ -20,6 +21,7 @@ mod tables_share;
 
 pub use counts::Counts;
 pub use judge::Judge;
+pub use judge_ahead::AHEAD;
 pub use judged::Judged;
 pub use packet_bucket::{FlowBucket, flow_bucket};
 pub use rule_counts::RuleCounts;

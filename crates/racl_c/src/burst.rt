@@ -1,11 +1,16 @@
 //! Frames judged one after the other in one call.
 ghost use Rattle.std.specs.Prelude.{◌≡◌};
+ghost use Rattle.packet_view.specs.Captures.{packet_facts};
 ghost use Rattle.racl_c.specs.Bursts.{BurstTold, frame_in, packet_in};
 ghost use Rattle.racl_c.specs.Contents.{JudgeTold};
 
 use crate::answer_numbers::{Answer, CONTENDED, judged_answer};
 use bihash_words::Shape;
-use flow_judge::Judge;
+use flow_judge::{AHEAD, Judge};
+use packet_view::Packet;
+
+// How many buckets a table has at least for which loads are made ahead, as log2: a smaller one stays near anyway.
+const FAR: u64 = 13;
 
 /// A frame in an area of memory, which was seen at this interface in this second.
 #[repr(C)]
@@ -34,6 +39,47 @@ fn frame_of<'a>(memory: &'a [u8], descriptor: &Descriptor) -> &'a [u8]
     &rest[..length]
 }
 
+// The packet that a descriptor names.
+#[inline(always)]
+fn packet_of<'a>(memory: &'a [u8], descriptor: &Descriptor) -> Packet<'a>
+    ensures { packet_facts result ≡ packet_in memory.now descriptor.now }
+{
+    Packet {
+        interface: descriptor.interface,
+        moment: descriptor.second,
+        frame: frame_of(memory, descriptor),
+    }
+}
+
+// Loads what judging the first of these frames will load.
+#[inline(never)]
+fn load_ahead<A: Shape, B: Shape>(
+    judge: &Judge<A, B>,
+    memory: &[u8],
+    first: &Descriptor,
+    descriptors: &[Descriptor],
+) {
+    let mut packets = [packet_of(memory, first); AHEAD];
+    let count = descriptors.len().min(AHEAD);
+    for i in 0..count {
+        packets[i] = packet_of(memory, &descriptors[i]);
+    }
+    judge.load_ahead(&packets[..count]);
+}
+
+// Loads ahead for the frames from this place on, each time that enough of them were judged.
+#[inline(always)]
+fn load_ahead_at<A: Shape, B: Shape>(
+    at: usize,
+    judge: &Judge<A, B>,
+    memory: &[u8],
+    descriptors: &[Descriptor],
+) {
+    if A::LOG2_BUCKETS >= FAR && at % AHEAD == 0 && at < descriptors.len() {
+        load_ahead(judge, memory, &descriptors[at], &descriptors[at..]);
+    }
+}
+
 // One try of judging the frame that a descriptor names.
 #[inline(always)]
 fn judge_described<A: Shape, B: Shape>(
@@ -60,6 +106,7 @@ pub fn judge_burst<A: Shape, B: Shape>(
 {
     let mut done = 0;
     'frames: while done < descriptors.len() && done < answers.len() {
+        load_ahead_at(done, judge, memory, descriptors);
         let answer = judge_described(judge, memory, &descriptors[done]);
         answers[done] = answer;
         if answer.kind == CONTENDED {

@@ -1,5 +1,5 @@
 -- The frame is the packet's alone, so the way that was told is its way.
-use Rattle.std.proofs.Common.{rules, ◌≡◌, ◌∙◌, ap, sym}
+use Rattle.std.proofs.Common.{rules, ◌∙◌, ap, sym}
 use Rattle.flow_judge.specs.Ways.{way_of}
 use Rattle.flow_judge.proofs.judge.Judge.judge_seen.Goals as goal
 
