@@ -1,5 +1,6 @@
 pub mod Crews
 pub mod LiveRuns
+pub mod LiveSaves
 pub mod Reads
 pub mod Runs
 pub mod SavingRuns
