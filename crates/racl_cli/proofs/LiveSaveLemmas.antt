@@ -123,8 +123,8 @@ module _ (order : Order) (header read whole rest : List ℕ) (end : End) (headed
   behind : drop 24 (header ++ read) ≡ read
   behind = behind_header_appended header read (omega arith) ∙ ap (λ b. b ++ read) (drop_all 24 header (omega arith))
 
-  are : read ≡ concat pieces ++ rest
-  are = all ∙ ap (λ (b : List ℕ). b ++ rest) bytes
+  all_bytes : read ≡ concat pieces ++ rest
+  all_bytes = all ∙ ap (λ (b : List ℕ). b ++ rest) bytes
 
   is_saved : (chosen : Chosen) → IsSaved chosen verdicts (header ++ read) (header ++ concat (chosen_among chosen verdicts pieces))
   is_saved chosen =
@@ -137,7 +137,7 @@ module _ (order : Order) (header read whole rest : List ℕ) (end : End) (headed
           order,
           rest,
           right,
-          subst (λ (b : List ℕ). AreRecords order b packets rest) (sym (behind ∙ are))
+          subst (λ (b : List ℕ). AreRecords order b packets rest) (sym (behind ∙ all_bytes))
               (records_appended order (concat pieces) rest packets [] (records_spelt order pieces packets each)),
           ends,
         );
@@ -147,7 +147,7 @@ module _ (order : Order) (header read whole rest : List ℕ) (end : End) (headed
           pieces = pieces;
           each = each;
           rest = rest;
-          spelt = ap (λ (b : List ℕ). header ++ b) are ∙ ap (λ (b : List ℕ). b ++ (concat pieces ++ rest)) (sym front);
+          spelt = ap (λ (b : List ℕ). header ++ b) all_bytes ∙ ap (λ (b : List ℕ). b ++ (concat pieces ++ rest)) (sym front);
           all = ap (λ (b : List ℕ). b ++ concat (chosen_among chosen verdicts pieces)) (sym front);
         };
       }

@@ -7,7 +7,9 @@ use racl_cli::{Fault, Lines, LiveAsked, LiveSaves, Options, Saves, Totals, run_l
 use racl_io::decode_digits;
 use session_state::Shown;
 use std::alloc::Global;
+use std::sync::Wait;
 use std::test::Fail;
+use std::thread::Threads;
 
 const POLICY: &[u8] = b"\
 mac 02:00:00:00:00:01
@@ -54,8 +56,8 @@ const CUTS: [(usize, &str, &str); 6] = [
 ];
 
 // For tests of live runs: what comes of one on the capture that this reader gives, which saves no packets.
-fn unsaved(
-    rt: &HostRuntime,
+fn unsaved<T: Threads + Wait + Sync>(
+    rt: &T,
     alloc: Global,
     options: &Options,
     reader: &mut Drip<'_>,
@@ -237,8 +239,8 @@ fn live_runs_count_while_packets_come(rt: HostRuntime) -> Result<(), Fail> {
 
 // For tests of live runs: what is saved of the capture's first bytes, where so many more writes go through to the file of
 // dropped packets; and what came of the run.
-fn saved_of(
-    rt: &HostRuntime,
+fn saved_of<T: Threads + Wait + Sync>(
+    rt: &T,
     alloc: Global,
     bytes: &[u8],
     count: usize,
