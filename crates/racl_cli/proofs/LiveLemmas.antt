@@ -207,4 +207,4 @@ pub header_fault : {S : Type 0} (sink : S → Option (List ℕ)) (options : Opti
     (header : HasReadHeader before left order) (fault : Fault) → fault ≡ Write
     → IsLiveRunFault sink options text before left (outputs old first) (outputs old last) fault
 header_fault sink options text before left old first last order header fault is =
-    inl ((header.header, header.consumed, let whole = header.whole in omega arith), inr (inr (inl is)), refl, λ other. absurd (other is))
+    inl (((header.header, header.consumed, let whole = header.whole in omega arith), inr (inr (inl is))), refl, λ other. absurd (other is))
