@@ -46,7 +46,7 @@ returns-clause-told g c =
       left = g.R.Source.bytes c.keep_header.new.reader;
       consumed = header.consumed;
     })
-    header (subst (λ (h : List ℕ). HaveGot g.S.Sink.bytes h c.args.saves.now.files c.begin.new.self.files) (c.as_slice.ensures ∙ sym kept) c.in-Ok-begin.ensures.got.0)
+    header (subst (λ (h : List ℕ). HaveGot g.S.Sink.bytes h c.args.saves.now.files c.begin.new.self.files) (c.as_slice.ensures.value ∙ sym kept) c.in-Ok-begin.ensures.got.0)
     wording c.tell_as_asked.result tells refl refl told
 
 pub returns-in-Err-begin-clause-write : goal.returns-in-Err-begin-clause-write
