@@ -42,7 +42,7 @@ install-program:
 	install -D -m 755 crates/racl/out/racl $(TO)/libexec/racl/racl
 	install -m 644 install/run.sh $(TO)/libexec/racl/run.sh
 	install -d $(TO)/bin
-	install -m 755 install/racl racl-page $(TO)/bin
+	install -m 755 install/racl racl-page racl-import $(TO)/bin
 	install -D -m 644 $(PAGES)/racl.1 $(SHARE)/man/man1/racl.1
 	install -D -m 644 $(PAGES)/racl.bash $(SHARE)/bash-completion/completions/racl
 	install -D -m 644 $(PAGES)/_racl $(SHARE)/zsh/site-functions/_racl
@@ -59,7 +59,7 @@ install-libraries:
 	[ -n "$(DESTDIR)" ] || ldconfig 2>/dev/null || true
 
 uninstall:
-	rm -f $(TO)/bin/racl $(TO)/bin/racl-page $(SHARE)/man/man1/racl.1 $(SHARE)/bash-completion/completions/racl $(SHARE)/zsh/site-functions/_racl
+	rm -f $(TO)/bin/racl $(TO)/bin/racl-page $(TO)/bin/racl-import $(SHARE)/man/man1/racl.1 $(SHARE)/bash-completion/completions/racl $(SHARE)/zsh/site-functions/_racl
 	rm -f $(TO)/include/racl.h $(TO)/include/bihash.h $(TO)/lib/libracl.* $(TO)/lib/libbihash.*
 	rm -f $(TO)/lib/pkgconfig/racl.pc $(TO)/lib/pkgconfig/bihash.pc
 	rm -rf $(TO)/libexec/racl $(DOC)

@@ -9,6 +9,8 @@ from support.cases import SECONDS, TOP, Case, each, wanted
 # Commands that documents show and that need not be there, and what stands in for `xxd -r -p`, without which no capture is made.
 TOOLS = ("tcpdump", "tshark", "editcap", "mergecap")
 XXD = b"#!/bin/sh\nexec python3 -c 'import sys; sys.stdout.buffer.write(bytes.fromhex(sys.stdin.read()))'\n"
+# As the launcher does, the word `import` runs racl-import.
+LAUNCHER = '#!/bin/sh\nif [ "$1" = import ]; then shift; exec "{0}/racl-import" "$@"; fi\nexec "{1}" "$@"\n'
 
 
 def text_of(name):
@@ -42,7 +44,7 @@ class Documents(Case):
         what the block writes. Those that capture are left out, and those of a tool that isn't there."""
         found = re.findall(r"^```\n(.*?)^```$(?:\n\nwrites\n\n```\n(.*?)^```$)?", text_of("docs/POLICIES.md"), re.M | re.S)
         os.symlink(f"{TOP}/examples", f"{self.folder}/examples")
-        os.symlink(self.program.path, f"{self.folder}/racl")
+        os.chmod(self.hold("racl", LAUNCHER.format(TOP, self.program.path).encode()), 0o755)
         env = {**os.environ, "LC_ALL": "C"}
         if not shutil.which("xxd"):
             os.mkdir(f"{self.folder}/bin")

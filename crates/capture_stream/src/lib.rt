@@ -9,6 +9,7 @@ mod saver;
 mod stream_judging;
 mod windows_of_records;
 
+pub use engine::{Engine, is_cut};
 pub use hex_digits::{HexDigits, are_digits};
 pub use judge::Judge;
 pub use live_telling::{Headed, ToldCapture, tell_live};

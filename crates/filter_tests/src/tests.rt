@@ -3,6 +3,7 @@ use session_state::Timeouts;
 use std::test::Fail;
 
 mod captures;
+mod covers;
 mod dealt_packets;
 mod filters;
 mod frames;

@@ -1,5 +1,5 @@
 -- What closing one family's table leaves of a judge: s is the judge before, t after it.
-use Rattle.std.specs.Prelude.{◌≡◌, ◌⊎◌, ℕ, List}
+use Rattle.std.specs.Prelude.{◌≡◌, ◌⊎◌, ℕ, List, true, false}
 use Rattle.bihash_words.specs.Sizes.{Sizes, sizes_of}
 use Rattle.bihash_words.specs.declared.shape.Shape.{Ghosts}
 use Rattle.bihash_rule.specs.Views.{first_view}
@@ -22,16 +22,21 @@ StaysOpen z s fault t =
 
 -- the table of IPv4 had these pairs, and the judge goes on over a new one
 abbrev pub IsClosedFour : {A K : Type 0} → Ghosts A K → JudgeState → List (K × ℕ) → JudgeState → Type 0
-IsClosedFour g s ps t = IsReopened g s.four ps t.four × (t ≡ record s { four = t.four })
+IsClosedFour g s ps t = IsReopened g s.four ps t.four × (t ≡ record s { four = t.four; shared = false })
 
 -- so of IPv6
 abbrev pub IsClosedSix : {A K : Type 0} → Ghosts A K → JudgeState → List (K × ℕ) → JudgeState → Type 0
-IsClosedSix g s ps t = IsReopened g s.six ps t.six × (t ≡ record s { six = t.six })
+IsClosedSix g s ps t = IsReopened g s.six ps t.six × (t ≡ record s { six = t.six; shared = false })
 
--- why the table of IPv4 was not closed; another judge may have a share of the tables still, and then nothing was done
+-- why the table of IPv4 was not closed; where the tables are shared another judge may have a share of them still, and then nothing
+-- was done
 abbrev pub IsFourKept : Sizes → JudgeState → CloseFault → JudgeState → Type 0
-IsFourKept z s fault t = (StaysOpen z s.four fault t.four × (t ≡ record s { four = t.four })) ⊎ ((fault ≡ Strangers) × (t ≡ s))
+IsFourKept z s fault t =
+    (StaysOpen z s.four fault t.four × (t ≡ record s { four = t.four; shared = false }))
+    ⊎ ((fault ≡ Strangers) × (s.shared ≡ true) × (t ≡ s))
 
 -- so that of IPv6
 abbrev pub IsSixKept : Sizes → JudgeState → CloseFault → JudgeState → Type 0
-IsSixKept z s fault t = (StaysOpen z s.six fault t.six × (t ≡ record s { six = t.six })) ⊎ ((fault ≡ Strangers) × (t ≡ s))
+IsSixKept z s fault t =
+    (StaysOpen z s.six fault t.six × (t ≡ record s { six = t.six; shared = false }))
+    ⊎ ((fault ≡ Strangers) × (s.shared ≡ true) × (t ≡ s))

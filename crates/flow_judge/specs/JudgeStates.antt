@@ -1,4 +1,6 @@
--- What a judge of packets is, as contracts see it: what it judges by, its callers, and what it counted.
+-- What a judge of packets is, as contracts see it: what it judges by, its callers, what it counted, and whether another judge may
+-- have a share of its tables.
+use Rattle.std.specs.Prelude.{Bool}
 use Rattle.acl_policy.specs.Policies.{PolicyFacts}
 use Rattle.bihash_steps.specs.Seats.{CallerState}
 use Rattle.session_state.specs.declared.timeouts.Timeouts.{Timeouts}
@@ -11,6 +13,7 @@ pub record JudgeState : Type 0 where
   pub four : CallerState
   pub six : CallerState
   pub counts : Counts
+  pub shared : Bool
 
 -- what its callers of both tables know
 abbrev pub views_in : JudgeState → Views

@@ -1,5 +1,5 @@
 -- What becomes of a judge: s is the judge before a call, t after it.
-use Rattle.std.specs.Prelude.{◌≡◌, ◌≤◌, ◌<◌, ◌⊎◌, ℕ, List, true, Result, IfOk, IfErr, is_ok}
+use Rattle.std.specs.Prelude.{◌≡◌, ◌≤◌, ◌<◌, ◌⊎◌, ℕ, List, true, false, Result, IfOk, IfErr, is_ok}
 use Rattle.packet_view.specs.Captures.{PacketFacts}
 use Rattle.acl_policy.specs.Policies.{IsPolicyText}
 use Rattle.bihash_words.specs.Sizes.{Sizes}
@@ -28,6 +28,7 @@ pub record IsNewJudge (l : Layout) (text : List ℕ) (times : Timeouts) (t : Jud
   pub lives : t.times ≡ times
   pub first : views_in t ≡ first_views l
   pub counts : t.counts ≡ no_counts
+  pub shared : t.shared ≡ false
 
 -- the judge goes by the policy of this text, and is the same elsewhere
 pub record IsRuledAnew (text : List ℕ) (s t : JudgeState) : Type 0 where
@@ -93,6 +94,7 @@ pub record AreSplitJudges (l : Layout) (s t u : JudgeState) : Type 0 where
   pub four : IsSplit l.four s.four t.four u.four
   pub six : IsSplit l.six s.six t.six u.six
   pub counts : (t.counts ≡ s.counts) × (u.counts ≡ no_counts)
+  pub shared : (t.shared ≡ true) × (u.shared ≡ true)
 
 -- there is no new judge for this reason
 pub record IsSplitJudgeRefused (l : Layout) (fault : SplitFault) (s t : JudgeState) : Type 0 where
@@ -109,3 +111,4 @@ pub record IsJoinedJudge (l : Layout) (s other t : JudgeState) : Type 0 where
   pub four : IsJoined l.four s.four other.four t.four
   pub six : IsJoined l.six s.six other.six t.six
   pub counts : t.counts ≡ added s.counts other.counts
+  pub shared : t.shared ≡ s.shared

@@ -1,5 +1,5 @@
 -- What renewing one family's table leaves of a judge: s is the judge before, t after it.
-use Rattle.std.specs.Prelude.{◌≡◌, ◌⊎◌}
+use Rattle.std.specs.Prelude.{◌≡◌, ◌⊎◌, true, false}
 use Rattle.packet_view.specs.declared.tuple.Family.{Family}
 use Rattle.packet_view.specs.declared.tuple.Family.TheVariants.{V4, V6}
 use Rattle.bihash_words.specs.Sizes.{sizes_of}
@@ -27,9 +27,11 @@ AreNotRenewed ga gb V6 s fault t =
 pub record IsRenewedJudge {A B K L : Type 0} (ga : Ghosts A K) (gb : Ghosts B L) (family : Family) (s t : JudgeState) : Type 0 where
   pub by : (t.policy ≡ s.policy) × (t.times ≡ s.times) × (t.counts ≡ s.counts)
   pub renewed : AreRenewed ga gb family s t
+  pub own : t.shared ≡ false
 
--- why it was not renewed; another judge may have a share of the tables still, and then nothing was done
+-- why it was not renewed; where the tables are shared another judge may have a share of them still, and then nothing was done
 pub record IsRenewRefusedJudge {A B K L : Type 0} (ga : Ghosts A K) (gb : Ghosts B L) (family : Family) (s : JudgeState)
     (fault : RenewFault) (t : JudgeState) : Type 0 where
   pub by : (t.policy ≡ s.policy) × (t.times ≡ s.times) × (t.counts ≡ s.counts)
-  pub refused : AreNotRenewed ga gb family s fault t ⊎ ((fault ≡ Strangers) × (t ≡ s))
+  pub refused : (AreNotRenewed ga gb family s fault t × (t.shared ≡ false))
+      ⊎ ((fault ≡ Strangers) × (s.shared ≡ true) × (t ≡ s))

@@ -1,5 +1,5 @@
 //! A judge of which one family's table is closed: its sessions are given, and the judge goes on over a new one.
-ghost use Rattle.std.specs.Prelude.{◌≡◌, IfErr, IfOk};
+ghost use Rattle.std.specs.Prelude.{◌≡◌, IfErr, IfOk, true};
 ghost use Rattle.std.specs.Arc.{arc_value};
 ghost use Rattle.acl_policy.specs.Policies.{policy_facts};
 ghost use Rattle.bihash_words.specs.Sizes.{IsSound, sizes_of};
@@ -62,8 +62,9 @@ impl<A: Shape, B: Shape> Judge<A, B> {
           four = r.2.four.seat;
           six = r.2.six.seat;
           counts = r.3;
+          shared = self.shared;
         })) }
-        ensures back { IfErr result (λ r. r ≡ self) }
+        ensures back { IfErr result (λ r. (r ≡ self) × (self.shared ≡ true)) }
     {
         let Judge {
             filter,
@@ -83,8 +84,8 @@ impl<A: Shape, B: Shape> Judge<A, B> {
     }
 
     /// The pairs of the table of IPv4 flows, sorted by the words of their keys, and the judge over a new table of them.
-    /// `Strangers`: another judge has a share of the tables, or wasn't joined into this one. Refused, the judge has the
-    /// table still.
+    /// `Strangers`: another judge has a share of the tables, which it can have only where they are shared, or wasn't joined
+    /// into this one. Refused, the judge has the table still.
     pub fn close_four(self, alloc: Global) -> (Result<Vec<(A::Key, u64)>, CloseFault>, Judge<A, B>)
         ensures closed { IfOk result.0 (λ ps. IsClosedFour ⟦<A as Shape>⟧ self ps.items result.1) }
         ensures kept { IfErr result.0 (λ fault. IsFourKept (sizes_of A.Shape) self fault result.1) }

@@ -12,7 +12,7 @@ use std::alloc::Global;
 
 impl<A: Shape, B: Shape> Judge<A, B> {
     /// The judge, where this family's table begins anew with the sessions that it had. `Strangers`: another judge has a share
-    /// of the tables, or wasn't joined into this one. Refused, the judge comes back.
+    /// of the tables, which it can have only where they are shared, or wasn't joined into this one. Refused, the judge comes back.
     pub fn renew(
         self,
         alloc: Global,

@@ -1,6 +1,6 @@
 //! A judge's share of the session tables: its own, or one that other judges have too.
-ghost use Rattle.std.specs.Prelude.{◌≡◌, IfOk, IfErr};
-ghost use Rattle.flow_judge.specs.TablesShares.{tables_of};
+ghost use Rattle.std.specs.Prelude.{◌≡◌, IfOk, IfErr, true};
+ghost use Rattle.flow_judge.specs.TablesShares.{is_shared, tables_of};
 
 use bihash_words::Shape;
 use flow_workers::Tables;
@@ -34,6 +34,7 @@ impl<A: Shape, B: Shape> TablesShare<A, B> {
         alloc: Global,
     ) -> Result<(TablesShare<A, B>, TablesShare<A, B>), TablesShare<A, B>>
         ensures same { IfOk result (λ r. (tables_of r.0 ≡ tables_of self) × (tables_of r.1 ≡ tables_of self)) }
+        ensures shared { IfOk result (λ r. (is_shared r.0 ≡ true) × (is_shared r.1 ≡ true)) }
         ensures back { IfErr result (λ r. tables_of r ≡ tables_of self) }
     {
         let shared = match self {
@@ -53,6 +54,7 @@ impl<A: Shape, B: Shape> TablesShare<A, B> {
     pub fn into_own(self) -> Result<Tables<A, B>, TablesShare<A, B>>
         ensures own { IfOk result (λ r. r ≡ tables_of self) }
         ensures back { IfErr result (λ r. tables_of r ≡ tables_of self) }
+        ensures shared { IfErr result (λ r. (is_shared self ≡ true) × (is_shared r ≡ true)) }
     {
         match self {
             TablesShare::Own(tables) => Ok(tables),

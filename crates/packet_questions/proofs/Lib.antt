@@ -1,5 +1,6 @@
 pub mod CarriedLaws
 pub mod EndLaws
+pub mod FewLaws
 pub mod ListLaws
 pub mod QuestionLaws
 pub mod StepLaws

@@ -1,5 +1,5 @@
 -- What is told of packets that are written in words: the verdicts of the one-thread filter, in the lines of a report.
-use Rattle.std.specs.Prelude.{◌≡◌, ◌+◌, ◌⊎◌, ℕ, Bool, true, false, List, [], ◌∷◌, ◌++◌, All, length, map, Option, None}
+use Rattle.std.specs.Prelude.{◌≡◌, ◌≤◌, ◌+◌, ◌⊎◌, ℕ, Bool, true, false, List, [], ◌∷◌, ◌++◌, All, length, map, Option, None}
 use Rattle.std.specs.Io.KnownBytes.{Appends}
 use Rattle.packet_view.specs.Captures.{PacketFacts}
 use Rattle.packet_view.specs.Frames.{IsFrame}
@@ -79,7 +79,7 @@ AreAnswers false run lines = lines ≡ report_shown Every run.verdicts run.captu
 AreAnswers true run lines = IsExplained run lines
 
 -- The policy's text is right, the other texts write packets, and behind what was written before stand the one-thread
--- filter's verdicts on these, unless a verdict says no-pages.
+-- filter's verdicts on these, unless a verdict says no-pages. None does where at most 64 packets are asked about.
 pub record HasAnswered (layout : Layout) (explained : Bool) (text : List ℕ) (texts : List (List (List ℕ)))
     (old new : Option (List ℕ)) (totals : Totals) : Type 0 where
   pub policy : PolicyFacts
@@ -90,6 +90,7 @@ pub record HasAnswered (layout : Layout) (explained : Bool) (text : List ℕ) (t
   pub lives : AreDefaultTimes times
   pub verdicts : List Verdict
   pub by_one_thread : HavePages verdicts → AreVerdicts layout times policy (map packet_asked asked) verdicts
+  pub few : length asked ≤ 64 → HavePages verdicts
   pub lines : List ℕ
   pub told : AreAnswers explained (answer_facts policy text asked verdicts) lines
   pub behind : Appends old new lines

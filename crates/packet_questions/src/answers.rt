@@ -1,5 +1,5 @@
 //! The verdicts on packets that are written in words, told as a report.
-ghost use Rattle.std.specs.Prelude.{◌≡◌, ◌≢◌, ◌+◌, ◌-◌, ◌<◌, ◌^◌, ◌↔◌, ℕ, Err, IfErr, IfOk, List, length, map};
+ghost use Rattle.std.specs.Prelude.{◌≡◌, ◌≢◌, ◌≤◌, ◌+◌, ◌-◌, ◌<◌, ◌^◌, ◌↔◌, ℕ, Err, IfErr, IfOk, List, length, map};
 ghost use Rattle.packet_questions.specs.Asks.{texts};
 ghost use Rattle.packet_view.specs.Captures.{packet_facts};
 ghost use Rattle.session_state.specs.declared.shown_verdicts.Shown.TheVariants.{Every};
@@ -57,6 +57,7 @@ fn verdicts_on<'a, T: Threads + Wait + Sync>(
 ) -> Result<Vec<Verdict>, Fault>
     ensures ok { IfOk result (λ v. HavePages v.items → AreVerdicts (layout_of ⟦<ShapeV4 as Shape>⟧ ⟦<ShapeV6 as Shape>⟧)
         filter.now.times (policy_facts filter.now.policy) (map packet_facts packets.now) v.items) }
+    ensures few { IfOk result (λ v. length packets.now ≤ 64 → HavePages v.items) }
     ensures fault { IfErr result (λ fault. fault ≡ Fault.Memory) }
 {
     flow_shapes_are_sound();

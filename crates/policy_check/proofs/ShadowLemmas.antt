@@ -1,10 +1,14 @@
 -- What one rule lets through is let through by another, and which flags none lets through.
-use Rattle.std.proofs.Common.{◌≡◌, ◌≢◌, ◌≤◌, ℕ, ◌+◌, ◌-◌, ◌/◌, ◌^◌, bit_and, sym, ap, ◌∙◌, arith}
+use Rattle.std.proofs.Common.{◌≡◌, ◌≢◌, ◌≤◌, ℕ, zero, suc, ◌+◌, ◌-◌, ◌/◌, ◌^◌, List, [], ◌∷◌, Some, map, take, bit_and, sym, ap, ◌∙◌, arith}
+use Rattle.std.specs.Prelude.{slice_get}
 use Rattle.std.specs.Int.Bits.{and_self}
 use Rattle.std.proofs.lemmas.Nat.{and_assoc, shr-shr}
 use Rattle.packet_view.specs.declared.tuple.Family.{Family}
 use Rattle.acl_policy.specs.Matching.{HoldsPrefix}
+use Rattle.acl_policy.specs.Rules.{RuleFacts, rule_facts}
+use Rattle.acl_policy.specs.declared.rule.Rule.{Rule}
 use Rattle.policy_words.specs.Widths.{width}
+use Rattle.rule_cover.specs.Covers.{AreTaken}
 
 -- numbers that begin alike in more bits do so in fewer
 alike : (w e l a b : ℕ) → e ≤ l → l ≤ w → a / 2 ^ (w - l) ≡ b / 2 ^ (w - l) → a / 2 ^ (w - e) ≡ b / 2 ^ (w - e)
@@ -26,3 +30,19 @@ flags_taken flags value mask first kept more same has =
 pub no_flags_match : (mask value : ℕ) → bit_and value mask ≢ value → (flags : ℕ) → bit_and flags mask ≢ value
 no_flags_match mask value outside flags = λ has.
     outside (ap (λ (n : ℕ). bit_and n mask) (sym has) ∙ and_assoc mask flags mask ∙ ap (bit_and flags) (and_self mask) ∙ has)
+
+-- a rule at the front of a list is one of the list
+slice_get-front : (rules : List Rule) (n k : ℕ) (rule : RuleFacts) → slice_get (map rule_facts (take n rules)) k ≡ Some rule
+    → slice_get (map rule_facts rules) k ≡ Some rule
+slice_get-front [] zero k rule is = is
+slice_get-front [] (suc n) k rule is = is
+slice_get-front (x ∷ xs) zero k rule is = let f : ⊥ = cc in absurd f
+slice_get-front (x ∷ xs) (suc n) zero rule is = is
+slice_get-front (x ∷ xs) (suc n) (suc k) rule is = slice_get-front xs n k rule is
+
+-- what rules at the front take
+pub taken_in_list : (rules : List Rule) (n low high : ℕ) (a b : RuleFacts) → AreTaken a b (map rule_facts (take n rules)) low high
+    → AreTaken a b (map rule_facts rules) low high
+taken_in_list rules n low high a b taken tuple packet left right =
+    let it = taken tuple packet left right in
+    (it.0, it.1, it.2, it.3, slice_get-front rules n it.0 it.1 it.4, it.5)

@@ -8,8 +8,9 @@ use Rattle.acl_policy.specs.Matching.{HoldsPrefix, Matches}
 use Rattle.acl_policy.specs.Policies.{PolicyFacts, SectionFacts, rules_of}
 use Rattle.acl_policy.specs.Rules.{RuleFacts}
 use Rattle.policy_words.specs.Widths.{width}
+use Rattle.rule_cover.specs.Covers.{AreTaken}
 use Rattle.policy_check.specs.declared.remark_kinds.Remark.{Remark}
-use Rattle.policy_check.specs.declared.remark_kinds.Remark.TheVariants.{NoMac, NoRule, Shadowed, SourceBits, DestBits, Mask, UnmatchedFlags}
+use Rattle.policy_check.specs.declared.remark_kinds.Remark.TheVariants.{NoMac, NoRule, Shadowed, ShadowedTogether, SourceBits, DestBits, Mask, UnmatchedFlags}
 
 -- Each packet that the later rule matches is matched by the earlier one.
 abbrev pub TakesAll : RuleFacts → RuleFacts → Type 0
@@ -73,6 +74,15 @@ pub record IsShadowed (rules : List RuleFacts) (place first : ℕ) : Type 0 wher
   pub covers : Covers earlier later
   pub none : NoneCovers rules first later
 
+-- The rule at a place, counted from 0, is never the first that matches: those from one place to another before it take all its
+-- packets.
+pub record IsShadowedTogether (rules : List RuleFacts) (place low high : ℕ) : Type 0 where
+  pub order : low ≤ high
+  pub before : high < place
+  pub later : RuleFacts
+  pub is : slice_get rules place ≡ Some later
+  pub taken : AreTaken later later rules low high
+
 -- What is said of the rule at a place of a section; rules are told by their numbers from 1.
 abbrev pub IsRuleRemark : SectionFacts → Direction → ℕ → Remark → Type 0
 IsRuleRemark section direction place NoRule = ⊥
@@ -80,6 +90,9 @@ IsRuleRemark section direction place (NoMac interface) = ⊥
 IsRuleRemark section direction place (Shadowed interface way number earlier) =
     (interface ≡ section.interface) × (way ≡ direction) × (number ≡ place + 1)
     × ((first : ℕ) × (earlier ≡ first + 1) × IsShadowed (rules_of direction section) place first)
+IsRuleRemark section direction place (ShadowedTogether interface way number first last) =
+    (interface ≡ section.interface) × (way ≡ direction) × (number ≡ place + 1)
+    × ((low high : ℕ) × (first ≡ low + 1) × (last ≡ high + 1) × IsShadowedTogether (rules_of direction section) place low high)
 IsRuleRemark section direction place (SourceBits interface way number) =
     (interface ≡ section.interface) × (way ≡ direction) × (number ≡ place + 1)
     × ((rule : RuleFacts) × (slice_get (rules_of direction section) place ≡ Some rule) × HasBits rule.family rule.source)

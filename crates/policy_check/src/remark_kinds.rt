@@ -14,6 +14,9 @@ pub enum Remark {
     /// This rule of this direction never decides: the last one named takes all its packets.
     #[error("interface {0}: {way} rule {2} never decides, since rule {3} takes all its packets", way = direction_in_remark(*.1))]
     Shadowed(u8, Direction, u64, u64),
+    /// This rule of this direction never decides: the rules from the first to the last one named take all its packets.
+    #[error("interface {0}: {way} rule {2} never decides, since rules {3} to {4} take all its packets", way = direction_in_remark(*.1))]
+    ShadowedTogether(u8, Direction, u64, u64, u64),
     /// The source of this rule has bits behind the length of its prefix.
     #[error("interface {0}: the source of {way} rule {2} has bits behind its prefix, which aren't looked at", way = direction_in_remark(*.1))]
     SourceBits(u8, Direction, u64),

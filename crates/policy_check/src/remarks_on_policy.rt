@@ -11,7 +11,11 @@ use crate::remark_kinds::{Remark, Unruled};
 use crate::shadowing_rules::takes_all;
 use acl_policy::{Policy, Rule, Section, width_of};
 use packet_view::{Direction, Family};
+use rule_cover::{Cover, uncovered};
 use std::alloc::{AllocError, Global};
+
+/// How many tests of a rule are spent on the question whether a rule never decides.
+const MOST_TESTS: u64 = 65_536;
 
 // Whether a prefix has bits behind its length, on which there is a remark.
 fn has_bits(family: Family, prefix: (u128, u8)) -> bool
@@ -60,7 +64,7 @@ fn taker(rules: &[Rule], place: usize) -> Option<usize>
 }
 
 // The remark on a rule of a policy that it never decides, since one before it takes all its packets.
-fn shadow(section: &Section, direction: Direction, place: usize) -> Option<Remark>
+fn shadow_of_one(section: &Section, direction: Direction, place: usize) -> Option<Remark>
     requires { place < length (rules_of direction (section_facts section.now)) }
     ensures { IfSome result (IsRuleRemark (section_facts section.now) direction place) }
 {
@@ -71,6 +75,53 @@ fn shadow(section: &Section, direction: Direction, place: usize) -> Option<Remar
         place as u64 + 1,
         first as u64 + 1,
     ))
+}
+
+// The remark on a rule of a policy that it never decides, since some before it take all its packets together.
+fn shadow_of_several(
+    alloc: Global,
+    section: &Section,
+    direction: Direction,
+    place: usize,
+) -> Result<Option<Remark>, AllocError>
+    requires { place < length (rules_of direction (section_facts section.now)) }
+    ensures { IfOk result (λ remark. IfSome remark (IsRuleRemark (section_facts section.now) direction place)) }
+{
+    let rule = rule_for_remarks(section, direction, place);
+    let rules = rules_for_remarks(section, direction);
+    let cover = uncovered(alloc, &rule, &rule, &rules[..place], MOST_TESTS)?;
+    let Cover::Taken(first, last) = cover else {
+        return Ok(None);
+    };
+    if last >= place {
+        return Ok(None);
+    }
+    if first > last {
+        return Ok(None);
+    }
+    Ok(Some(Remark::ShadowedTogether(
+        section.interface,
+        direction,
+        place as u64 + 1,
+        first as u64 + 1,
+        last as u64 + 1,
+    )))
+}
+
+// The remark on a rule of a policy that it never decides.
+fn shadow(
+    alloc: Global,
+    section: &Section,
+    direction: Direction,
+    place: usize,
+) -> Result<Option<Remark>, AllocError>
+    requires { place < length (rules_of direction (section_facts section.now)) }
+    ensures { IfOk result (λ remark. IfSome remark (IsRuleRemark (section_facts section.now) direction place)) }
+{
+    match shadow_of_one(section, direction, place) {
+        Some(remark) => Ok(Some(remark)),
+        None => shadow_of_several(alloc, section, direction, place),
+    }
 }
 
 // The remark on a rule of a policy that its source has bits behind the length of its prefix.
@@ -167,6 +218,7 @@ fn add(all: &mut Vec<Remark>, remark: Option<Remark>) -> Result<(), AllocError>
 
 // Adds what is said of the rules of a direction.
 fn add_rules(
+    alloc: Global,
     all: &mut Vec<Remark>,
     section: &Section,
     direction: Direction,
@@ -178,7 +230,8 @@ fn add_rules(
         add(all, dest_bits(section, direction, place))?;
         add(all, mask(section, direction, place))?;
         add(all, unmatched_flags(section, direction, place))?;
-        add(all, shadow(section, direction, place))?;
+        let remark = shadow(alloc, section, direction, place)?;
+        add(all, remark)?;
     }
     Ok(())
 }
@@ -197,12 +250,12 @@ pub fn no_mac(section: &Section) -> Option<Remark>
 }
 
 // Adds what is said of a section.
-fn add_section(all: &mut Vec<Remark>, section: &Section) -> Result<(), AllocError>
+fn add_section(alloc: Global, all: &mut Vec<Remark>, section: &Section) -> Result<(), AllocError>
     ensures { OnOk result (Adds (IsSectionRemark (section_facts section.now)) all.old.items all.new.items) }
 {
     add(all, no_mac(section))?;
-    add_rules(all, section, Direction::Inbound)?;
-    add_rules(all, section, Direction::Outbound)?;
+    add_rules(alloc, all, section, Direction::Inbound)?;
+    add_rules(alloc, all, section, Direction::Outbound)?;
     Ok(())
 }
 
@@ -237,8 +290,8 @@ fn has_no_rule(policy: &Policy) -> bool
     true
 }
 
-/// What is right in a policy, but unlikely to be meant. Each remark is true; not each rule that never decides is found. An
-/// `Err` says that memory ran out.
+/// What is right in a policy, but unlikely to be meant. Each remark is true. A rule that never decides isn't found where that
+/// takes more than 65,536 tests of a rule. An `Err` says that memory ran out.
 pub fn remarks_on(alloc: Global, policy: &Policy) -> Result<Vec<Remark>, AllocError>
     ensures { IfOk result (λ all. All (IsRemark (policy_facts policy.now)) all.items) }
 {
@@ -248,7 +301,7 @@ pub fn remarks_on(alloc: Global, policy: &Policy) -> Result<Vec<Remark>, AllocEr
         return Ok(all);
     }
     for section in &policy.sections {
-        add_section(&mut all, section)?;
+        add_section(alloc, &mut all, section)?;
     }
     Ok(all)
 }

@@ -107,7 +107,7 @@ among_rows (row ∷ rows) more direction tuple action (inr (fails, later)) = eli
 written_decides : (written : List LineWritten) (plain : List (List (List Word))) (direction : Direction) (tuple : TupleFacts) (action : Action)
     → AreAlike written plain → DecidesPlain (texts (joined plain)) direction tuple action → DecidesFirst written direction tuple action
 written_decides [] plain direction tuple action none h = subst (λ (p : List (List (List Word))). DecidesPlain (texts (joined p)) direction tuple action) none h
-written_decides (line ∷ lines) plain direction tuple action (rows, more, split, alike, others) h =
+written_decides (line ∷ lines) plain direction tuple action (rows, more, split, alike, begin, others) h =
     let here : DecidesPlain (texts (rows ++ joined more)) direction tuple action =
     subst (λ (p : List (List (List Word))). DecidesPlain (texts (joined p)) direction tuple action) split h in
     elim (among_rows rows (joined more) direction tuple action here) [
@@ -194,7 +194,7 @@ front_plain (row ∷ rows) more direction tuple (fails, none) =
 none_written : (written : List LineWritten) (plain : List (List (List Word))) (direction : Direction) (tuple : TupleFacts) (action : Action)
     → AreAlike written plain → NoPlain (texts (joined plain)) direction tuple → DecidesFirst written direction tuple action → ⊥
 none_written [] plain direction tuple action none silent h = h
-none_written (line ∷ lines) plain direction tuple action (rows, more, split, alike, others) silent h =
+none_written (line ∷ lines) plain direction tuple action (rows, more, split, alike, begin, others) silent h =
     let here : NoPlain (texts (rows ++ joined more)) direction tuple =
     subst (λ (p : List (List (List Word))). NoPlain (texts (joined p)) direction tuple) split silent in
     let rest = front_plain rows (joined more) direction tuple here in

@@ -4,4 +4,6 @@ pub mod LineLemmas
 pub mod ListLemmas
 pub mod RowLemmas
 pub mod RuleLemmas
+pub mod SectionLemmas
+pub mod SourceLemmas
 pub mod TextLemmas

@@ -101,6 +101,12 @@ row_matches rule family sources dests row direction tuple action is one more_sou
       );
     }
 
+long_row : (rule : RuleWritten) (family : Word) (sources dests row : List Word) → IsOneOf row (family_rows rule family sources dests)
+    → (a b c : Word) × (more : List Word) × (row ≡ a ∷ b ∷ c ∷ more)
+long_row rule family sources dests row one =
+    let is = in_family rule family sources dests row one in
+    (rule.direction, rule.action, family, is.source ∷ is.dest ∷ is.words, is.stand)
+
 -- a rule with these addresses, and beyond them as another one
 abbrev with_ends : RuleFacts → Action → Family → ℕ × ℕ → ℕ × ℕ → RuleFacts
 with_ends plain action family source dest = record {
@@ -225,6 +231,20 @@ alike_in_one rule family families = record {
         | inr none ↦ absurd none
       ];
 }
+
+-- a row of a rule has three words and more
+pub long_rows : (rule : RuleWritten) (families row : List Word) → IsOneOf row (rows_by_family rule families)
+    → (a b c : Word) × (more : List Word) × (row ≡ a ∷ b ∷ c ∷ more)
+long_rows rule [] row none = absurd none
+long_rows rule (family ∷ []) row one = long_row rule family rule.sources rule.dests row one
+long_rows rule (first ∷ second ∷ []) row one =
+    let fours : List (List Word) = family_rows rule first (kept V4 rule.sources) (kept V4 rule.dests) in
+    let sixes : List (List Word) = family_rows rule second (kept V6 rule.sources) (kept V6 rule.dests) in
+    elim (one_of-append row fours sixes one) [
+      | inl h ↦ long_row rule first (kept V4 rule.sources) (kept V4 rule.dests) row h
+      | inr h ↦ long_row rule second (kept V6 rule.sources) (kept V6 rule.dests) row h
+    ]
+long_rows rule (first ∷ second ∷ third ∷ more) row none = absurd none
 
 -- two words with these texts
 two_words : (families : List Word) → map word_text families ≡ codes "ipv4" ∷ codes "ipv6" ∷ []

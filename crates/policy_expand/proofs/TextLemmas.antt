@@ -1,6 +1,7 @@
 -- The lines of a text that spells rows have these words.
 use Rattle.std.proofs.Common.{◌≡◌, ◌≢◌, ◌<◌, ◌-◌, ℕ, suc, List, [], ◌∷◌, ◌++◌, length, map, get_or, take, Bool, true, false, not, IsTrue, refl, sym, ap, ◌∙◌, subst, arith, inl, inr}
 use Rattle.std.specs.Prelude.{◌&&◌, ◌==◌, filter, nat_lt}
+use Rattle.std.specs.Fmt.{decimal}
 use Rattle.std.specs.List.{All, before_first, flat_map, list_all, position_or_len, onto_first, slice_split}
 use Rattle.std.specs.Str.Lines.{lines, lines_of_parts, strip_carriage_return}
 use Rattle.std.proofs.lemmas.Bool.{cases_Bool, cases_lt, eqb-true, lt-ltb, ltb-true, ne_eqb, not-true}
@@ -11,7 +12,8 @@ use Rattle.std.proofs.lemmas.List.Sums.{AllPass-from_list_all}
 use Rattle.policy_words.specs.Words.{is_blank, is_hash, is_word, without_comment, words_of}
 use Rattle.policy_expand.specs.Expansions.{AreExpanded, IsLineExpanded}
 use Rattle.policy_expand.specs.FirstMatch.{AreAlike, HaveWords, joined}
-use Rattle.policy_expand.specs.Texts.{Spells, ended, is_printable, spelt}
+use Rattle.policy_expand.specs.Sources.{SourceFacts}
+use Rattle.policy_expand.specs.Texts.{ended, is_printable, place_mark, plain_text, shown, spelt}
 use Rattle.policy_expand.specs.Visible.{is_ink, is_visible_word}
 use Rattle.policy_expand.specs.Written.{LineWritten, word_text}
 use Rattle.policy_expand.specs.declared.named_set.NamedSet.{NamedSet}
@@ -157,47 +159,47 @@ one_line line rest shown =
 abbrev line_words : List ℕ → List (List ℕ)
 line_words line = words_of (without_comment line)
 
--- the lines of a text that spells rows have their words
-pub spelt_lines : (rows : List (List Word)) (text : List ℕ) → Spells text rows → HaveWords (lines text) rows
-spelt_lines [] text none = ap (λ (t : List ℕ). map line_words (lines t)) none
-spelt_lines (row ∷ rows) text (mark, rest, shown, split, others) =
+-- the lines of rows have their words, whatever lines follow
+spelt_lines : (rows : List (List Word)) (mark rest : List ℕ) → list_all is_printable mark ≡ true
+    → map line_words (lines (plain_text mark rows ++ rest)) ≡ map (map word_text) rows ++ map line_words (lines rest)
+spelt_lines [] mark rest printable = refl
+spelt_lines (row ∷ rows) mark rest printable =
     let line : List ℕ = spelt row ++ 35 ∷ mark in
-    let printable : list_all is_printable line ≡ true = all_append is_printable (spelt row) (35 ∷ mark) (spelt_printable row) shown in
-    let front : ended row mark ++ rest ≡ line ++ 10 ∷ rest =
-    append_assoc (spelt row) (35 ∷ (mark ++ 10 ∷ [])) rest
-    ∙ ap (λ (t : List ℕ). spelt row ++ 35 ∷ t) (append_assoc mark (10 ∷ []) rest)
-    ∙ sym (append_assoc (spelt row) (35 ∷ mark) (10 ∷ rest)) in
-    ap (λ (t : List ℕ). map line_words (lines t)) (split ∙ front) ∙ ap (map line_words) (one_line line rest printable)
-    ∙ ap (λ (words : List (List ℕ)). words ∷ map line_words (lines rest)) (line_has_words row mark)
-    ∙ ap (λ (all : List (List (List ℕ))). map word_text row ∷ all) (spelt_lines rows rest others)
+    let behind : List ℕ = plain_text mark rows ++ rest in
+    let seen : list_all is_printable line ≡ true = all_append is_printable (spelt row) (35 ∷ mark) (spelt_printable row) printable in
+    let front : ended row mark ++ behind ≡ line ++ 10 ∷ behind =
+    append_assoc (spelt row) (35 ∷ (mark ++ 10 ∷ [])) behind
+    ∙ ap (λ (t : List ℕ). spelt row ++ 35 ∷ t) (append_assoc mark (10 ∷ []) behind)
+    ∙ sym (append_assoc (spelt row) (35 ∷ mark) (10 ∷ behind)) in
+    ap (λ (t : List ℕ). map line_words (lines t)) (append_assoc (ended row mark) (plain_text mark rows) rest ∙ front)
+    ∙ ap (map line_words) (one_line line behind seen)
+    ∙ ap (λ (words : List (List ℕ)). words ∷ map line_words (lines behind)) (line_has_words row mark)
+    ∙ ap (λ (all : List (List (List ℕ))). map word_text row ∷ all) (spelt_lines rows mark rest printable)
 
--- texts that spell rows spell them one behind the other
-spells_both : (front rest : List ℕ) (rows more : List (List Word)) → Spells front rows → Spells rest more → Spells (front ++ rest) (rows ++ more)
-spells_both front rest [] more none others = subst (λ (t : List ℕ). Spells t more) (sym (ap (λ (f : List ℕ). f ++ rest) none)) others
-spells_both front rest (row ∷ rows) more (mark, later, shown, split, here) others = (
-  mark,
-  later ++ rest,
-  shown,
-  ap (λ (f : List ℕ). f ++ rest) split ∙ append_assoc (ended row mark) later rest,
-  spells_both later rest rows more here others,
-)
+shown_printable : (b : ℕ) → is_printable (shown b) ≡ true
+shown_printable b = elim (cases_Bool (is_printable b)) [
+  | inl seen ↦ let e : shown b ≡ b = rw seen refl in ap is_printable e ∙ seen
+  | inr hidden ↦ let e : shown b ≡ 63 = rw hidden refl in ap is_printable e
+]
 
-expanded_alike : (sets : List NamedSet) (texts : List (List ℕ)) (news : List NamedSet) (written : List LineWritten) (plain : List (List (List Word)))
-    (text : List ℕ) → AreExpanded sets texts news written plain text → AreAlike written plain × Spells text (joined plain)
-expanded_alike sets [] news written plain text (same, no_written, no_plain, no_text) = (
+all_shown : (bytes : List ℕ) → list_all is_printable (map shown bytes) ≡ true
+all_shown [] = refl
+all_shown (b ∷ bytes) = and_true (is_printable (shown b)) (list_all is_printable (map shown bytes)) (shown_printable b) (all_shown bytes)
+
+pub expanded_lines : (sets : List NamedSet) (texts : List SourceFacts) (news : List NamedSet) (written : List LineWritten) (plain : List (List (List Word)))
+    (text : List ℕ) → AreExpanded sets texts news written plain text → AreAlike written plain × HaveWords (lines text) (joined plain)
+expanded_lines sets [] news written plain text (same, no_written, no_plain, no_text) = (
   subst (λ (ws : List LineWritten). AreAlike ws plain) (sym no_written) no_plain,
-  subst (λ (ps : List (List (List Word))). Spells text (joined ps)) (sym no_plain) no_text,
+  subst (λ (ps : List (List (List Word))). HaveWords (lines text) (joined ps)) (sym no_plain) (ap (λ (t : List ℕ). map line_words (lines t)) no_text),
 )
-expanded_alike sets (line ∷ texts) news written plain text
+expanded_lines sets (line ∷ texts) news written plain text
     (mid, first, others, rows, more, added, rest, written_split, plain_split, split, one, later) =
-    let behind = expanded_alike mid texts news others more rest later in (
-      subst (λ (ws : List LineWritten). AreAlike ws plain) (sym written_split) (rows, more, plain_split, one.alike, behind.0),
-      subst (λ (ps : List (List (List Word))). Spells text (joined ps)) (sym plain_split)
-          (subst (λ (t : List ℕ). Spells t (rows ++ joined more)) (sym split) (spells_both added rest rows (joined more) one.spells behind.1)),
+    let behind = expanded_lines mid texts news others more rest later in
+    let mark : List ℕ = place_mark line in (
+      subst (λ (ws : List LineWritten). AreAlike ws plain) (sym written_split) (rows, more, plain_split, one.alike, one.begin, behind.0),
+      subst (λ (ps : List (List (List Word))). HaveWords (lines text) (joined ps)) (sym plain_split)
+          (ap (λ (t : List ℕ). map line_words (lines t)) (split ∙ ap (λ (a : List ℕ). a ++ rest) one.spells)
+          ∙ spelt_lines rows mark rest (all_shown (32 ∷ (line.file ++ 58 ∷ decimal line.number)))
+          ∙ ap (λ (all : List (List (List ℕ))). map (map word_text) rows ++ all) behind.1
+          ∙ sym (map-append (map word_text) rows (joined more))),
     )
-
-pub expanded_lines : (texts : List (List ℕ)) (news sets : List NamedSet) (written : List LineWritten) (plain : List (List (List Word))) (text : List ℕ)
-    → AreExpanded sets texts news written plain text → AreAlike written plain × HaveWords (lines text) (joined plain)
-expanded_lines texts news sets written plain text are =
-    let both = expanded_alike sets texts news written plain text are in
-    (both.0, spelt_lines (joined plain) text both.1)

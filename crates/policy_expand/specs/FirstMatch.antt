@@ -6,14 +6,15 @@ use Rattle.packet_view.specs.declared.tuple.Direction.{Direction}
 use Rattle.acl_policy.specs.declared.rule.Action.{Action}
 use Rattle.policy_words.specs.Words.{without_comment, words_of}
 use Rattle.policy_expand.specs.Meaning.{MatchAlike, MatchesLine}
+use Rattle.policy_expand.specs.Sections.{BeginAlike}
 use Rattle.policy_expand.specs.Written.{LineWritten, word_text}
 use Rattle.policy_expand.specs.declared.visible_word.Word.{Word}
 
--- Each written line has rows that match as it does.
+-- Each written line has rows that match and begin sections as it does.
 abbrev pub AreAlike : List LineWritten → List (List (List Word)) → Type 0
 AreAlike [] plain = plain ≡ []
 AreAlike (line ∷ lines) plain =
-    (rows : List (List Word)) × (more : List (List (List Word))) × (plain ≡ rows ∷ more) × MatchAlike line rows × AreAlike lines more
+    (rows : List (List Word)) × (more : List (List (List Word))) × (plain ≡ rows ∷ more) × MatchAlike line rows × BeginAlike line rows × AreAlike lines more
 
 -- the rows of all
 abbrev pub joined : List (List (List Word)) → List (List Word)

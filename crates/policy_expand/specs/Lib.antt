@@ -3,6 +3,7 @@ pub mod Families
 pub mod FirstMatch
 pub mod Lists
 pub mod Meaning
+pub mod Sections
 pub mod Sources
 pub mod Texts
 pub mod ToldExpansions

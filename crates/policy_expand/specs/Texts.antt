@@ -1,11 +1,21 @@
 -- The text of plain lines (this project's profile).
-use Rattle.std.specs.Prelude.{◌≡◌, ℕ, Bool, List, [], ◌∷◌, ◌++◌, ◌&&◌, IsTrue, nat_lt}
-use Rattle.std.specs.List.{flat_map, list_all}
+use Rattle.std.specs.Prelude.{ℕ, Bool, List, [], ◌∷◌, ◌++◌, ◌&&◌, if◌then◌else◌, map, nat_lt}
+use Rattle.std.specs.Fmt.{decimal}
+use Rattle.std.specs.List.{flat_map}
+use Rattle.policy_expand.specs.Sources.{SourceFacts}
 use Rattle.policy_expand.specs.Written.{word_text}
 use Rattle.policy_expand.specs.declared.visible_word.Word.{Word}
 
 abbrev pub is_printable : ℕ → Bool
 is_printable b = nat_lt 31 b && nat_lt b 127
+
+-- a byte as it is shown: itself where it is printable, or else `?`
+abbrev pub shown : ℕ → ℕ
+shown b = if is_printable b then b else 63
+
+-- the comment that names the place of a written line: its file and number
+abbrev pub place_mark : SourceFacts → List ℕ
+place_mark line = map shown (32 ∷ (line.file ++ 58 ∷ decimal line.number))
 
 -- words, each with a space behind it
 abbrev pub spelt : List Word → List ℕ
@@ -15,8 +25,6 @@ spelt row = flat_map (λ (word : Word). word_text word ++ 32 ∷ []) row
 abbrev pub ended : List Word → List ℕ → List ℕ
 ended row mark = spelt row ++ 35 ∷ (mark ++ 10 ∷ [])
 
--- The text is a line for each row, with a comment that is printable.
-abbrev pub Spells : List ℕ → List (List Word) → Type 0
-Spells text [] = text ≡ []
-Spells text (row ∷ rows) =
-    (mark rest : List ℕ) × IsTrue (list_all is_printable mark) × (text ≡ ended row mark ++ rest) × Spells rest rows
+-- a line for each row, each with this comment
+abbrev pub plain_text : List ℕ → List (List Word) → List ℕ
+plain_text mark rows = flat_map (λ (row : List Word). ended row mark) rows

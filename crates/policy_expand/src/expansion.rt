@@ -1,8 +1,7 @@
 //! The plain policy that written lines stand for.
 ghost use Rattle.std.specs.Prelude.{◌≡◌, ◌++◌, ◌∷◌, [], List, ℕ, IfOk, IsTrue, OnOk, map};
 ghost use Rattle.policy_expand.specs.Expansions.{IsExpansion, IsLineExpanded};
-ghost use Rattle.policy_expand.specs.Meaning.{MatchAlike};
-ghost use Rattle.policy_expand.specs.Sources.{line_text};
+ghost use Rattle.policy_expand.specs.Sources.{source_facts};
 ghost use Rattle.policy_expand.specs.Written.{LineWritten, list_words};
 ghost use Rattle.policy_expand.specs.WrittenLines.{line_written};
 ghost use Rattle.policy_expand.specs.inner.Rows;
@@ -64,13 +63,13 @@ fn expand_line<'a>(
 ) -> Result<usize, LineFault<'a>>
     ensures { OnOk result ((written : LineWritten) × (rows : List (List Word)) × (added : List ℕ)
         × (text.new.items ≡ text.old.items ++ added)
-        × IsLineExpanded sets.old.items (line_text line.now) sets.new.items written rows added) }
+        × IsLineExpanded sets.old.items (source_facts line.now) sets.new.items written rows added) }
 {
     let words = words_of_written_line(alloc, line.text)?;
     let written = read_written_words(alloc, sets, words)?;
     let rows = plain_rows(alloc, written)?;
     let mark = mark_of(alloc, line)?;
-    push_plain_lines(text, rows.as_slice(), &mark)?;
+    push_plain_lines(text, rows.as_slice(), mark.as_slice())?;
     Ok(rows.len())
 }
 
@@ -87,7 +86,7 @@ pub fn expanded<'a>(
     alloc: Global,
     lines: &[SourceLine<'a>],
 ) -> Result<Expansion, ExpansionFault<'a>>
-    ensures { IfOk result (λ expansion. IsExpansion (map line_text lines.now) expansion.text.items) }
+    ensures { IfOk result (λ expansion. IsExpansion (map source_facts lines.now) expansion.text.items) }
 {
     let mut sets = Vec::new(alloc);
     let mut text = Vec::new(alloc);

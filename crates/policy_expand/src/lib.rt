@@ -4,7 +4,6 @@
 mod expansion;
 mod first_match_laws;
 mod named_set;
-mod place_mark;
 mod plain_text;
 mod rows_of_lists;
 mod rows_of_rule;

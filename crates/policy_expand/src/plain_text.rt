@@ -1,29 +1,38 @@
 //! The text of plain lines, each with the place at which it was written.
-ghost use Rattle.std.specs.Prelude.{◌≡◌, ◌++◌, ◌∷◌, [], List, ℕ, IfOk, IsTrue, OnOk, map, true};
+ghost use Rattle.std.specs.Prelude.{◌≡◌, ◌++◌, IfOk, OnOk, map};
+ghost use Rattle.policy_expand.specs.Sources.{source_facts};
 ghost use Rattle.policy_expand.specs.Texts;
-ghost use Rattle.policy_expand.specs.Texts.{Spells, ended, spelt};
+ghost use Rattle.policy_expand.specs.Texts.{ended, place_mark, plain_text, spelt};
 ghost use Rattle.policy_expand.specs.Written.{list_words};
 
-use crate::place_mark::Mark;
 use crate::source_line::SourceLine;
 use crate::visible_word::{Word, WordList};
 use std::alloc::{AllocError, Global};
 
-// A byte of a place's mark: any that isn't seen is shown as `?`.
-fn shown_byte(byte: u8) -> u8
-    ensures { IsTrue (Texts.is_printable result) }
+// A byte of a place's mark: any that isn't printable is shown as `?`.
+fn shown(byte: u8) -> u8
+    ensures { result ≡ Texts.shown byte }
 {
     if byte >= 32 && byte < 127 { byte } else { b'?' }
 }
 
-/// The mark of a line's place: its file and number.
-pub fn mark_of(alloc: Global, line: &SourceLine<'_>) -> Result<Mark, AllocError> {
-    let place = format!(in alloc; " {}:{}", line.file, line.number)?;
-    let mut bytes = Vec::new(alloc);
-    for byte in place.as_bytes() {
-        bytes.push(shown_byte(*byte))?;
+// Bytes as they are shown.
+fn shown_bytes(alloc: Global, bytes: &[u8]) -> Result<Vec<u8>, AllocError>
+    ensures { IfOk result (λ out. out.items ≡ map Texts.shown bytes.now) }
+{
+    let mut out = Vec::new(alloc);
+    for byte in bytes {
+        out.push(shown(*byte))?;
     }
-    Ok(Mark { bytes })
+    Ok(out)
+}
+
+/// The mark of a line's place: its file and number.
+pub fn mark_of(alloc: Global, line: &SourceLine<'_>) -> Result<Vec<u8>, AllocError>
+    ensures { IfOk result (λ mark. mark.items ≡ place_mark (source_facts line.now)) }
+{
+    let place = format!(in alloc; " {}:{}", line.file, line.number)?;
+    shown_bytes(alloc, place.as_bytes())
 }
 
 // Adds words to a text, each with a space behind it.
@@ -38,12 +47,12 @@ fn push_words(out: &mut Vec<u8>, row: &[Word<'_>]) -> Result<(), AllocError>
 }
 
 // Adds a plain line to a text.
-fn push_plain_line(out: &mut Vec<u8>, row: &[Word<'_>], mark: &Mark) -> Result<(), AllocError>
-    ensures { OnOk result (out.new.items ≡ out.old.items ++ ended row.now mark.now.bytes.items) }
+fn push_plain_line(out: &mut Vec<u8>, row: &[Word<'_>], mark: &[u8]) -> Result<(), AllocError>
+    ensures { OnOk result (out.new.items ≡ out.old.items ++ ended row.now mark.now) }
 {
     push_words(out, row)?;
     out.push(b'#')?;
-    out.extend_from_slice(mark.bytes.as_slice())?;
+    out.extend_from_slice(mark)?;
     out.push(b'\n')?;
     Ok(())
 }
@@ -52,10 +61,9 @@ fn push_plain_line(out: &mut Vec<u8>, row: &[Word<'_>], mark: &Mark) -> Result<(
 pub fn push_plain_lines(
     out: &mut Vec<u8>,
     rows: &[WordList<'_>],
-    mark: &Mark,
+    mark: &[u8],
 ) -> Result<(), AllocError>
-    ensures { OnOk result ((added : List ℕ) × (out.new.items ≡ out.old.items ++ added)
-        × Spells added (map list_words rows.now)) }
+    ensures { OnOk result (out.new.items ≡ out.old.items ++ plain_text mark.now (map list_words rows.now)) }
 {
     for row in rows {
         push_plain_line(out, row.words.as_slice(), mark)?;

@@ -1,8 +1,7 @@
 //! What is told of a written policy: the plain one, or what is wrong.
 ghost use Rattle.std.specs.Prelude.{◌≡◌, IfNone, IfOk, map};
-ghost use Rattle.std.specs.Str.Lines.{lines};
 ghost use Rattle.acl_policy.specs.Policies.{IsPolicyText, PolicyFacts};
-ghost use Rattle.policy_expand.specs.Sources.{line_text};
+ghost use Rattle.policy_expand.specs.Sources.{file_lines, source_facts};
 ghost use Rattle.policy_expand.specs.ToldExpansions.{IsToldOf};
 
 use crate::expansion::{Expansion, ExpansionFault, expanded};
@@ -100,7 +99,7 @@ fn source_lines<'a>(
     file: &'a str,
     text: &'a str,
 ) -> Result<Vec<SourceLine<'a>>, AllocError>
-    ensures { IfOk result (λ found. map line_text found.items ≡ lines text.now) }
+    ensures { IfOk result (λ found. map source_facts found.items ≡ file_lines file.now text.now) }
 {
     let mut found = Vec::new(alloc);
     for line in text.lines() {
@@ -116,7 +115,7 @@ fn source_lines<'a>(
 
 /// Tells the plain policy that the text of a file stands for, or what is wrong with it. An `Err` says that memory ran out.
 pub fn tell_expansion(alloc: Global, file: &str, text: &[u8]) -> Result<Told, AllocError>
-    ensures { IfOk result (IsToldOf text.now) }
+    ensures { IfOk result (IsToldOf file.now text.now) }
 {
     let Ok(read) = str::from_utf8(text) else {
         return Ok(Told::Faults(format!(in alloc; "racl: {file}: is not UTF-8\n")?));

@@ -6,19 +6,21 @@ ghost use Rattle.std.specs.Prelude.{◌<◌, ◌-◌, ◌^◌};
 
 mod ask;
 
-use racl_cli::{LiveAsked, LiveSaves, run, run_live, run_saving};
-use racl_io::{Device, FrontKept, Joined, Source};
-use racl_options::{Asked, Files, Origin};
+use racl_cli::{DiffFault, LiveAsked, LiveSaves, PolicyTexts, run, run_diff, run_live, run_saving};
+use racl_io::{Device, Fault, FrontKept, Joined, Source};
+use racl_options::{Asked, DiffFiles, Files, Origin, diff_options};
 use racl_system::{
-    LiveFiles, LiveInput, Output, Parts, Ran, Watched, asked_or_status, expansion_status,
-    failure_status, opened_input, opened_live, saves_to, say_end_of_live, say_end_of_run,
-    say_unsaved, say_used_twice, settled, texts_of, words_of,
+    DiffInput, LiveFiles, LiveInput, Output, Parts, Ran, Watched, asked_or_status, diff_or_status,
+    expansion_status, failure_status, opened_diff, opened_input, opened_live, saves_to,
+    say_capture_fault, say_end_of_live, say_end_of_run, say_policy_fault, say_unsaved,
+    say_used_twice, settled, texts_of, words_of,
 };
 use std::alloc::Global;
 use std::io;
 use std::process::ExitCode;
 use std::sync::Wait;
 use std::thread::Threads;
+use verdict_changes::status_behind;
 
 fn main(rt: HostRuntime) -> ExitCode {
     let status = match status_of_main(&rt, &rt, rt.alloc()) {
@@ -44,6 +46,11 @@ fn status_of_main<T: Threads + Wait + Sync>(
         Ok(None) => {}
         Ok(Some(status)) => return Ok(status),
         Err(error) => return Err(error),
+    }
+    match diff_or_status(rt, alloc, texts.as_slice())? {
+        Ok(Some(files)) => return status_of_diff(rt, threads, alloc, &files),
+        Ok(None) => {}
+        Err(status) => return Ok(status),
     }
     match asked_or_status(rt, alloc, texts.as_slice()) {
         Ok(Ok(asked)) => match &asked.origin {
@@ -158,4 +165,38 @@ fn status_of_live<T: Threads + Wait + Sync>(
         front: reader.inner.front(),
     };
     say_end_of_live(rt, alloc, &asked.options, input, &outcome)
+}
+
+// Compares the verdicts by two policies on the packets of a capture while it comes, tells how that ended, and answers the exit
+// status.
+fn status_of_diff<T: Threads + Wait + Sync>(
+    rt: &HostRuntime,
+    threads: &T,
+    alloc: Global,
+    files: &DiffFiles<'_>,
+) -> io::Result<u8> {
+    let DiffInput {
+        before,
+        after,
+        capture,
+    } = match opened_diff(rt, alloc, files) {
+        Ok(Ok(opened)) => opened,
+        Ok(Err(status)) => return Ok(status),
+        Err(error) => return Err(error),
+    };
+    let texts = PolicyTexts {
+        before: before.as_slice(),
+        after: after.as_slice(),
+    };
+    let options = diff_options();
+    let mut reader = Device::new(FrontKept::new(capture));
+    let mut writer = Device::new(rt.stdout());
+    match run_diff(threads, alloc, &options, texts, &mut reader, &mut writer) {
+        Ok(totals) => Ok(status_behind(&totals)),
+        Err(DiffFault::Before(cause)) => say_policy_fault(rt, files.before, Fault::from(cause)),
+        Err(DiffFault::After(cause)) => say_policy_fault(rt, files.after, Fault::from(cause)),
+        Err(DiffFault::Run(fault)) => {
+            say_capture_fault(rt, files.capture, reader.inner.front(), fault)
+        }
+    }
 }

@@ -1,4 +1,5 @@
 pub mod CountedLemmas
+pub mod DiffLemmas
 pub mod DigitLemmas
 pub mod InputLaws
 pub mod LiveEndLemmas

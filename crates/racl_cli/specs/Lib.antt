@@ -1,4 +1,5 @@
 pub mod Crews
+pub mod DiffRuns
 pub mod LiveRuns
 pub mod LiveSaves
 pub mod Reads

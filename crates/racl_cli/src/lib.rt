@@ -5,6 +5,8 @@
 mod bytes_at_hand;
 mod capture_header_reading;
 mod counted_judging;
+mod diff_input;
+mod diff_run;
 mod digit_captures_in_turn;
 mod ended_workers;
 mod input_front;
@@ -19,6 +21,8 @@ mod sized_tables_and_workers;
 mod stored_sessions;
 mod workers_as_judges;
 
+pub use diff_input::{DiffFault, PolicyTexts};
+pub use diff_run::run_diff;
 pub use live_run::{LiveAsked, run_live};
 pub use live_saves::LiveSaves;
 pub use racl_io::{Device, DeviceFault, Fault, Sink, Source, Totals};

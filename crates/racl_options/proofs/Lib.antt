@@ -1,5 +1,6 @@
 pub mod CheckLemmas
 pub mod CommandLemmas
+pub mod DiffLemmas
 pub mod NameLemmas
 pub mod NameWalks
 pub mod NumberLemmas

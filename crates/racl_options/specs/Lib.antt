@@ -1,6 +1,7 @@
 pub mod Asking
 pub mod Checks
 pub mod CommandLine
+pub mod Diffs
 pub mod Options
 pub mod Origins
 pub mod Selections

@@ -71,7 +71,8 @@ const USAGE: &str = "racl [OPTIONS] POLICY CAPTURE
        racl [OPTIONS] < INPUT
        racl check POLICY
        racl expand FILE
-       racl ask [--explain] POLICY PACKET ..";
+       racl ask [--explain] POLICY PACKET ..
+       racl diff OLD NEW CAPTURE";
 
 // The help of the command line below the options. A function of its own, so that no proof of a caller has the text.
 fn after_help() -> &'static str {
@@ -91,13 +92,15 @@ Examples:
   racl --json --hits --sessions host.policy host.pcap
   racl --drops dropped.pcap --passes passed.pcap host.policy host.pcap
   tcpdump -i eth0 -U -w - | racl --live host.policy -
+  racl diff host.policy new.policy host.pcap
 
 Exit status:
   0  done
   1  fault in the input
   2  fault in the words
   3  done, but the capture was cut off
-  4  memory or device"
+  4  memory or device
+  5  diff: a packet is changed"
 }
 
 // The command line as `clap` reads it, with all options, flags and files.

@@ -7,6 +7,7 @@ use Rattle.clap.specs.declared.error.kind.ErrorKind.TheVariants.{OutOfMemory, Va
 use Rattle.racl_options.specs.Asking.{AskForNothing}
 use Rattle.racl_options.specs.Checks.{AskForCheck, IsCheck, RefusesCheck}
 use Rattle.racl_options.specs.CommandLine.{IsRequest, racl}
+use Rattle.racl_options.specs.Diffs.{RefusesDiff}
 use Rattle.racl_system.specs.CheckStatuses.{IsCheckStatus}
 
 -- 0 for a request, 4 where memory ran out, and else 2
@@ -24,3 +25,7 @@ RefusesWords words e = RefusesCheck words e
 abbrev pub IsWordsStatus : (Text → Option (List ℕ)) → List Text → ℕ → Type 0
 IsWordsStatus named words status = ((name : Text) × AskForCheck words (Some name) × IsCheckStatus (named name) status)
     ⊎ ((e : Error) × RefusesWords words e × IsKindStatus (kind_of e) status)
+
+-- that of the error by which the words of a comparison are refused
+abbrev pub IsDiffWordsStatus : List Text → ℕ → Type 0
+IsDiffWordsStatus words status = (e : Error) × RefusesDiff words e × IsKindStatus (kind_of e) status

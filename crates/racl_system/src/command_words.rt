@@ -1,15 +1,16 @@
 //! The program's words, and what they ask for.
-ghost use Rattle.std.specs.Prelude.{◌≡◌, IfErr, IfOk, map, string_bytes};
+ghost use Rattle.std.specs.Prelude.{◌≡◌, IfErr, IfOk, map, option_map, string_bytes};
 ghost use Rattle.clap.specs.Walk.{texts};
 ghost use Rattle.racl_options.specs.Asking.{AskForRun, asked_facts};
 ghost use Rattle.racl_options.specs.Checks.{IsCheck};
-ghost use Rattle.racl_system.specs.WordStatuses.{IsWordsStatus};
+ghost use Rattle.racl_options.specs.Diffs.{AskForDiff, names_of};
+ghost use Rattle.racl_system.specs.WordStatuses.{IsDiffWordsStatus, IsWordsStatus};
 
 use crate::file_checking::check_file;
 use crate::say_and_answer_status::say_refused;
 use crate::system_files::SystemFiles;
 use racl_io::Device;
-use racl_options::{Asked, check_name, options};
+use racl_options::{Asked, DiffFiles, check_name, diff_files, options};
 use std::alloc::Global;
 use std::io;
 use std::io::{Eprint, Print};
@@ -53,6 +54,22 @@ pub fn asked_or_status<'a, S: SystemFiles + Print + Eprint>(
             name,
             &mut Device::new(system.standard_output()),
         )?)),
+        Err(error) => Ok(Err(say_refused(system, &error)?)),
+    }
+}
+
+/// The files of the comparison that the command's words ask for, where they ask for one. Where they are refused that is told, and
+/// the status is answered.
+pub fn diff_or_status<'a>(
+    system: &(impl Print + Eprint),
+    alloc: Global,
+    words: &'a [&'a str],
+) -> io::Result<Result<Option<DiffFiles<'a>>, u8>>
+    ensures files { IfOk result (λ found. IfOk found (λ files. AskForDiff (texts words.entry.now) (option_map names_of files))) }
+    ensures status { IfOk result (λ found. IfErr found (IsDiffWordsStatus (texts words.entry.now))) }
+{
+    match diff_files(alloc, words) {
+        Ok(files) => Ok(Ok(files)),
         Err(error) => Ok(Err(say_refused(system, &error)?)),
     }
 }

@@ -3,6 +3,7 @@
 #![tactic(auto)]
 
 mod command_words;
+mod diff_input;
 mod draft;
 mod end_of_run;
 mod expand_words;
@@ -21,7 +22,8 @@ mod say_and_answer_status;
 mod say_policy_remarks;
 mod system_files;
 
-pub use command_words::{asked_or_status, texts_of, words_of};
+pub use command_words::{asked_or_status, diff_or_status, texts_of, words_of};
+pub use diff_input::{DiffInput, opened_diff, say_capture_fault, say_policy_fault};
 pub use end_of_run::{LiveInput, Ran, say_end_of_live, say_end_of_run};
 pub use file_expanding::expansion_status;
 pub use input_files::{Parts, opened_input};

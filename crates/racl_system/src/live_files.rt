@@ -20,8 +20,8 @@ pub struct LiveFiles<S, F> {
     pub capture: Reader<S, F>,
 }
 
-// The text of the policy's file of a live run. Where it can't be had that is told, and the status is answered.
-fn live_policy_text<S: SystemFiles + Eprint>(
+/// The text of the policy's file of a live run. Where it can't be had that is told, and the status is answered.
+pub fn live_policy_text<S: SystemFiles + Eprint>(
     system: &S,
     alloc: Global,
     name: &str,

@@ -1,4 +1,5 @@
-use Rattle.std.proofs.Common.{◌≡◌, ◌∙◌, ℕ, List, [], ◌∷◌, None, ap, false, length, map, rules, subst, sym}
+use Rattle.std.proofs.Common.{◌≡◌, ◌∙◌, ℕ, List, [], ◌∷◌, None, ap, arith, false, length, map, rules, subst, sym}
+use Rattle.std.proofs.lemmas.List.{length-map}
 use Rattle.packet_view.specs.Captures.{PacketFacts, packet_facts}
 use Rattle.acl_policy.specs.Policies.{IsPolicyText, PolicyFacts, policy_facts}
 use Rattle.session_state.specs.declared.shown_verdicts.Shown.TheVariants.{Every}
@@ -53,6 +54,10 @@ returns-in-Ok-write_answers-clause-ok g c =
       verdicts = verdicts;
       by_one_thread = λ pages. subst (λ (ps : List PacketFacts). AreVerdicts (layout_of four.ghosts six.ghosts) c.default_times.result policy ps verdicts) judged
           (c.in-Ok-verdicts_on.ensures.ok pages);
+      few = λ count.
+          let counted : length c.deref-2.result.now ≡ length asked =
+          sym (length-map c.deref-2.result.now packet_facts) ∙ ap length judged ∙ length-map asked packet_asked in
+          c.in-Ok-verdicts_on.ensures.few (omega (arith, count, counted));
       lines = c.in-Ok-write_answers.ensures.0;
       told = subst (λ (r : RunFacts). AreAnswers c.args.ask.now.explained r c.in-Ok-write_answers.ensures.0) run_is (c.in-Ok-write_answers.ensures.1 says);
       behind = c.in-Ok-write_answers.ensures.2.whole;

@@ -14,4 +14,4 @@ loop-place-preserved c =
     let second = Adds-rule section c.args.direction place _ _ _ c.dest_bits.result first c.dest_bits.ensures c.in_ok-add-2.ensures in
     let third = Adds-rule section c.args.direction place _ _ _ c.mask.result second c.mask.ensures c.in_ok-add-3.ensures in
     let fourth = Adds-rule section c.args.direction place _ _ _ c.unmatched_flags.result third c.unmatched_flags.ensures c.in_ok-add-4.ensures in
-    Adds-rule section c.args.direction place _ _ _ c.shadow.result fourth c.shadow.ensures c.in_ok-add-5.ensures
+    Adds-rule section c.args.direction place _ _ _ c.in_ok-remark.remark fourth c.in_ok-remark.ensures c.in_ok-add-5.ensures

@@ -1,8 +1,8 @@
 use Rattle.std.proofs.Common.{◌≡◌, length, map, take}
 use Rattle.std.specs.Str.Lines.{lines}
-use Rattle.policy_expand.specs.Sources.{line_text}
+use Rattle.policy_expand.specs.Sources.{numbered, source_facts}
 use Rattle.policy_expand.proofs.told_expansion.source_lines.Given as goal
 
 -- The lines so far are found.
 abbrev pub invariant-loop-line : goal.invariant-loop-line
-invariant-loop-line l = map line_text l.found.items ≡ take (length l.yielded) (lines l.text)
+invariant-loop-line l = map source_facts l.found.items ≡ numbered l.file (take (length l.yielded) (lines l.text))

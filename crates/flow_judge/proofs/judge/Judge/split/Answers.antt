@@ -16,6 +16,7 @@ returns-in-Err-split_callers-clause-refused g c =
       four = c.in-Err-split_callers.callers.four.seat;
       six = c.in-Err-split_callers.callers.six.seat;
       counts = c.self.inside.counts;
+      shared = _;
     } in
     subst (λ (s : JudgeState). IsSplitJudgeRefused (layout_of g.A.Shape g.B.Shape) c.in-Err-split_callers.fault s t)
     c.self.view_is (record { by = (refl, refl, refl); callers = c.in-Err-split_callers.ensures.refused })

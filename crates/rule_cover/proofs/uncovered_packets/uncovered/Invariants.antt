@@ -1,0 +1,8 @@
+use Rattle.std.proofs.Common.{map}
+use Rattle.acl_policy.specs.Rules.{rule_facts}
+use Rattle.rule_cover.specs.inner.Pieces.{IsSearch}
+use Rattle.rule_cover.proofs.uncovered_packets.uncovered.Given as goal
+
+-- What isn't taken yet is in the pieces that are left.
+abbrev pub invariant-pieces : goal.invariant-pieces
+invariant-pieces l = IsSearch (rule_facts l.one) (rule_facts l.two) (map rule_facts l.rules) l.left.items l.first l.last

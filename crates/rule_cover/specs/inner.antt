@@ -1,0 +1,3 @@
+-- Definitions that go as the code goes. No promise is said by them.
+pub mod Pieces
+pub mod Regions

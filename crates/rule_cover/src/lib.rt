@@ -1,0 +1,16 @@
+//! What rules leave of the packets that others match: one packet that none of them matches, or that there is none.
+#![tactic(auto)]
+
+mod answer;
+mod flag_cuts;
+mod numbers_of_rule;
+mod packet_in_region;
+mod piece;
+mod piece_meeting;
+mod region;
+mod region_cuts;
+mod region_of_rule;
+mod uncovered_packets;
+
+pub use answer::Cover;
+pub use uncovered_packets::uncovered;

@@ -1,0 +1,96 @@
+//! The packets that no rule of a list matches, of those that two rules match: they are cut at the ends of the rules' ranges
+//! until no rule matches some of a piece, or one matches all of it.
+ghost use Rattle.std.specs.Prelude.{IfOk, OnOk, map};
+ghost use Rattle.acl_policy.specs.Rules.{rule_facts};
+ghost use Rattle.rule_cover.specs.Covers.{IsCover};
+ghost use Rattle.rule_cover.specs.inner.Pieces.{AddsShown, AreFirst};
+
+use crate::answer::Cover;
+use crate::packet_in_region::packet_in;
+use crate::piece::{Parting, Piece};
+use crate::piece_meeting::first_meeting;
+use crate::region::Shown;
+use crate::region_cuts::{both, is_apart};
+use crate::region_of_rule::region_of;
+use acl_policy::Rule;
+use std::alloc::{AllocError, Global};
+
+// Adds the packets that show this and that both rules match, whose uncovered ones are looked for.
+fn add_shown(left: &mut Vec<Piece>, one: &Rule, two: &Rule, shown: Shown) -> Result<(), AllocError>
+    ensures { OnOk result (AddsShown (rule_facts one.now) (rule_facts two.now) shown left.old.items left.new.items) }
+{
+    let first = region_of(one, shown);
+    let second = region_of(two, shown);
+    if is_apart(&first, &second) {
+        return Ok(());
+    }
+    left.push(Piece {
+        region: both(&first, &second),
+        place: 0,
+    })?;
+    Ok(())
+}
+
+// All packets that both rules match, whose uncovered ones are looked for.
+fn all_packets(alloc: Global, one: &Rule, two: &Rule) -> Result<Vec<Piece>, AllocError>
+    ensures { IfOk result (λ left. AreFirst (rule_facts one.now) (rule_facts two.now) left.items) }
+{
+    let mut left = Vec::new(alloc);
+    add_shown(&mut left, one, two, Shown::TypeAndCode)?;
+    add_shown(&mut left, one, two, Shown::PortPair)?;
+    add_shown(&mut left, one, two, Shown::PortsAndFlags)?;
+    add_shown(&mut left, one, two, Shown::Nothing)?;
+    Ok(left)
+}
+
+/// A packet that both rules match and no rule of the list does, or that there is none. `Unknown` is answered only where more
+/// than so many tests of a rule were needed. An `Err` says that memory ran out.
+pub fn uncovered(
+    alloc: Global,
+    one: &Rule,
+    two: &Rule,
+    rules: &[Rule],
+    most: u64,
+) -> Result<Cover, AllocError>
+    ensures { IfOk result (IsCover (rule_facts one.now) (rule_facts two.now) (map rule_facts rules.now)) }
+{
+    let mut left = all_packets(alloc, one, two)?;
+    let mut first = rules.len();
+    let mut last: usize = 0;
+    let mut tests: u64 = 0;
+    'pieces: for _ in 0..most {
+        let Some(piece) = left.pop() else {
+            return Ok(Cover::Taken(first, last));
+        };
+        let met = first_meeting(&piece, rules);
+        tests = tests.saturating_add((met.place - piece.place) as u64);
+        if tests > most {
+            return Ok(Cover::Unknown);
+        }
+        match met.parting {
+            Parting::Apart => {
+                if let Some(tuple) = packet_in(&piece.region) {
+                    return Ok(Cover::Left(tuple));
+                }
+                continue;
+            }
+            Parting::Whole => {
+                first = first.min(met.place);
+                last = last.max(met.place);
+                continue;
+            }
+            Parting::Cut(outside, inside) => {
+                left.push(Piece {
+                    region: inside,
+                    place: met.place,
+                })?;
+                left.push(Piece {
+                    region: outside,
+                    place: met.place + 1,
+                })?;
+                continue;
+            }
+        }
+    }
+    Ok(Cover::Unknown)
+}

@@ -1,0 +1,93 @@
+use Rattle.std.proofs.Common.{◌≡◌, ◌∙◌, ◌+◌, List, ap, arith, length, refl, subst, sym}
+use Rattle.std.specs.Io.KnownBytes.{Appends}
+use Rattle.packet_view.specs.Captures.{PacketFacts}
+use Rattle.packet_view.specs.CheckedCaptures.{remaining}
+use Rattle.session_state.specs.declared.verdict.Verdict.{Verdict}
+use Rattle.racl_io.specs.Sinks.{GotFront}
+use Rattle.capture_stream.specs.Histories.{AreRight, Follows, MayFollow}
+use Rattle.verdict_changes.specs.Changes.{changes_from, pair_facts}
+use Rattle.verdict_changes.specs.ChangeReports.{lines_of, with_changes}
+use Rattle.verdict_changes.specs.declared.change.Change.{Change}
+use Rattle.verdict_changes.specs.inner.Comparisons.{IsWaitingFault, changes_behind}
+use Rattle.verdict_changes.specs.inner.Totals.{HasRoom}
+use Rattle.verdict_changes.proofs.CompareLemmas.{may_also, may_feed, numbers_fit, room}
+use Rattle.verdict_changes.proofs.compared_capture.compare_waiting.Goals as goal
+
+pub settle-requires : goal.settle-requires
+settle-requires g c = may_feed _ _ c.args.comparison.now c.requires.may
+
+pub judge-requires : goal.judge-requires
+judge-requires g c =
+    let old = c.args.comparison.now in
+    let settled = c.in-Ok.ensures in
+    subst (λ (ps : List PacketFacts). MayFollow g.K.Judge.became old.after (length ps)) (sym (c.judged-packets.ensures ∙ settled.packets))
+    (may_also _ _ old c.requires.may _ c.settle.new.self _ _ settled)
+
+pub changed_packets-requires : goal.changed_packets-requires
+changed_packets-requires g c =
+    let fits = numbers_fit _ _ c.args.comparison.now c.requires.may _ c.settle.new.self _ _ c.in-Ok.ensures c.requires.counts.0 in
+    let same = ap length c.deref.ensures.value in
+    omega arith
+
+pub count_changes-requires : goal.count_changes-requires
+count_changes-requires g c =
+    let old = c.args.comparison.now in
+    let policies = pair_facts c.args.policies in
+    let is = ap length (c.deref-4.ensures.value ∙ c.in-Ok-changed_packets.ensures) in
+    subst (HasRoom old.totals) (sym is)
+    (subst (λ (bs : List Verdict). HasRoom old.totals (length (changes_from policies (old.engine.packets + 1) bs c.deref-2.result.now (remaining c.judged-packets.result)))) (sym c.deref.ensures.value)
+    (room _ _ old c.requires.may _ c.settle.new.self _ _ c.in-Ok.ensures c.requires.counts.0 policies (old.engine.packets + 1) c.deref-2.result.now (remaining c.judged-packets.result)))
+
+pub returns-in-Err-write_changes-clause-told : goal.returns-in-Err-write_changes-clause-told
+returns-in-Err-write_changes-clause-told g c =
+    let old = c.args.comparison.now in
+    let policies = pair_facts c.args.policies in
+    let settled = c.in-Ok.ensures in
+    let befores = c.in-Ok.settled.0.items in
+    let afters = c.in-Ok-judge.afters.items in
+    let same = c.judged-packets.ensures ∙ settled.packets in
+    let are : c.in-Ok-changed_packets.changes.items ≡ changes_behind policies old.engine befores afters settled.fed.more =
+    c.in-Ok-changed_packets.ensures
+    ∙ ap (λ (bs : List Verdict). changes_from policies (old.engine.packets + 1) bs c.deref-2.result.now (remaining c.judged-packets.result)) c.deref.ensures.value
+    ∙ ap (λ (ws : List Verdict). changes_from policies (old.engine.packets + 1) befores ws (remaining c.judged-packets.result)) c.deref-2.ensures.value
+    ∙ ap (changes_from policies (old.engine.packets + 1) befores afters) same in
+    let put = c.in-Err-write_changes.ensures in
+    let before = g.W.Sink.bytes c.args.writer.now in
+    let after = g.W.Sink.bytes c.write_changes.new.writer in
+    subst (IsWaitingFault policies g.J.Judge.became g.J.Judge.judged g.K.Judge.became g.K.Judge.judged old before after) (sym put.3) (record {
+      befores = befores;
+      afters = afters;
+      engine = c.settle.new.self;
+      found = c.in-Ok.settled.1;
+      settled = settled;
+      right = subst (λ (ps : List PacketFacts). AreRight g.K.Judge.became g.K.Judge.judged old.after ps afters) same c.in-Ok-judge.ensures.right;
+      front = subst (λ (cs : List Change). GotFront before after (lines_of cs)) (c.deref-3.ensures.value ∙ are) put.4;
+    })
+
+pub returns-clause-told : goal.returns-clause-told
+returns-clause-told g c =
+    let old = c.args.comparison.now in
+    let policies = pair_facts c.args.policies in
+    let settled = c.in-Ok.ensures in
+    let befores = c.in-Ok.settled.0.items in
+    let afters = c.in-Ok-judge.afters.items in
+    let same = c.judged-packets.ensures ∙ settled.packets in
+    let are : c.in-Ok-changed_packets.changes.items ≡ changes_behind policies old.engine befores afters settled.fed.more =
+    c.in-Ok-changed_packets.ensures
+    ∙ ap (λ (bs : List Verdict). changes_from policies (old.engine.packets + 1) bs c.deref-2.result.now (remaining c.judged-packets.result)) c.deref.ensures.value
+    ∙ ap (λ (ws : List Verdict). changes_from policies (old.engine.packets + 1) befores ws (remaining c.judged-packets.result)) c.deref-2.ensures.value
+    ∙ ap (changes_from policies (old.engine.packets + 1) befores afters) same in
+    let before = g.W.Sink.bytes c.args.writer.now in
+    let after = g.W.Sink.bytes c.write_changes.new.writer in
+    record {
+      befores = befores;
+      afters = afters;
+      found = c.in-Ok.settled.1;
+      settled = settled;
+      follows = subst (λ (ps : List PacketFacts). Follows g.K.Judge.became old.after ps afters c.judge.new.self) same c.in-Ok-judge.ensures.follows;
+      right = subst (λ (ps : List PacketFacts). AreRight g.K.Judge.became g.K.Judge.judged old.after ps afters) same c.in-Ok-judge.ensures.right;
+      stop_is = refl;
+      text = subst (λ (cs : List Change). Appends before after (lines_of cs)) (c.deref-3.ensures.value ∙ are) c.in-Ok-write_changes.ensures.0;
+      totals = c.count_changes.ensures ∙ ap (with_changes old.totals) (c.deref-4.ensures.value ∙ are);
+      read = refl;
+    }

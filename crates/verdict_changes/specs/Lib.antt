@@ -1,0 +1,4 @@
+pub mod ChangeReports
+pub mod Changes
+pub mod Comparing
+pub mod inner
