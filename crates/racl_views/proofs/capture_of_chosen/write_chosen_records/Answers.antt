@@ -1,6 +1,4 @@
-use Rattle.std.proofs.Common.{◌≡◌, ◌∙◌, ◌++◌, List, ap, subst, sym, ℕ}
-use Rattle.std.specs.Io.KnownBytes.{Appends}
-use Rattle.racl_io.specs.Sinks.{HasPut}
+use Rattle.std.proofs.Common.{◌∙◌, ◌++◌, List, ap, ℕ}
 use Rattle.racl_views.specs.inner.ChosenBytes.{chosen_in}
 use Rattle.racl_views.proofs.BatchLemmas.{all_written}
 use Rattle.racl_views.proofs.ChosenLemmas.{chosen_whole}
