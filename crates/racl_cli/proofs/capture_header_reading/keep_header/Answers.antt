@@ -15,8 +15,7 @@ returns-in_ok-capture_header-in-Ok-clause-header g c =
     let answers = c.in_ok-capture_header-in-Ok.ensures in
     let order = c.in_ok-capture_header-in-Ok.field-0 in
     let read = c.in-Ok.ensures.read in
-    let right = subst (HasFileHeader order) same answers.ok in
-    (
+    let right = subst (HasFileHeader order) same answers.ok in (
       record {
         header = items;
         consumed = subst (Consumes (g.R.Source.bytes c.args.reader.now) (g.R.Source.bytes c.read_until.new.reader))
