@@ -1,11 +1,14 @@
 """Verdicts that are written as packets come."""
 import importlib.util
+import os
+import shutil
 import subprocess
 import threading
+import time
 
 from support.captures import (CAPTURE, DEFAULTS, MOST_BYTES, MOST_KEPT, NAMES, OTHERS, PUT_TOGETHER, RULES, header, parts_of, record,
                               report_of, udp)
-from support.cases import SECONDS, TOP, Case, each, wanted
+from support.cases import SECONDS, TOP, Case, bytes_of_file, each, wanted
 from support.large_inputs import LARGE
 
 EXAMPLE = importlib.util.spec_from_file_location("live_example", f"{TOP}/examples/python/live.py")
@@ -17,8 +20,8 @@ FORMS = (["--explain"], ["--json"], ["--only", "pass"], ["--only", "drop", "--ex
 ONE, TWO = udp(100, True, (1, 1000), (2, 53)), udp(105, False, (2, 53), (1, 1000))
 
 
-def told_piece_by_piece(program, words, pieces):
-    """What the program has written after each of these pieces of its standard input, and how it ends."""
+def told_piece_by_piece(program, words, pieces, look=lambda: None):
+    """What the program has written after each of these pieces of its standard input, behind which a look is taken, and how it ends."""
     ran = subprocess.Popen([program.path, *words], stdin=subprocess.PIPE, stdout=subprocess.PIPE, stderr=subprocess.PIPE)
     got = []
     with ran.stdin, ran.stdout, ran.stderr:
@@ -29,6 +32,7 @@ def told_piece_by_piece(program, words, pieces):
             timer.start()
             got.append(b"".join(ran.stdout.readline() for _ in range(lines)))
             timer.cancel()
+            look()
         ran.stdin.close()
         got.append(ran.stdout.read())
         said = ran.stderr.read()
@@ -72,6 +76,68 @@ class Live(Case):
             lines = self.program.run(["--age", *words, policy, held])["stdout"].splitlines(keepends=True)
             got = told_piece_by_piece(self.program, ["--live", *words, policy, "-"], [(header(), 0), (ONE, 1), (TWO, 1)])
             self.compare(got, {"told": [b"", lines[0], lines[1], b"".join(lines[2:])], "stderr": b"", "status": 0}, *words)
+
+    def saved(self, words, pieces, wanted_there=()):
+        """What a live run with these words writes and saves of these pieces, and what its folder has behind each of them, as soon as
+        that is wanted there, and at its end."""
+        folder, there, waited = f"{self.folder}/saved", [], iter(wanted_there)
+        os.mkdir(folder)
+        words = ["--live", f"--drops={folder}/drops", f"--passes={folder}/passes", *words, self.hold("policy", NAMES), "-"]
+
+        def look():
+            last, want = time.monotonic() + SECONDS, next(waited, None)
+            while True:
+                found = {name: bytes_of_file(f"{folder}/{name}") for name in sorted(os.listdir(folder))}
+                if want is None or found == want or time.monotonic() > last:
+                    break
+                time.sleep(0.01)
+            there.append(found)
+
+        got = told_piece_by_piece(self.program, words, pieces, look)
+        look()
+        shutil.rmtree(folder)
+        return got, there
+
+    def test_saved_as_packets_come(self):
+        last = udp(106, False, (3, 53), (1, 1000))
+        ways = (b"", b""), (b"", ONE), (last, ONE)
+        wanted_there = [{"drops.0.part": header() + drops, "passes.0.part": header() + passes} for drops, passes in ways]
+        wanted_there.append({"drops": header() + last, "passes": header() + ONE})
+        got, there = self.saved([], [(header(), 0), (ONE, 1), (last, 1)], wanted_there)
+        self.compare(got, {"told": [b"", b"1 pass rule 1 reflect\n", b"2 drop default\n", b"packets 2 pass 1 drop 1\n"], "stderr": b"", "status": 0})
+        self.compare({"there": there}, {"there": wanted_there})
+
+    def test_saved_before_a_fault(self):
+        """A capture with a fault, or that is cut, leaves files of the packets before."""
+        for end, said, status in ((record(1, b"", MOST_KEPT + 1), f"racl: record 2 is too long\n{PUT_TOGETHER}", 1), (ONE[:20], "", 3)):
+            got, there = self.saved(["--summary"], [(header() + ONE + end, 0)])
+            self.compare({"stderr": got["stderr"], "status": got["status"]}, {"stderr": said.encode(), "status": status}, f"status {status}")
+            self.compare({"there": there[-1]}, {"there": {"drops": header(), "passes": header() + ONE}}, f"status {status}")
+
+    def test_nothing_is_saved_without_a_capture(self):
+        got, there = self.saved([], [(ONE[:30], 0)])
+        self.compare({"status": got["status"], "there": there[-1]}, {"status": 1, "there": {}})
+
+    def test_saved_as_a_run_on_the_files_saves(self):
+        capture = header() + b"".join(udp(100 + at // 50, at % 3 != 0, (1, 1000 + at % 70), (2, 53)) for at in range(5_000))
+        policy, held = self.hold("policy", NAMES), self.hold("capture", capture)
+        ways = {}
+        for way in "--age", "--live":
+            drops, passes = f"{self.folder}/drops", f"{self.folder}/passes"
+            got = self.program.run([way, "--drops", drops, "--passes", passes, policy, held])
+            ways[way] = {**got, "drops": bytes_of_file(drops), "passes": bytes_of_file(passes)}
+        self.assertGreater(len(ways["--age"]["drops"]), 24)
+        self.compare(ways["--live"], ways["--age"])
+
+    def test_file_that_fails(self):
+        """A file that can't be written ends the run, and is named."""
+        got = self.program.run(["--live", "--passes", "/dev/full", self.hold("policy", NAMES), "-"], CAPTURE)
+        self.compare(got, wanted(stderr="racl: /dev/full: No space left on device (os error 28)\n", status=4))
+
+    def test_one_file_twice(self):
+        policy, held = self.hold("policy", NAMES), self.hold("capture", CAPTURE)
+        got = self.program.run(["--live", "--drops", held, policy, held])
+        self.compare(got, wanted(stderr=f"racl: {held}: the same file as {held}, which is read\n", status=2))
 
     def test_counts_of_many_parts(self):
         """The hits and sessions of a run on the file that ages too, where packets are counted in many parts."""

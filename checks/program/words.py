@@ -54,7 +54,7 @@ WRONG_WORDS = [
     (["--live"], None),
     (["--live", "--interface", "1=capture", "policy"], None),
     *((["--live", *words, "policy", "-"], None)
-      for words in (["--workers=2"], ["--hits", "--workers=2"], ["--drops=saved"], ["--passes=saved", "--explain"])),
+      for words in (["--workers=2"], ["--hits", "--workers=2"], ["--drops=saved", "--workers=2"], ["--explain", "--workers=4"])),
 ]
 
 

@@ -157,6 +157,8 @@ module _ {J : Type 0} (Became : J → List PacketFacts → List Verdict → J �
         stops = subst (λ (b : List ℕ). Stops new.order b old.found.stop) (sym waits)
             (subst (λ (o : Order). Stops o (behind_of (rest_in old) old.found) old.found.stop) (sym order) have.stop);
         at_hand = subst (λ (b : List ℕ). HaveFound new.order b old.found) (sym kept) (subst (λ (o : Order). HaveFound o (rest_in old) old.found) (sym order) have);
+        held = kept;
+        left = waits;
         packets = ap (λ (b : List ℕ). packets_at new.interface (records_from new.order old.found.count b)) kept
             ∙ ap (λ (o : Order). packets_at new.interface (records_from o old.found.count (rest_in old))) order
             ∙ ap (λ n. packets_at n (records_from old.order old.found.count (rest_in old))) interface ∙ sym are ∙ fed.1;

@@ -5,7 +5,7 @@ use Rattle.packet_view.specs.Fronts.{Stops}
 use Rattle.packet_view.specs.RecordLists.{records_from}
 use Rattle.session_state.specs.declared.verdict.Verdict.{Verdict}
 use Rattle.racl_io.specs.Buffers.{held_by}
-use Rattle.capture_stream.specs.Found.{HaveFound}
+use Rattle.capture_stream.specs.Found.{HaveFound, behind_of}
 use Rattle.capture_stream.specs.Histories.{AreRight, Follows, MayFollow}
 use Rattle.capture_stream.specs.declared.engine.Engine.{Engine}
 use Rattle.capture_stream.specs.declared.windows_of_records.Found.{Found}
@@ -39,4 +39,6 @@ pub record HasSettled {J : Type 0} (Became : J → List PacketFacts → List Ver
   pub judged : AreRight Became Judged old.judges (packets_at old.interface fed.more) verdicts
   pub stops : Stops new.order (rest_in new) found.stop
   pub at_hand : HaveFound new.order (held_by new.spare) found
+  pub held : held_by new.spare ≡ rest_in old
+  pub left : rest_in new ≡ behind_of (rest_in old) found
   pub packets : packets_at new.interface (records_from new.order found.count (held_by new.spare)) ≡ packets_at old.interface fed.more

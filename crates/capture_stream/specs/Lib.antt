@@ -3,5 +3,6 @@ pub mod Found
 pub mod HexDigits
 pub mod Histories
 pub mod Lives
+pub mod Savings
 pub mod Streams
 pub mod inner

@@ -42,7 +42,7 @@ pub fn is_cut(stop: Stop, packets: usize) -> Result<bool, Fault>
 }
 
 impl<J: Judge> Engine<J> {
-    ghost use Rattle.std.specs.Prelude.{◌≡◌, ◌⊎◌, ◌+◌, ◌-◌, ◌<◌, ◌≤◌, ◌^◌, IfOk, MatchResult, length};
+    ghost use Rattle.std.specs.Prelude.{◌≡◌, ◌⊎◌, ◌+◌, ◌-◌, ◌<◌, ◌≤◌, ◌^◌, IfOk, MatchResult, length, take};
     ghost use Rattle.racl_io.specs.declared.fault.Fault.TheVariants.{Memory, Read};
     ghost use Rattle.packet_view.specs.Captures.{packets_at};
     ghost use Rattle.packet_view.specs.CheckedCaptures.{remaining};
@@ -97,6 +97,15 @@ impl<J: Judge> Engine<J> {
         let bytes = self.spare.bytes();
         let marked = found_records(bytes, self.order, self.interface, found);
         Packets::Marked(marked)
+    }
+
+    /// The bytes of these records.
+    pub fn records<'a>(&'a self, found: &Found) -> &'a [u8]
+        requires { HaveFound self.now.order (held_by self.now.spare) found.now }
+        ensures { result.now ≡ take (length (held_by self.now.spare) - found.now.behind) (held_by self.now.spare) }
+    {
+        let bytes = self.spare.bytes();
+        &bytes[..bytes.len() - found.behind]
     }
 
     /// Reads some bytes behind those that wait, so many at most, and none only at the source's end: how many they are. Nothing

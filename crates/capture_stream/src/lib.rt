@@ -5,12 +5,14 @@ mod engine;
 mod hex_digits;
 mod judge;
 mod live_telling;
+mod saver;
 mod stream_judging;
 mod windows_of_records;
 
 pub use engine::{Engine, is_cut};
 pub use hex_digits::{HexDigits, are_digits};
 pub use judge::Judge;
-pub use live_telling::{ToldCapture, tell_live};
+pub use live_telling::{Headed, ToldCapture, tell_live};
+pub use saver::Saver;
 pub use stream_judging::{Opening, Streamed, judge_stream};
 pub use windows_of_records::{Found, WindowSize};

@@ -1,11 +1,13 @@
 //! A capture whose packets are told while they come.
-ghost use Rattle.std.specs.Prelude.{◌≡◌, ◌-◌, ◌<◌, ◌≤◌, ◌^◌, [], IfOk, MatchResult};
-ghost use Rattle.racl_io.specs.Tellings.{with_write};
-ghost use Rattle.capture_stream.specs.Lives.{AreCounted, HasToldAll, IsLiveFault, with_read};
+ghost use Rattle.std.specs.Prelude.{◌≡◌, ◌-◌, ◌<◌, ◌≤◌, ◌^◌, ℕ, List, [], IfOk, MatchResult};
+ghost use Rattle.session_state.specs.declared.verdict.Verdict.{Verdict};
+ghost use Rattle.capture_stream.specs.Lives.{AreCounted, HasToldAll, HaveFailed, IsLiveFault, with_read};
+ghost use Rattle.capture_stream.specs.Savings.{manner_of, outputs};
 ghost use Rattle.capture_stream.specs.inner.Tellings.{HasToldWaiting, IsWaitingFault, MayTell, totals_with};
 
 use crate::engine::{Engine, is_cut};
 use crate::judge::Judge;
+use crate::saver::Saver;
 use packet_view::{Order, Stop};
 use racl_io::{Fault, Sink, Source, Teller, Totals, without_pages};
 use std::alloc::Global;
@@ -15,6 +17,13 @@ const PART_BYTES: usize = 65_536;
 
 /// How many bytes are read in all, at most.
 const MOST_LIVE: usize = 4_611_686_018_427_387_904;
+
+/// Those who judge the packets behind a capture's header, of which its numbers have this order.
+#[derive(Drop)]
+pub struct Headed<J> {
+    pub judges: J,
+    pub order: Order,
+}
 
 /// A capture of which the first packets were told.
 #[derive(Drop)]
@@ -38,18 +47,21 @@ pub struct ToldCapture<J> {
     pub totals: Totals,
 }
 
-// Of a live capture the packets of whole records that wait are judged and told.
-fn tell_waiting<J: Judge, L: Teller, W: Sink>(
+// Of a live capture the packets of whole records that wait are judged and told, and then saved.
+fn tell_waiting<J: Judge, L: Teller, K: Saver, W: Sink>(
     writer: &mut W,
     teller: &mut L,
+    saver: &mut K,
     live: &mut Live<J>,
 ) -> Result<Stop, Fault>
     requires may { MayTell J.became live.old }
     requires counts { AreCounted J.judged }
+    requires saves { (begun : K) × (bytes : List ℕ) × (said : List Verdict) × K.saved begun live.old.engine.order bytes said saver.old }
     requires sound { W.failures writer.old < 2 ^ 64 - 1 }
-    ensures told { let old = W.bytes writer.old in let new = W.bytes writer.new in let wording = L.wording teller.old in
-        MatchResult result (HasToldWaiting J.became J.judged wording live.old old new live.new) (IsWaitingFault J.became J.judged wording live.old old new) }
-    ensures failures { MatchResult result (λ _. W.failures writer.new ≡ W.failures writer.old) (λ fault. W.failures writer.new ≡ with_write (W.failures writer.old) fault) }
+    ensures told { let old = outputs (W.bytes writer.old) saver.old in let new = outputs (W.bytes writer.new) saver.new in let manner = manner_of (L.wording teller.old) K.saved in
+        MatchResult result (HasToldWaiting J.became J.judged manner live.old old new live.new) (IsWaitingFault J.became J.judged manner live.old old new) }
+    ensures failures { MatchResult result (λ _. (W.failures writer.new ≡ W.failures writer.old) × (K.failures saver.new ≡ K.failures saver.old))
+        (λ fault. HaveFailed (W.failures writer.old) (W.failures writer.new) (K.failures saver.old) (K.failures saver.new) fault) }
     ensures same { L.wording teller.new ≡ L.wording teller.old }
 {
     let others = live.engine.packets;
@@ -62,6 +74,11 @@ fn tell_waiting<J: Judge, L: Teller, W: Sink>(
         Ok(more) => more,
         Err(fault) => return Err(fault),
     };
+    let records = live.engine.records(&found);
+    match saver.save(live.engine.order, records, &verdicts) {
+        Ok(()) => {}
+        Err(fault) => return Err(fault),
+    }
     live.passed += more;
     live.without_pages += without_pages(&verdicts);
     Ok(found.stop)
@@ -97,28 +114,32 @@ fn told_at<J: Drop>(live: Live<J>, truncated: bool) -> ToldCapture<J>
     }
 }
 
-/// Those who judge packets judge all of a capture behind its header, of which its numbers have this order. After each read
-/// the packets are told whose records were read whole; what stands behind all of them is for the caller to tell. A fault
-/// leaves what was written. No verdict is kept, and of the bytes only those that belong to no whole record. TooLarge:
-/// 2^62 bytes were read.
-pub fn tell_live<J: Judge + Drop, L: Teller, R: Source, W: Sink>(
+/// Those who judge packets judge all of a capture behind its header. After each read the packets are told whose records were
+/// read whole, and the records are given to what saves them; what stands behind all of them is for the caller to tell. A fault
+/// leaves what was written and saved. No verdict is kept, and of the bytes only those that belong to no whole record.
+/// TooLarge: 2^62 bytes were read.
+pub fn tell_live<J: Judge + Drop, L: Teller, K: Saver, R: Source, W: Sink>(
     alloc: Global,
     reader: &mut R,
     writer: &mut W,
     teller: &mut L,
-    judges: J,
-    order: Order,
+    saver: &mut K,
+    headed: Headed<J>,
 ) -> Result<ToldCapture<J>, Fault>
-    requires begun { J.became judges [] [] judges }
+    requires begun { J.became headed.judges [] [] headed.judges }
     requires counts { AreCounted J.judged }
+    requires saves { K.saved saver.old headed.order [] [] saver.old }
     requires reader { R.failures reader.old < 2 ^ 64 - 1 }
     requires writer { W.failures writer.old < 2 ^ 64 - 1 }
-    ensures told { let wording = L.wording teller.old in let before = R.bytes reader.old in let after = R.bytes reader.new in
-        MatchResult result (HasToldAll J.became J.judged wording judges order before after (W.bytes writer.old) (W.bytes writer.new)) (IsLiveFault J.judged wording judges order before after (W.bytes writer.old) (W.bytes writer.new)) }
+    ensures told { let manner = manner_of (L.wording teller.old) K.saved in let old = outputs (W.bytes writer.old) saver.old in let new = outputs (W.bytes writer.new) saver.new in
+        MatchResult result (HasToldAll J.became J.judged manner headed.judges headed.order (R.bytes reader.old) (R.bytes reader.new) old new)
+        (IsLiveFault J.judged manner headed.judges headed.order (R.bytes reader.old) (R.bytes reader.new) old new) }
     ensures read { MatchResult result (λ _. R.failures reader.new ≡ R.failures reader.old) (λ fault. R.failures reader.new ≡ with_read (R.failures reader.old) fault) }
-    ensures write { MatchResult result (λ _. W.failures writer.new ≡ W.failures writer.old) (λ fault. W.failures writer.new ≡ with_write (W.failures writer.old) fault) }
+    ensures write { MatchResult result (λ _. (W.failures writer.new ≡ W.failures writer.old) × (K.failures saver.new ≡ K.failures saver.old))
+        (λ fault. HaveFailed (W.failures writer.old) (W.failures writer.new) (K.failures saver.old) (K.failures saver.new) fault) }
     ensures same { IfOk result (λ _. L.wording teller.new ≡ L.wording teller.old) }
 {
+    let Headed { judges, order } = headed;
     let mut live = Live {
         engine: Engine::new(alloc, judges, order, 0),
         passed: 0,
@@ -126,7 +147,7 @@ pub fn tell_live<J: Judge + Drop, L: Teller, R: Source, W: Sink>(
         read: 0,
     };
     'reads: while live.read < MOST_LIVE {
-        let stop = match tell_waiting(writer, teller, &mut live) {
+        let stop = match tell_waiting(writer, teller, saver, &mut live) {
             Ok(stop) => stop,
             Err(fault) => return Err(fault),
         };

@@ -1,17 +1,16 @@
 -- What a packet carries is read as it is written.
-use Rattle.std.proofs.Common.{◌≡◌, ◌≢◌, ◌∙◌, ◌==◌, ◌||◌, ◌⊎◌, ℕ, Bool, true, false, cond, List, [], ◌∷◌, Option, Some, None, ap, inl, inr, lit≤, refl, subst, sym}
-use Rattle.std.specs.Prelude.{codes, option_map}
+use Rattle.std.proofs.Common.{◌≡◌, ◌≢◌, ◌∙◌, ◌==◌, ◌||◌, ℕ, Bool, true, false, List, [], ◌∷◌, Some, None, ap, inl, inr, lit≤, refl, subst, sym}
+use Rattle.std.specs.Prelude.{codes}
 use Rattle.std.specs.Str.{bytes_eq}
-use Rattle.std.proofs.lemmas.Bool.{eq-eqb, eqb-true, false_from_ne_true, ne_eqb}
+use Rattle.std.proofs.lemmas.Bool.{eq-eqb, ne_eqb}
 use Rattle.packet_view.specs.Addresses.{icmp_of}
 use Rattle.packet_view.specs.Tuples.{TupleFacts}
 use Rattle.packet_view.specs.declared.tuple.Family.{Family}
 use Rattle.packet_view.specs.declared.tuple.Fields.{Fields}
 use Rattle.packet_view.specs.declared.tuple.Fields.TheVariants.{Absent, Icmp, Ports, Tcp}
-use Rattle.policy_words.specs.Numerals.{IsNumber, IsPair}
+use Rattle.policy_words.specs.Numerals.{IsPair}
 use Rattle.policy_words.specs.Readers.{IsNumberUpTo}
-use Rattle.policy_words.specs.Traffic.{IsProtocol}
-use Rattle.policy_words.specs.inner.Reading.{if_last, next_in, ◌>>=◌}
+use Rattle.policy_words.specs.inner.Reading.{next_in}
 use Rattle.policy_words.specs.inner.Reading.Numerals.{pair_in}
 use Rattle.policy_words.specs.inner.Reading.Traffic.{number_up_to_in, protocol_in}
 use Rattle.policy_words.proofs.NumeralLaws.{bytes_eq-Lacks}
@@ -19,9 +18,9 @@ use Rattle.policy_words.proofs.OptionLemmas.{bind_some, bytes_eq-false, bytes_eq
 use Rattle.policy_words.proofs.PieceLaws.{Lacks-IsNumber}
 use Rattle.policy_words.proofs.RangeLaws.{number_up_to-complete, number_up_to-sound}
 use Rattle.policy_words.proofs.TrafficLaws.{protocol_in-complete, protocol_in-sound}
-use Rattle.packet_questions.specs.Questions.{AreEnds, IsCarried, IsFragment, IsIcmp, IsOther, IsTcp, IsUdp}
-use Rattle.packet_questions.specs.inner.Reading.{Ends, bare, carried_by, carried_in, ends_in, fragment_in, fragment_proto, has_fields, icmp_in, named_in, other_in, other_proto, ported_in, tcp_in, tuple_by, udp_in}
-use Rattle.packet_questions.proofs.EndLaws.{AreSpeltEnds, ends-complete, ends-sound, ported-complete, ported-sound}
+use Rattle.packet_questions.specs.Questions.{IsCarried, IsFragment, IsIcmp, IsOther, IsTcp, IsUdp}
+use Rattle.packet_questions.specs.inner.Reading.{Ends, carried_by, ends_in, fragment_in, fragment_proto, has_fields, icmp_in, named_in, other_in, other_proto, ported_in, tcp_in, tuple_by, udp_in}
+use Rattle.packet_questions.proofs.EndLaws.{ends-complete, ends-sound, ported-complete, ported-sound}
 use Rattle.packet_questions.proofs.StepLaws.{named-complete, named-sound, number_read, pair_read}
 
 ends_of : TupleFacts → Ends

@@ -1,12 +1,10 @@
 -- Both ends of a packet are read as they are written.
-use Rattle.std.proofs.Common.{◌≡◌, ◌∙◌, ℕ, List, ◌∷◌, Option, Some, None, ap, refl, subst, sym}
+use Rattle.std.proofs.Common.{◌≡◌, ◌∙◌, ℕ, List, ◌∷◌, Option, Some, ap, refl, subst, sym}
 use Rattle.std.specs.Prelude.{option_map}
-use Rattle.packet_view.specs.Tuples.{TupleFacts}
 use Rattle.packet_view.specs.declared.tuple.Family.{Family}
 use Rattle.packet_view.specs.declared.tuple.Family.TheVariants.{V4, V6}
 use Rattle.policy_words.specs.Prefixes.{IsAddress}
 use Rattle.policy_words.specs.Readers.{IsNumberUpTo, IsReaderOf}
-use Rattle.policy_words.specs.inner.Reading.{◌>>=◌}
 use Rattle.policy_words.specs.inner.Reading.Prefixes.{address_in}
 use Rattle.policy_words.specs.inner.Reading.Traffic.{number_up_to_in}
 use Rattle.policy_words.proofs.OptionLemmas.{bind_some, map_some, same_some}

@@ -1,24 +1,23 @@
 -- A packet's words are read as they are written.
-use Rattle.std.proofs.Common.{◌≡◌, ◌∙◌, ◌⊎◌, ℕ, Bool, true, false, List, [], ◌∷◌, Option, Some, None, ap, inl, inr, lit≤, refl, subst, sym}
+use Rattle.std.proofs.Common.{◌≡◌, ◌∙◌, ℕ, List, ◌∷◌, Option, Some, None, ap, inl, inr, lit≤, refl, subst, sym}
 use Rattle.std.specs.Prelude.{IfSome, codes, option_map}
-use Rattle.std.specs.Str.{bytes_eq}
 use Rattle.packet_view.specs.Tuples.{TupleFacts}
 use Rattle.packet_view.specs.declared.tuple.Direction.{Direction}
 use Rattle.policy_words.specs.Numerals.{IsOctet}
 use Rattle.policy_words.specs.Readers.{IsReaderOf}
-use Rattle.policy_words.specs.inner.Reading.{next_in, ◌>>=◌}
+use Rattle.policy_words.specs.inner.Reading.{next_in}
 use Rattle.policy_words.specs.inner.Reading.Numerals.{octet_in}
 use Rattle.policy_words.specs.inner.Reading.Traffic.{after_in}
-use Rattle.policy_words.proofs.NumeralLaws.{Lacks, Lacks-AllDigits, bytes_eq-Lacks, octet_in-complete, octet_in-sound}
+use Rattle.policy_words.proofs.NumeralLaws.{Lacks-AllDigits, bytes_eq-Lacks, octet_in-complete, octet_in-sound}
 use Rattle.policy_words.proofs.OptionLemmas.{bind_some, map_some, next_in-some, same_some}
 use Rattle.acl_policy.specs.Lines.{direction_word}
 use Rattle.acl_policy.specs.inner.Reading.Lines.{direction_in}
 use Rattle.acl_policy.proofs.LineLaws.{direction_in-complete, direction_in-sound}
 use Rattle.packet_questions.specs.Questions.{IsCarried, IsPlaced, IsQuestion, IsSecond, QuestionFacts, question_facts}
 use Rattle.packet_questions.specs.declared.question.Question.{Question}
-use Rattle.packet_questions.specs.inner.Reading.{carried_by, carried_in, place_by, place_in, question_in, second_in, seen_in, step, timed_by}
+use Rattle.packet_questions.specs.inner.Reading.{carried_in, place_by, place_in, question_in, second_in, seen_in, step, timed_by}
 use Rattle.packet_questions.proofs.CarriedLaws.{carried-complete, carried-sound, not_if}
-use Rattle.packet_questions.proofs.StepLaws.{IsStep, after-complete, after-other, after-sound, second-complete, second-sound, step-complete, step-sound}
+use Rattle.packet_questions.proofs.StepLaws.{after-complete, after-other, after-sound, second-complete, second-sound, step-complete, step-sound}
 
 octet_read : IsReaderOf IsOctet octet_in
 octet_read word n = (λ found. octet_in-sound word n found, λ is. octet_in-complete word n is)

@@ -12,7 +12,6 @@ use Rattle.session_state.specs.declared.verdict.Verdict.{Verdict}
 use Rattle.flow_filter.specs.OneThread.{AreVerdicts, Layout}
 use Rattle.flow_filter.specs.Readings.{IsSeen}
 use Rattle.flow_dealing.specs.WorkerRecords.{HavePages}
-use Rattle.racl_io.specs.declared.fault.Fault.{Fault}
 use Rattle.racl_io.specs.declared.fault.Fault.TheVariants.{Memory, Write}
 use Rattle.racl_io.specs.declared.totals_and_truncation.Captured.{Captured}
 use Rattle.racl_io.specs.declared.totals_and_truncation.Totals.{Totals}

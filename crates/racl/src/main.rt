@@ -6,9 +6,9 @@ ghost use Rattle.std.specs.Prelude.{◌<◌, ◌-◌, ◌^◌};
 
 mod ask;
 
-use racl_cli::{DiffFault, PolicyTexts, run, run_diff, run_live, run_saving};
+use racl_cli::{DiffFault, LiveAsked, LiveSaves, PolicyTexts, run, run_diff, run_live, run_saving};
 use racl_io::{Device, Fault, FrontKept, Joined, Source};
-use racl_options::{Asked, DiffFiles, Files, Options, Origin, diff_options};
+use racl_options::{Asked, DiffFiles, Files, Origin, diff_options};
 use racl_system::{
     DiffInput, LiveFiles, LiveInput, Output, Parts, Ran, Watched, asked_or_status, diff_or_status,
     expansion_status, failure_status, opened_diff, opened_input, opened_live, saves_to,
@@ -55,7 +55,7 @@ fn status_of_main<T: Threads + Wait + Sync>(
     match asked_or_status(rt, alloc, texts.as_slice()) {
         Ok(Ok(asked)) => match &asked.origin {
             Origin::Files(files) if asked.options.live => {
-                status_of_live(rt, threads, alloc, &asked.options, files)
+                status_of_live(rt, threads, alloc, &asked, files)
             }
             _ => status_of_run(rt, threads, alloc, &asked),
         },
@@ -114,7 +114,7 @@ fn run_main_program<T: Threads + Wait + Sync, R: Source + Send>(
             &mut writer,
             &mut saves,
         );
-        if say_unsaved(rt, settled(saves))? {
+        if say_unsaved(rt, settled(saves, false))? {
             return Ok(None);
         }
         outcome
@@ -126,14 +126,20 @@ fn run_main_program<T: Threads + Wait + Sync, R: Source + Send>(
     }))
 }
 
-// Runs the main program on the capture of a file while it comes, tells how that ended, and answers the exit status.
+// Runs the main program on the capture of a file while it comes, saves packets of it where that is asked for, tells how that
+// ended, and answers the exit status. What was saved stays, however it ended.
 fn status_of_live<T: Threads + Wait + Sync>(
     rt: &HostRuntime,
     threads: &T,
     alloc: Global,
-    options: &Options,
+    asked: &Asked<'_>,
     files: &Files<'_>,
 ) -> io::Result<u8> {
+    match say_used_twice(rt, alloc, asked) {
+        Ok(None) => {}
+        Ok(Some(status)) => return Ok(status),
+        Err(error) => return Err(error),
+    }
     let LiveFiles { text, capture } = match opened_live(rt, alloc, files) {
         Ok(Ok(opened)) => opened,
         Ok(Err(status)) => return Ok(status),
@@ -142,13 +148,23 @@ fn status_of_live<T: Threads + Wait + Sync>(
     let text = text.as_slice();
     let mut reader = Device::new(FrontKept::new(capture));
     let mut writer = Device::new(rt.stdout());
-    let outcome = run_live(threads, alloc, options, text, &mut reader, &mut writer);
+    let mut saves = LiveSaves {
+        files: saves_to(rt, &asked.saved),
+    };
+    let live = LiveAsked {
+        options: &asked.options,
+        text,
+    };
+    let outcome = run_live(threads, alloc, live, &mut reader, &mut writer, &mut saves);
+    if say_unsaved(rt, settled(saves.files, true))? {
+        return Ok(4);
+    }
     let input = LiveInput {
         files: *files,
         text,
         front: reader.inner.front(),
     };
-    say_end_of_live(rt, alloc, options, input, &outcome)
+    say_end_of_live(rt, alloc, &asked.options, input, &outcome)
 }
 
 // Compares the verdicts by two policies on the packets of a capture while it comes, tells how that ended, and answers the exit

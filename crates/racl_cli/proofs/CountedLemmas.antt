@@ -1,5 +1,5 @@
 -- The only worker, which counts the packets that it judged, and what stands behind the totals over these.
-use Rattle.std.proofs.Common.{◌≡◌, ◌∙◌, ◌≤◌, ◌<◌, ◌+◌, ◌++◌, ◌^◌, ℕ, Bool, true, List, [], ◌∷◌, Option, Result, Ok, Err, ap, append-nil, arith, length, refl, subst, sym}
+use Rattle.std.proofs.Common.{◌≡◌, ◌∙◌, ◌<◌, ◌+◌, ◌++◌, ◌^◌, ℕ, Bool, true, List, [], ◌∷◌, Option, Result, ap, append-nil, arith, length, refl, subst, sym}
 use Rattle.std.specs.Io.KnownBytes.{Appends}
 use Rattle.std.specs.Prelude.{⊤}
 use Rattle.std.proofs.lemmas.List.{length-append}
@@ -11,14 +11,13 @@ use Rattle.racl_io.specs.Sinks.{HasPutFront}
 use Rattle.racl_io.specs.Tellings.{HasToldText, IsTellingFault}
 use Rattle.racl_io.specs.declared.fault.Fault.TheVariants as fault
 use Rattle.racl_io.proofs.TellingLemmas.{front_of_first, put_more, told_put}
-use Rattle.racl_io.specs.declared.totals_and_truncation.Captured.{Captured}
 use Rattle.racl_views.specs.HitCounts.{HaveCounted, HaveCountedOn, MayCount}
 use Rattle.racl_views.specs.Stored.{StoredFacts}
 use Rattle.racl_views.specs.declared.hit_counts.HitCounts.{HitCounts}
 use Rattle.racl_report.specs.BehindTotals.{IsBehind}
 use Rattle.racl_report.specs.RunReports.{told_facts}
 use Rattle.racl_report.specs.declared.text_behind_totals.Behind.{Behind}
-use Rattle.racl_cli.specs.Crews.{AreAsAsked, AreIdleOf, AreSaid, AreSaidBy, HasCountedAfter, HasEndedCounting, HaveEndedOn, IsAloneAfter, Orders, cuts_four, orders_for, orders_of, size_of, views_with}
+use Rattle.racl_cli.specs.Crews.{AreAsAsked, AreIdleOf, AreSaid, AreSaidBy, HasCountedAfter, HasEndedCounting, HaveEndedOn, IsAloneAfter, Orders, cuts_four, orders_for, size_of, views_with}
 use Rattle.racl_cli.specs.LiveRuns.{IsToldBehind}
 use Rattle.racl_cli.specs.Runs.{AreStoredOf, keeps_stored, layout_for}
 use Rattle.racl_cli.specs.inner.LiveEnds.{MayTellBehind}
@@ -26,7 +25,6 @@ use Rattle.racl_cli.specs.declared.counted_judging.Counted.{Counted}
 use Rattle.racl_cli.specs.declared.live_run.LiveHead.{LiveHead}
 use Rattle.racl_cli.specs.declared.sized_tables_and_workers.SizedCallers.{SizedCallers}
 use Rattle.racl_cli.specs.declared.sized_tables_and_workers.SizedTables.{SizedTables}
-use Rattle.racl_cli.specs.declared.sized_tables_and_workers.SizedWorkers.{SizedWorkers}
 use Rattle.racl_cli.proofs.LiveLemmas.{by_one_worker}
 use Rattle.racl_cli.proofs.OutcomeLemmas.{judged_count}
 

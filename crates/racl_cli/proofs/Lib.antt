@@ -4,6 +4,7 @@ pub mod DigitLemmas
 pub mod InputLaws
 pub mod LiveEndLemmas
 pub mod LiveLemmas
+pub mod LiveSaveLemmas
 pub mod OpenedLemmas
 pub mod OutcomeLemmas
 pub mod ReadLemmas

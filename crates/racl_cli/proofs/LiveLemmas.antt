@@ -2,7 +2,7 @@
 use Rattle.std.proofs.KnownBytes.{Consumes-all, Consumes-trans}
 use Rattle.std.proofs.Common.{◌≡◌, ◌∙◌, ◌≤◌, ◌++◌, ℕ, List, [], Option, Result, Ok, Err, MatchResult, ap, arith, inl, inr, length, map, refl, subst, sym, drop, true}
 use Rattle.std.proofs.lemmas.List.{drop_all, length-map}
-use Rattle.packet_view.specs.Captures.{AreRecords, PacketFacts, packet_at, packets_at}
+use Rattle.packet_view.specs.Captures.{AreRecords, PacketFacts, end_of, packet_at, packets_at}
 use Rattle.packet_view.specs.declared.capture.Order.{Order}
 use Rattle.packet_view.proofs.FrontLemmas.{behind_header_appended, header_appended}
 use Rattle.acl_policy.specs.Policies.{IsPolicyText, PolicyFacts, policy_facts}
@@ -13,6 +13,7 @@ use Rattle.racl_options.specs.declared.settings.Lines.TheVariants.{Explained, Js
 use Rattle.racl_options.specs.declared.settings.Options.{Options}
 use Rattle.session_state.specs.declared.shown_verdicts.Shown.{Shown}
 use Rattle.racl_io.specs.declared.fault.Fault.{Fault}
+use Rattle.racl_io.specs.declared.fault.Fault.TheVariants.{Write}
 use Rattle.racl_io.specs.declared.totals_and_truncation.Totals.{Totals}
 use Rattle.racl_io.specs.Reports.{totals_of}
 use Rattle.racl_io.specs.Tellings.{Wording, plain_wording, report_in, told_alone}
@@ -25,12 +26,19 @@ use Rattle.racl_views.specs.inner.PartWordings.{explained_wording, objects_wordi
 use Rattle.racl_views.specs.inner.Tellings.{IsTableOf}
 use Rattle.racl_views.proofs.PartLemmas.{explained_tells, objects_tell, some_explained, some_objects}
 use Rattle.racl_report.specs.RunReports.{AreLines}
-use Rattle.capture_stream.specs.Lives.{IsLiveFault}
+use Rattle.racl_report.specs.declared.saved_packets.Saves.{Saves}
+use Rattle.capture_stream.specs.Lives.{HaveFailed, IsLiveFault}
+use Rattle.capture_stream.specs.Savings.{manner_of, outputs}
+use Rattle.capture_stream.proofs.TellLemmas.{failed_since, fault_as}
 use Rattle.racl_cli.specs.Crews.{AreRestingWith, AreSaid, IsAloneAfter, Orders, cuts_four, orders_for, orders_of, size_of}
 use Rattle.racl_cli.specs.LiveRuns.{AreFirstLines, ByOneWorker, HasHead, HasRunLive, IsEarlyFault, IsLiveReport, IsLiveRunFault, IsReportBehind, TellsAsAsked, TellsBehind}
+use Rattle.racl_cli.specs.LiveSaves.{HaveSaved}
 use Rattle.racl_cli.specs.inner.Heads.{HasReadHeader, IsHeadless}
+use Rattle.racl_cli.specs.inner.Kept.{HaveGot}
+use Rattle.racl_cli.specs.declared.live_saves.LiveSaves.{LiveSaves}
 use Rattle.racl_cli.specs.declared.sized_tables_and_workers.SizedTables.{SizedTables}
 use Rattle.racl_cli.specs.declared.sized_tables_and_workers.SizedWorkers.{SizedWorkers}
+use Rattle.racl_cli.proofs.LiveSaveLemmas.{Keeps, SavesBehind, first_saved, have_saved}
 use Rattle.racl_cli.proofs.OutcomeLemmas.{by_one, given_by_workers, judged_as}
 
 -- what the only worker says, whose orders are these, is right
@@ -59,7 +67,7 @@ pub early_fault : (text : List ℕ) (before after : Option (List ℕ)) (fault : 
 early_fault text before after fault policy says (gave, inl memory) = (gave, inl memory)
 early_fault text before after fault policy says (gave, inr (inl failed)) = (gave, inr (inl failed))
 early_fault text before after fault policy says (gave, inr (inr (cause, header, consumed, all, wrong, same))) =
-    (gave, inr (inr (inr (policy, says, cause, header, consumed, all, wrong, same))))
+    (gave, inr (inr (inr (inr (policy, says, cause, header, consumed, all, wrong, same)))))
 
 -- ---- How packets are told
 
@@ -152,20 +160,51 @@ live_report options text before left after policy order wording totals report sa
       counted = subst (λ n. totals ≡ totals_of judged.verdicts (told_alone n judged.truncated)) (sym size) judged.counted;
     }
 
--- the report was written, or why it wasn't
-pub live_ends : (options : Options) (text : List ℕ) (before left after old new : Option (List ℕ)) (head : HasHead text before) (header : HasReadHeader before left head.order)
-    (wording : Wording) (result : Result Totals Fault) → TellsAsAsked options text head.policy wording → head.left ≡ left
-    → TellsBehind options text wording head.policy head.order left after old new result
-    → MatchResult result (HasRunLive options text before old new) (IsLiveRunFault options text before after old new)
-live_ends options text before left after old new head header wording (Ok totals) tells same (report, is, wrote) =
-    record { report = report; is = live_report options text before left after head.policy head.order wording totals report head.says tells header is; written = wrote }
-live_ends options text before left after old new head header wording (Err fault) tells same (inl why) =
-    inr (inl (head, wording, tells, subst (λ l. IsLiveFault (ByOneWorker options) wording head.policy head.order l after old new fault) (sym same) why))
-live_ends options text before left after old new head header wording (Err fault) tells same (inr cut) = inr (inr (record {
-  failed = cut.failed;
-  ended = cut.is.judged.ended;
-  totals = cut.totals;
-  report = cut.report;
-  is = live_report options text before left after head.policy head.order wording cut.totals cut.report head.says tells header cut.is;
-  front = cut.front;
-}))
+-- the report was written and packets saved, or why they weren't
+module _ {S : Type 0} (sink : S → Option (List ℕ)) (failures : S → ℕ) (options : Options) (text : List ℕ) (before left after old new : Option (List ℕ)) (first : Saves S)
+    (mid last : LiveSaves S) (head : HasHead text before) (header : HasReadHeader before left head.order) (got : HaveGot sink header.header first mid.files) where
+  pub live_ends : (wording : Wording) (result : Result Totals Fault) → TellsAsAsked options text head.policy wording → head.left ≡ left → head.header ≡ header.header
+      → TellsBehind options text (manner_of wording (Keeps sink failures)) head.policy head.order left after (outputs old mid) (outputs new last) result
+      → MatchResult result (HasRunLive sink options text before (outputs old first) (outputs new last.files))
+      (IsLiveRunFault sink options text before after (outputs old first) (outputs new last.files))
+  unfolding live_report
+  live_ends wording (Ok totals) tells same kept told = record {
+    report = told.report;
+    is = live_report options text before left after head.policy head.order wording totals told.report head.says tells header told.is;
+    written = told.written;
+    saved = have_saved sink failures head.order header.header told.is.judged.read told.whole told.is.judged.rest (end_of told.is.judged.truncated) told.is.judged.verdicts first
+        mid.files last.files header.headed header.whole told.spelt told.is.judged.end got told.saved;
+  }
+  live_ends wording (Err fault) tells same kept (inl why) = inr (inl (
+    head,
+    wording,
+    tells,
+    subst (λ l. IsLiveFault (ByOneWorker options) (manner_of wording (SavesBehind sink head.header)) head.policy head.order l after (outputs old first) (outputs new last.files) fault)
+        (sym same)
+        (fault_as (ByOneWorker options) (ByOneWorker options) wording (Keeps sink failures) (SavesBehind sink head.header) head.policy head.policy (λ packets verdicts by. by)
+        head.order left after old new mid last first last.files
+        (λ whole verdicts saved. subst (λ (h : List ℕ). HaveSaved sink (h ++ whole) verdicts first last.files) (sym kept)
+        (first_saved sink failures head.order header.header whole verdicts first mid.files last.files header.headed header.whole got saved)) fault why),
+  ))
+  live_ends wording (Err fault) tells same kept (inr cut) = inr (inr (record {
+    failed = cut.failed;
+    ended = cut.is.judged.ended;
+    totals = cut.totals;
+    report = cut.report;
+    is = live_report options text before left after head.policy head.order wording cut.totals cut.report head.says tells header cut.is;
+    front = cut.front;
+  }))
+
+-- which devices failed since then
+pub write_since : (written writing saved saving first second : ℕ) (result : Result Totals Fault) → first ≡ written → second ≡ saved
+    → MatchResult result (λ totals. (writing ≡ first) × (saving ≡ second)) (HaveFailed first writing second saving)
+    → MatchResult result (λ totals. (writing ≡ written) × (saving ≡ saved)) (HaveFailed written writing saved saving)
+write_since written writing saved saving first second (Ok totals) same kept (one, two) = (one ∙ same, two ∙ kept)
+write_since written writing saved saving first second (Err fault) same kept failed = failed_since written saved first second writing saving fault same kept failed
+
+-- the header couldn't be saved
+pub header_fault : {S : Type 0} (sink : S → Option (List ℕ)) (options : Options) (text : List ℕ) (before left old : Option (List ℕ)) (first last : Saves S) (order : Order)
+    (header : HasReadHeader before left order) (fault : Fault) → fault ≡ Write
+    → IsLiveRunFault sink options text before left (outputs old first) (outputs old last) fault
+header_fault sink options text before left old first last order header fault is =
+    inl (((header.header, header.consumed, let whole = header.whole in omega arith), inr (inr (inl is))), refl, λ other. absurd (other is))

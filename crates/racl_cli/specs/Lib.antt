@@ -1,6 +1,7 @@
 pub mod Crews
 pub mod DiffRuns
 pub mod LiveRuns
+pub mod LiveSaves
 pub mod Reads
 pub mod Runs
 pub mod SavingRuns

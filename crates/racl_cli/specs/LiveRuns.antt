@@ -1,5 +1,5 @@
 -- A run over a capture that is told while it comes: its policy is text of its own, and sessions that have ended are removed.
-use Rattle.std.specs.Prelude.{◌≡◌, ◌<◌, ◌⊎◌, ◌++◌, ℕ, Bool, true, List, ◌∷◌, [], None, Option, IfSome, MatchResult, Result, length}
+use Rattle.std.specs.Prelude.{◌≡◌, ◌≢◌, ◌<◌, ◌⊎◌, ◌++◌, ℕ, Bool, true, List, ◌∷◌, [], None, Option, IfSome, MatchResult, Result, length}
 use Rattle.std.specs.Io.KnownBytes.{Appends, Consumes, IsAtEnd}
 use Rattle.packet_view.specs.Captures.{HasFileHeader, IsCaptureAt, IsHeaderFault, PacketFacts, end_of, packets_at}
 use Rattle.packet_view.specs.declared.capture.CaptureFault.{CaptureFault}
@@ -26,9 +26,12 @@ use Rattle.racl_views.specs.Stored.{StoredFacts}
 use Rattle.racl_views.specs.PartTellings.{AreExplainedLines, AreObjectLines, TellsRun}
 use Rattle.racl_views.specs.RunEntries.{RunFacts}
 use Rattle.capture_stream.specs.Lives.{HasJudgedAll, IsLiveFault}
+use Rattle.capture_stream.specs.Savings.{Manner, Outputs}
+use Rattle.racl_cli.specs.LiveSaves.{HaveSaved}
 use Rattle.racl_cli.specs.Runs.{AgeInTime, AreStoredOf, ByOneThread, ByWorkers, keeps_stored, layout_for}
 use Rattle.racl_report.specs.ReadInputs.{told_of}
 use Rattle.racl_report.specs.RunReports.{AreLines, IsReportOn, sessions_behind, told_facts, view_behind}
+use Rattle.racl_report.specs.declared.saved_packets.Saves.{Saves}
 
 -- One worker that ages gave these verdicts. They are those of the one-thread filter, which forgets nothing, where none of them
 -- says no-pages, and ageing is in time.
@@ -86,12 +89,23 @@ pub record HasCutReport (options : Options) (text : List ℕ) (wording : Wording
   pub is : IsReportBehind options text wording policy order before after totals report
   pub front : GotFront old new report
 
--- the report on all of a capture behind its header was written, or why it wasn't
-abbrev pub TellsBehind : Options → List ℕ → Wording → PolicyFacts → Order → Option (List ℕ) → Option (List ℕ) → Option (List ℕ) → Option (List ℕ)
+-- all of a capture behind its header was judged, and the report on it was written, and what saves packets was given all records
+pub record HasToldBehind {K : Type 0} (options : Options) (text : List ℕ) (manner : Manner K) (policy : PolicyFacts) (order : Order)
+    (before after : Option (List ℕ)) (old new : Outputs K) (totals : Totals) : Type 0 where
+  pub report : List ℕ
+  pub is : IsReportBehind options text manner.wording policy order before after totals report
+  pub written : Appends old.report new.report report
+  pub whole : List ℕ
+  pub spelt : is.judged.read ≡ whole ++ is.judged.rest
+  pub saved : manner.saved old.saver order whole is.judged.verdicts new.saver
+
+-- so, or why it wasn't
+abbrev pub TellsBehind : {K : Type 0} → Options → List ℕ → Manner K → PolicyFacts → Order → Option (List ℕ) → Option (List ℕ) → Outputs K → Outputs K
     → Result Totals Fault → Type 0
-TellsBehind options text wording policy order before after old new result =
-    MatchResult result (λ totals. (report : List ℕ) × IsReportBehind options text wording policy order before after totals report × Appends old new report)
-    (λ fault. IsLiveFault (ByOneWorker options) wording policy order before after old new fault ⊎ HasCutReport options text wording policy order before after old new fault)
+TellsBehind options text manner policy order before after old new result =
+    MatchResult result (HasToldBehind options text manner policy order before after old new)
+    (λ fault. IsLiveFault (ByOneWorker options) manner policy order before after old new fault
+    ⊎ HasCutReport options text manner.wording policy order before after old.report new.report fault)
 
 -- The source's bytes are a capture, and this is the report on it.
 pub record IsLiveReport (options : Options) (text : List ℕ) (given : Option (List ℕ)) (totals : Totals) (report : List ℕ) : Type 0 where
@@ -110,11 +124,13 @@ pub record IsLiveReport (options : Options) (text : List ℕ) (given : Option (L
       (record { outcome = record { verdicts = verdicts; captures = told_of None packets truncated ∷ [] }; stored = stored }) report
   pub counted : totals ≡ totals_of verdicts (told_of None packets truncated ∷ [])
 
--- and it was written
-pub record HasRunLive (options : Options) (text : List ℕ) (given old new : Option (List ℕ)) (totals : Totals) : Type 0 where
+-- and it was written, and the packets of the capture were saved that it says are dropped, and that pass
+pub record HasRunLive {S : Type 0} (sink : S → Option (List ℕ)) (options : Options) (text : List ℕ) (given : Option (List ℕ)) (old new : Outputs (Saves S))
+    (totals : Totals) : Type 0 where
   pub report : List ℕ
   pub is : IsLiveReport options text given totals report
-  pub written : Appends old new report
+  pub written : Appends old.report new.report report
+  pub saved : HaveSaved sink is.bytes is.verdicts old.saver new.saver
 
 -- or a write failed behind a front of it, when all was read
 pub record HasCutLive (options : Options) (text : List ℕ) (given after old new : Option (List ℕ)) (fault : Fault) : Type 0 where
@@ -125,19 +141,22 @@ pub record HasCutLive (options : Options) (text : List ℕ) (given after old new
   pub is : IsLiveReport options text given totals report
   pub front : GotFront old new report
 
--- Memory ran out, a read failed, or the policy or the header has the fault, which is all that the source has or 24 bytes. No
--- more was read.
+-- Memory ran out, a read or a write failed, or the policy or the header has the fault, which is all that the source has or 24
+-- bytes. No more was read.
 abbrev pub IsEarlyFault : List ℕ → Option (List ℕ) → Option (List ℕ) → Fault → Type 0
 IsEarlyFault text before after fault = GaveAtMost before after 24
-    × ((fault ≡ Memory) ⊎ (fault ≡ Read) ⊎ ((cause : PolicyFault) × IsPolicyFault text cause × (fault ≡ policy_fault cause))
+    × ((fault ≡ Memory) ⊎ (fault ≡ Read) ⊎ (fault ≡ Write) ⊎ ((cause : PolicyFault) × IsPolicyFault text cause × (fault ≡ policy_fault cause))
     ⊎ ((policy : PolicyFacts) × IsPolicyText text policy × (cause : CaptureFault) × (header : List ℕ) × Consumes before after header
     × (length header < 24 → IsAtEnd after) × IsHeaderFault header cause × (fault ≡ capture_fault cause)))
 
--- Why the report isn't whole: nothing was written, or the first lines were, or a front of the report. What is written after each
--- read is a front of the report on what was read.
-abbrev pub IsLiveRunFault : Options → List ℕ → Option (List ℕ) → Option (List ℕ) → Option (List ℕ) → Option (List ℕ) → Fault → Type 0
-IsLiveRunFault options text before after old new fault =
-    (IsEarlyFault text before after fault × (new ≡ old))
+-- Why the report isn't whole: nothing was written, nor saved unless a write failed; or the first lines were, and so were the
+-- packets that they tell, as a capture that ends there; or a front of the report. What is written after each read is a front of
+-- the report on what was read.
+abbrev pub IsLiveRunFault : {S : Type 0} → (S → Option (List ℕ)) → Options → List ℕ → Option (List ℕ) → Option (List ℕ) → Outputs (Saves S) → Outputs (Saves S)
+    → Fault → Type 0
+IsLiveRunFault sink options text before after old new fault =
+    (IsEarlyFault text before after fault × (new.report ≡ old.report) × (fault ≢ Write → new.saver ≡ old.saver))
     ⊎ ((head : HasHead text before) × (wording : Wording) × TellsAsAsked options text head.policy wording
-    × IsLiveFault (ByOneWorker options) wording head.policy head.order head.left after old new fault)
-    ⊎ HasCutLive options text before after old new fault
+    × IsLiveFault (ByOneWorker options)
+    (record { wording = wording; saved = λ before order records verdicts after. HaveSaved sink (head.header ++ records) verdicts before after }) head.policy head.order head.left after old new fault)
+    ⊎ HasCutLive options text before after old.report new.report fault

@@ -1,22 +1,26 @@
 //! One run over a capture that is told while it comes.
-ghost use Rattle.std.specs.Prelude.{◌≡◌, ◌-◌, ◌<◌, ◌^◌, ◌++◌, IfOk, List, MatchResult};
+ghost use Rattle.std.specs.Prelude.{[], ◌≡◌, ◌-◌, ◌<◌, ◌^◌, ◌++◌, IfOk, IfSome, List, MatchResult};
 ghost use Rattle.packet_view.specs.Captures.{PacketFacts};
 ghost use Rattle.acl_policy.specs.Policies.{IsPolicyText, policy_facts};
 ghost use Rattle.session_state.specs.declared.verdict.Verdict.{Verdict};
-ghost use Rattle.racl_io.specs.Tellings.{HasToldText, Wording, with_write};
-ghost use Rattle.capture_stream.specs.Lives.{with_read};
+ghost use Rattle.racl_io.specs.Tellings.{HasToldText, Wording};
+ghost use Rattle.capture_stream.specs.Lives.{HaveFailed, with_read};
+ghost use Rattle.capture_stream.specs.Savings.{Outputs, manner_of, outputs};
+ghost use Rattle.racl_report.specs.declared.saved_packets.Saves.{Saves};
 ghost use Rattle.racl_cli.specs.LiveRuns.{HasRunLive, IsLiveRunFault, IsToldBehind, TellsAsAsked, TellsBehind};
+ghost use Rattle.racl_cli.specs.LiveSaves.{failures_in};
 ghost use Rattle.racl_cli.specs.inner.LiveEnds.{MayTellBehind};
 
-use crate::capture_header_reading::read_header;
+use crate::capture_header_reading::keep_header;
 use crate::counted_judging::Counted;
+use crate::live_saves::LiveSaves;
 use crate::sized_tables_and_workers::{
     Manner, SizedCallers, SizedTables, SizedWorkers, create_sized,
 };
 use crate::stored_sessions::{keeps_stored, stored_of};
 use crate::workers_as_judges::Lone;
 use acl_policy::read_policy;
-use capture_stream::{ToldCapture, tell_live};
+use capture_stream::{Headed, Saver, ToldCapture, tell_live};
 use flow_filter::InterfaceFilters;
 use flow_workers::Filter;
 use packet_view::Order;
@@ -31,9 +35,18 @@ use std::thread::Threads;
 /// For how many packets rules are prepared.
 const EXPECTED: usize = 16_777_216;
 
-/// What a live run goes by: its options, its policy's text, rules that are ready, and the order of the capture's numbers.
+/// What a live run is asked for: its options, and its policy's text.
+#[derive(Clone, Copy)]
+pub struct LiveAsked<'t> {
+    pub options: &'t Options,
+    pub text: &'t [u8],
+}
+
+/// What a live run goes by: its options, its policy's text, rules that are ready, and the order of the capture's numbers; and
+/// where it gets memory.
 #[derive(Clone, Copy)]
 pub struct LiveHead<'t, 'f> {
+    pub alloc: Global,
     pub options: &'t Options,
     pub text: &'t [u8],
     pub filter: &'t InterfaceFilters<'f>,
@@ -72,22 +85,26 @@ fn tell_end_behind<L: Teller, W: Sink>(
     }
 }
 
-// In a live run one worker judges the packets of the capture behind its header, and they are told, while they come. Its tables
-// cut blocks, and it removes sessions that have ended, as the run may never end.
-fn tell_capture<L: Teller, R: Source, W: Sink, T: Threads + Wait + Sync>(
+// In a live run one worker judges the packets of the capture behind its header, and they are told and saved, while they come.
+// Its tables cut blocks, and it removes sessions that have ended, as the run may never end.
+fn tell_capture<L: Teller, K: Saver, R: Source, W: Sink, T: Threads + Wait + Sync>(
     rt: &T,
-    alloc: Global,
     head: LiveHead<'_, '_>,
     reader: &mut R,
     writer: &mut W,
     teller: &mut L,
+    saver: &mut K,
 ) -> Result<Totals, Fault>
     requires says { IsPolicyText head.text.now (policy_facts head.filter.now.policy.now) }
     requires sound { (head.filter.now.times ≡ head.options.now.times) × (R.failures reader.old < 2 ^ 64 - 1) × (W.failures writer.old < 2 ^ 64 - 1) }
-    ensures told { TellsBehind head.entry.options.now head.entry.text.now (L.wording teller.old) (policy_facts head.entry.filter.now.policy.now) head.entry.order (R.bytes reader.old) (R.bytes reader.new) (W.bytes writer.old) (W.bytes writer.new) result }
+    requires saves { K.saved saver.old head.order [] [] saver.old }
+    ensures told { TellsBehind head.entry.options.now head.entry.text.now (manner_of (L.wording teller.old) K.saved) (policy_facts head.entry.filter.now.policy.now) head.entry.order
+        (R.bytes reader.old) (R.bytes reader.new) (outputs (W.bytes writer.old) saver.old) (outputs (W.bytes writer.new) saver.new) result }
     ensures read { MatchResult result (λ _. R.failures reader.new ≡ R.failures reader.old) (λ fault. R.failures reader.new ≡ with_read (R.failures reader.old) fault) }
-    ensures write { MatchResult result (λ _. W.failures writer.new ≡ W.failures writer.old) (λ fault. W.failures writer.new ≡ with_write (W.failures writer.old) fault) }
+    ensures write { MatchResult result (λ _. (W.failures writer.new ≡ W.failures writer.old) × (K.failures saver.new ≡ K.failures saver.old))
+        (λ fault. HaveFailed (W.failures writer.old) (W.failures writer.new) (K.failures saver.old) (K.failures saver.new) fault) }
 {
+    let alloc = head.alloc;
     let Ok((tables, callers)) = create_sized(alloc, head.options.tables, true) else {
         return Err(Fault::Memory);
     };
@@ -105,7 +122,11 @@ fn tell_capture<L: Teller, R: Source, W: Sink, T: Threads + Wait + Sync>(
         asked: head.options.hits,
         counts,
     };
-    let told = match tell_live(alloc, reader, writer, teller, judges, head.order) {
+    let headed = Headed {
+        judges,
+        order: head.order,
+    };
+    let told = match tell_live(alloc, reader, writer, teller, saver, headed) {
         Ok(told) => told,
         Err(fault) => return Err(fault),
     };
@@ -122,36 +143,39 @@ fn tell_capture<L: Teller, R: Source, W: Sink, T: Threads + Wait + Sync>(
     }
 }
 
-// In a live run packets are told in the form that is asked for.
-fn tell_as_asked<R: Source, W: Sink, T: Threads + Wait + Sync>(
+// In a live run packets are told in the form that is asked for, and saved.
+fn tell_as_asked<K: Saver, R: Source, W: Sink, T: Threads + Wait + Sync>(
     rt: &T,
-    alloc: Global,
     head: LiveHead<'_, '_>,
     reader: &mut R,
     writer: &mut W,
+    saver: &mut K,
 ) -> Result<Totals, Fault>
     requires says { IsPolicyText head.text.now (policy_facts head.filter.now.policy.now) }
     requires times { head.filter.now.times ≡ head.options.now.times }
     requires sound { (R.failures reader.old < 2 ^ 64 - 1) × (W.failures writer.old < 2 ^ 64 - 1) }
+    requires saves { K.saved saver.old head.order [] [] saver.old }
     ensures told { let options = head.entry.options.now in let text = head.entry.text.now in let policy = policy_facts head.entry.filter.now.policy.now in (wording : Wording) × TellsAsAsked options text policy wording
-        × TellsBehind options text wording policy head.entry.order (R.bytes reader.old) (R.bytes reader.new) (W.bytes writer.old) (W.bytes writer.new) result }
+        × TellsBehind options text (manner_of wording K.saved) policy head.entry.order (R.bytes reader.old) (R.bytes reader.new) (outputs (W.bytes writer.old) saver.old) (outputs (W.bytes writer.new) saver.new) result }
     ensures read { MatchResult result (λ _. R.failures reader.new ≡ R.failures reader.old) (λ fault. R.failures reader.new ≡ with_read (R.failures reader.old) fault) }
-    ensures write { MatchResult result (λ _. W.failures writer.new ≡ W.failures writer.old) (λ fault. W.failures writer.new ≡ with_write (W.failures writer.old) fault) }
+    ensures write { MatchResult result (λ _. (W.failures writer.new ≡ W.failures writer.old) × (K.failures saver.new ≡ K.failures saver.old))
+        (λ fault. HaveFailed (W.failures writer.old) (W.failures writer.new) (K.failures saver.old) (K.failures saver.new) fault) }
 {
+    let alloc = head.alloc;
     let shown = head.options.shown;
     let policy = head.filter.policy;
     let text = head.text;
     match head.options.lines {
         Lines::Plain => match PlainLines::new(alloc, shown) {
-            Ok(mut lines) => tell_capture(rt, alloc, head, reader, writer, &mut lines),
+            Ok(mut lines) => tell_capture(rt, head, reader, writer, &mut lines, saver),
             Err(_) => Err(Fault::Memory),
         },
         Lines::Explained => match ExplainedLines::new(alloc, shown, policy, text) {
-            Ok(mut lines) => tell_capture(rt, alloc, head, reader, writer, &mut lines),
+            Ok(mut lines) => tell_capture(rt, head, reader, writer, &mut lines, saver),
             Err(_) => Err(Fault::Memory),
         },
         Lines::Json => match ObjectLines::new(alloc, shown, policy, text) {
-            Ok(mut lines) => tell_capture(rt, alloc, head, reader, writer, &mut lines),
+            Ok(mut lines) => tell_capture(rt, head, reader, writer, &mut lines, saver),
             Err(_) => Err(Fault::Memory),
         },
     }
@@ -159,30 +183,37 @@ fn tell_as_asked<R: Source, W: Sink, T: Threads + Wait + Sync>(
 
 /// Filters a capture by a policy with this text while it comes, and writes the report that the options ask for: after each read
 /// what is told of all packets whose records were read whole, and at its end what stands behind them: the totals, and the hits
-/// and sessions that are asked for. One worker judges, which keeps no verdict, but counts, and removes sessions that have ended,
-/// so that a capture may be of any length. A fault leaves what was written; but for Write neither totals nor hits stand behind
+/// and sessions that are asked for. Where files are given for packets that are dropped or pass, each gets them as a capture,
+/// after each read too. One worker judges, which keeps no verdict, but counts, and removes sessions that have ended, so that a
+/// capture may be of any length. A fault leaves what was written and saved; but for Write neither totals nor hits stand behind
 /// it.
-pub fn run_live<R: Source, W: Sink, T: Threads + Wait + Sync>(
+pub fn run_live<R: Source, W: Sink, S: Sink, T: Threads + Wait + Sync>(
     rt: &T,
     alloc: Global,
-    options: &Options,
-    text: &[u8],
+    asked: LiveAsked<'_>,
     reader: &mut R,
     writer: &mut W,
+    saves: &mut LiveSaves<S>,
 ) -> Result<Totals, Fault>
     requires reader { R.failures reader.old < 2 ^ 64 - 1 }
     requires writer { W.failures writer.old < 2 ^ 64 - 1 }
-    ensures told { MatchResult result (HasRunLive options.now text.now (R.bytes reader.old) (W.bytes writer.old) (W.bytes writer.new)) (IsLiveRunFault options.now text.now (R.bytes reader.old) (R.bytes reader.new) (W.bytes writer.old) (W.bytes writer.new)) }
+    requires files { IfSome saves.old.files.drops (λ file. S.failures file < 2 ^ 64 - 1) × IfSome saves.old.files.passes (λ file. S.failures file < 2 ^ 64 - 1) }
+    ensures told { let old : Outputs (Saves S) = record { report = W.bytes writer.old; saver = saves.old.files } in let new : Outputs (Saves S) = record { report = W.bytes writer.new; saver = saves.new.files } in
+        MatchResult result (HasRunLive S.bytes asked.entry.options.now asked.entry.text.now (R.bytes reader.old) old new)
+        (IsLiveRunFault S.bytes asked.entry.options.now asked.entry.text.now (R.bytes reader.old) (R.bytes reader.new) old new) }
 
     // A device's fault is answered where it failed, and it failed once.
     ensures read { MatchResult result (λ _. R.failures reader.new ≡ R.failures reader.old) (λ fault. R.failures reader.new ≡ with_read (R.failures reader.old) fault) }
-    ensures write { MatchResult result (λ _. W.failures writer.new ≡ W.failures writer.old) (λ fault. W.failures writer.new ≡ with_write (W.failures writer.old) fault) }
+    ensures write { MatchResult result (λ _. (W.failures writer.new ≡ W.failures writer.old) × (failures_in S.failures saves.new.files ≡ failures_in S.failures saves.old.files))
+        (λ fault. HaveFailed (W.failures writer.old) (W.failures writer.new) (failures_in S.failures saves.old.files) (failures_in S.failures saves.new.files) fault) }
 {
+    let LiveAsked { options, text } = asked;
     let policy = match read_policy(alloc, text) {
         Ok(policy) => policy,
         Err(cause) => return Err(Fault::from(cause)),
     };
-    let order = match read_header(alloc, reader) {
+    let mut header = Vec::new(alloc);
+    let order = match keep_header(reader, &mut header) {
         Ok(order) => order,
         Err(fault) => return Err(fault),
     };
@@ -196,11 +227,16 @@ pub fn run_live<R: Source, W: Sink, T: Threads + Wait + Sync>(
     let Ok(ready) = filter.ready_with(alloc, &prepared) else {
         return Err(Fault::Memory);
     };
+    match saves.begin(header.as_slice()) {
+        Ok(()) => {}
+        Err(fault) => return Err(fault),
+    }
     let head = LiveHead {
+        alloc,
         options,
         text,
         filter: &ready,
         order,
     };
-    tell_as_asked(rt, alloc, head, reader, writer)
+    tell_as_asked(rt, head, reader, writer, saves)
 }

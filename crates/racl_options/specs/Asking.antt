@@ -44,9 +44,9 @@ is_plain Plain = true
 is_plain Explained = false
 is_plain Json = false
 
--- verdicts can be written as packets come: of the capture in a file, by one worker, and no packet is saved
+-- verdicts can be written as packets come: of the capture in a file, by one worker
 abbrev pub can_be_live : AskedFacts → Bool
-can_be_live asked = are_files asked.origin && (not (is_saved asked) && (asked.options.workers == 1))
+can_be_live asked = are_files asked.origin && (asked.options.workers == 1)
 
 -- Packets are saved of the capture in a file, and in two files. `--live` is asked for only where verdicts can be written as
 -- packets come.

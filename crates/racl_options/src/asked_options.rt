@@ -26,7 +26,7 @@ const NOT_SAVED: &str = "--drops and --passes are of one capture: they need POLI
 
 const ONE_FILE: &str = "--drops and --passes need a file each";
 
-const NOT_LIVE: &str = "--live needs POLICY CAPTURE, and no --workers, --drops or --passes";
+const NOT_LIVE: &str = "--live needs POLICY CAPTURE, and no --workers";
 
 /// What the matches ask for.
 pub fn asked_by<'a>(alloc: Global, matches: &ArgMatches<'a>) -> Result<Asked<'a>, Refusal>
@@ -82,7 +82,7 @@ fn is_shared_file_asked(drops: Option<&str>, passes: Option<&str>) -> bool
 fn can_be_live(asked: &Asked<'_>) -> bool
     ensures { result ≡ asking.can_be_live (asked_facts asked.now) }
 {
-    are_files_asked(&asked.origin) && !is_saved(&asked.saved) && asked.options.workers == 1
+    are_files_asked(&asked.origin) && asked.options.workers == 1
 }
 
 // Why what is asked for doesn't go together.

@@ -136,9 +136,10 @@ pub fn saves_to<'a, S: SystemFiles>(
     }
 }
 
-// A file of a run that saved packets, synced as far as it was written.
+// A file of a run that saved packets, synced as far as it was written. What failed before is given up, or left.
 fn settled_file<'a, S: SystemFiles>(
     file: Option<Device<SaveFile<'a, S, S::Save>>>,
+    leaves_failed: bool,
 ) -> Option<Device<SaveFile<'a, S, S::Save>>>
     ensures failed { IsTrue (has_failed file.entry) → result ≡ file.entry }
     ensures bytes { option_map (λ d. saved_in S.emptied S.Save.contents d.inner) result ≡ option_map (λ d. saved_in S.emptied S.Save.contents d.inner) file.entry }
@@ -147,14 +148,18 @@ fn settled_file<'a, S: SystemFiles>(
     let Some(mut file) = file else {
         return None;
     };
+    if leaves_failed && file.inner.reason.is_some() {
+        return Some(file);
+    }
     file.inner.settle();
     Some(file)
 }
 
-/// The files of a run that saved packets, synced as far as they were written: what fails then is a reason to be told. No
-/// clause says what the system does: `checks/run` looks at it.
+/// The files of a run that saved packets, synced as far as they were written: what fails then is a reason to be told. What
+/// failed before is given up, or left as it stands. No clause says what the system does: `checks/run` looks at it.
 pub fn settled<'a, S: SystemFiles>(
     saves: Saves<Device<SaveFile<'a, S, S::Save>>>,
+    leaves_failed: bool,
 ) -> Saves<Device<SaveFile<'a, S, S::Save>>>
     ensures drops { IsTrue (has_failed saves.entry.drops) → result.drops ≡ saves.entry.drops }
     ensures passes { IsTrue (has_failed saves.entry.passes) → result.passes ≡ saves.entry.passes }
@@ -164,8 +169,8 @@ pub fn settled<'a, S: SystemFiles>(
 {
     let Saves { drops, passes } = saves;
     Saves {
-        drops: settled_file(drops),
-        passes: settled_file(passes),
+        drops: settled_file(drops, leaves_failed),
+        passes: settled_file(passes, leaves_failed),
     }
 }
 

@@ -31,7 +31,7 @@ header_before order bytes more header =
     }) order (header_too bytes front before order header)
 
 -- the bytes of records are these records
-records_spelt : (order : Order) (pieces : List (List ℕ)) (records : List RecordFacts) → AreRecordsOf order pieces records → AreRecords order (concat pieces) records []
+pub records_spelt : (order : Order) (pieces : List (List ℕ)) (records : List RecordFacts) → AreRecordsOf order pieces records → AreRecords order (concat pieces) records []
 records_spelt order [] [] each = refl
 records_spelt order [] (facts ∷ records) each = absurd each
 records_spelt order (piece ∷ pieces) [] each = absurd each

@@ -1,5 +1,5 @@
 -- A walk over records finds the bytes of the chosen ones.
-use Rattle.std.proofs.Common.{◌≡◌, ◌∙◌, ◌<◌, ◌+◌, ◌++◌, ℕ, Bool, true, false, List, [], ◌∷◌, append_assoc, append-nil, ap, arith, drop, get_or, length, refl, subst, sym, take}
+use Rattle.std.proofs.Common.{◌≡◌, ◌∙◌, ◌<◌, ◌+◌, ◌++◌, ℕ, Bool, true, false, List, [], ◌∷◌, append_assoc, append-nil, ap, arith, drop, get_or, length, refl, suc, subst, sym, take}
 use Rattle.std.proofs.lemmas.List.{length-append, take-append-drop, take_at}
 use Rattle.std.specs.List.{concat}
 use Rattle.packet_view.proofs.RecordLemmas.{IsStop, part_only, part_shown}
@@ -126,6 +126,42 @@ chosen_found chosen order (verdict ∷ verdicts) (piece ∷ pieces) (facts ∷ r
     chosen_first chosen order verdict verdicts ((piece ++ concat pieces) ++ rest) piece (concat pieces ++ rest) facts one (append_assoc piece (concat pieces) rest)
     ∙ ap (λ (b : List ℕ). bytes_where kept piece ++ b) (chosen_found chosen order verdicts pieces records rest each absent)
     ∙ kept_concat kept piece (chosen_among chosen verdicts pieces)
+
+-- what the walk finds of whole records
+pub chosen_whole : (chosen : Chosen) (order : Order) (verdicts : List Verdict) (bytes : List ℕ) (pieces : List (List ℕ)) (records : List RecordFacts) → AreRecordsOf order pieces records
+    → bytes ≡ concat pieces → chosen_in chosen order verdicts bytes ≡ concat (chosen_among chosen verdicts pieces)
+chosen_whole chosen order verdicts bytes pieces records each spelt =
+    ap (chosen_in chosen order verdicts) (spelt ∙ sym (append-nil (concat pieces)))
+    ∙ chosen_found chosen order verdicts pieces records [] each (none_behind order [] stop.End refl)
+
+-- those that are chosen among some and others
+pub chosen_both : {A : Type 0} (chosen : Chosen) (vs ws : List Verdict) (xs ys : List A) → length vs ≡ length xs
+    → chosen_among chosen (vs ++ ws) (xs ++ ys) ≡ chosen_among chosen vs xs ++ chosen_among chosen ws ys
+chosen_both chosen [] ws [] ys each = refl
+chosen_both chosen [] ws (x ∷ xs) ys each = absurd (omega arith)
+chosen_both chosen (v ∷ vs) ws [] ys each = absurd (omega arith)
+chosen_both chosen (v ∷ vs) ws (x ∷ xs) ys each =
+    ap (kept_before (is_chosen chosen v) x) (chosen_both chosen vs ws xs ys (omega arith))
+    ∙ kept_both (is_chosen chosen v) x (chosen_among chosen vs xs) (chosen_among chosen ws ys)
+  where
+    kept_both : {A : Type 0} (kept : Bool) (y : A) (bs cs : List A) → kept_before kept y (bs ++ cs) ≡ kept_before kept y bs ++ cs
+    kept_both true y bs cs = refl
+    kept_both false y bs cs = refl
+
+-- the bytes of both
+pub pieces_both : (order : Order) (ps qs : List (List ℕ)) (xs ys : List RecordFacts) → AreRecordsOf order ps xs → AreRecordsOf order qs ys
+    → AreRecordsOf order (ps ++ qs) (xs ++ ys)
+pieces_both order [] qs [] ys one two = two
+pieces_both order [] qs (x ∷ xs) ys one two = absurd one
+pieces_both order (p ∷ ps) qs [] ys one two = absurd one
+pieces_both order (p ∷ ps) qs (x ∷ xs) ys (is, one) two = (is, pieces_both order ps qs xs ys one two)
+
+-- there are as many
+pub pieces_count : (order : Order) (ps : List (List ℕ)) (xs : List RecordFacts) → AreRecordsOf order ps xs → length ps ≡ length xs
+pieces_count order [] [] each = refl
+pieces_count order [] (x ∷ xs) each = absurd each
+pieces_count order (p ∷ ps) [] each = absurd each
+pieces_count order (p ∷ ps) (x ∷ xs) (is, each) = ap suc (pieces_count order ps xs each)
 
 -- so what is written are the header and the bytes of the chosen ones
 pub is_chosen_capture : (chosen : Chosen) (order : Order) (verdicts : List Verdict) (capture : List ℕ) (records : List RecordFacts) → (has : HasRecords capture records) → has.order ≡ order

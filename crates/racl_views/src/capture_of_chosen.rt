@@ -5,7 +5,8 @@ ghost use Rattle.packet_view.specs.declared.capture.CaptureFault.{CaptureFault};
 ghost use Rattle.session_state.specs.declared.verdict.Verdict.{Verdict};
 ghost use Rattle.racl_io.specs.declared.fault.Fault.TheVariants.{Write};
 ghost use Rattle.racl_io.specs.Sinks.{HasPut};
-ghost use Rattle.racl_views.specs.ChosenRecords.{HasRecords, IsChosen, IsRecordOf, chosen_among};
+ghost use Rattle.std.specs.List.{concat};
+ghost use Rattle.racl_views.specs.ChosenRecords.{AreRecordsOf, HasRecords, IsChosen, IsRecordOf, chosen_among};
 ghost use Rattle.racl_views.specs.declared.chosen_packets.Chosen.{Chosen};
 ghost use Rattle.racl_views.specs.inner.Batches.{HasPassed};
 ghost use Rattle.racl_views.specs.inner.ChosenBytes.{HasNoRecord, chosen_in};
@@ -49,6 +50,26 @@ fn put_chosen<W: Sink>(
         left = rest;
     }
     Ok(())
+}
+
+/// Writes the chosen ones of a capture's whole records, as they are, by the verdicts on their packets.
+pub fn write_chosen_records<W: Sink>(
+    writer: &mut W,
+    records: &[u8],
+    order: Order,
+    chosen: Chosen,
+    verdicts: &[Verdict],
+) -> Result<(), Fault>
+    requires { W.failures writer.old < 2 ^ 64 - 1 }
+    ensures written { (pieces : List (List ℕ)) (packets : List RecordFacts) → AreRecordsOf order pieces packets → records.now ≡ concat pieces
+        → HasPut W.bytes W.failures writer.old writer.new (concat (chosen_among chosen verdicts.now pieces)) result }
+    ensures fault { IfErr result (λ fault. fault ≡ Write) }
+    ensures steady { OnOk result (W.failures writer.new ≡ W.failures writer.old) }
+    ensures failed { OnErr result (W.failures writer.new ≡ W.failures writer.old + 1) }
+{
+    let mut batch = Batch::new();
+    put_chosen(writer, &mut batch, records, order, chosen, verdicts)?;
+    write_all(writer, batch.as_slice())
 }
 
 // Writes the header in these bytes and the chosen ones among the records behind it.

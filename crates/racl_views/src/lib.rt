@@ -43,7 +43,7 @@ mod text_or_json;
 mod writing_explained_lines;
 
 pub use capture_bytes::{CaptureBytes, packets_in};
-pub use capture_of_chosen::{chosen_packets_are_a_capture, write_chosen};
+pub use capture_of_chosen::{chosen_packets_are_a_capture, write_chosen, write_chosen_records};
 pub use chosen_packets::Chosen;
 pub use explained_line_and_json_laws::{explained_lines_begin_as_the_report, objects_read_back};
 pub use flow_key::keys_tell_their_flows;

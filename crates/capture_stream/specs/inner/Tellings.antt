@@ -1,5 +1,5 @@
 -- A capture of which the first packets were told.
-use Rattle.std.specs.Prelude.{◌≡◌, ◌+◌, ◌-◌, ◌<◌, ◌≤◌, ◌^◌, ℕ, Bool, List, Option, length}
+use Rattle.std.specs.Prelude.{◌≡◌, ◌+◌, ◌-◌, ◌<◌, ◌≤◌, ◌^◌, ◌++◌, ℕ, Bool, List, Option, length}
 use Rattle.std.specs.Io.KnownBytes.{Appends}
 use Rattle.packet_view.specs.Captures.{PacketFacts, RecordFacts, packets_at}
 use Rattle.packet_view.specs.Fronts.{Stops}
@@ -13,6 +13,7 @@ use Rattle.racl_io.specs.Reports.{passed, without_pages}
 use Rattle.racl_io.specs.Sinks.{GotFront}
 use Rattle.racl_io.specs.Tellings.{Wording, lines_in}
 use Rattle.capture_stream.specs.Lives.{HasToldSome, most_live}
+use Rattle.capture_stream.specs.Savings.{Manner, Outputs, SavesMore}
 use Rattle.capture_stream.specs.Feeding.{HasSettled, rest_in}
 use Rattle.capture_stream.specs.Found.{HaveFound}
 use Rattle.capture_stream.specs.declared.engine.Engine.{Engine}
@@ -38,42 +39,45 @@ pub record MayTell {J : Type 0} (Became : J → List PacketFacts → List Verdic
 abbrev pub lines_behind : {J : Type 0} → Wording → Engine J → List RecordFacts → List Verdict → List ℕ
 lines_behind wording engine more verdicts = lines_in wording (engine.packets + 1) (packets_at engine.interface more) verdicts
 
--- the packets of the whole records that waited were judged and told
-pub record HasToldWaiting {J : Type 0} (Became : J → List PacketFacts → List Verdict → J → Type 0) (Judged : J → List PacketFacts → List Verdict → Type 0)
-    (wording : Wording) (old : Live J) (before after : Option (List ℕ)) (new : Live J) (stop : Stop) : Type 0 where
+-- the packets of the whole records that waited were judged and told, and what saves them was given the records
+pub record HasToldWaiting {J K : Type 0} (Became : J → List PacketFacts → List Verdict → J → Type 0) (Judged : J → List PacketFacts → List Verdict → Type 0)
+    (manner : Manner K) (old : Live J) (before after : Outputs K) (new : Live J) (stop : Stop) : Type 0 where
   pub verdicts : List Verdict
   pub found : Found
   pub settled : HasSettled Became Judged old.engine new.engine verdicts found
   pub stop_is : found.stop ≡ stop
-  pub text : Appends before after (lines_behind wording old.engine settled.fed.more verdicts)
+  pub text : Appends before.report after.report (lines_behind manner.wording old.engine settled.fed.more verdicts)
+  pub whole : List ℕ
+  pub spelt : rest_in old.engine ≡ whole ++ rest_in new.engine
+  pub saved : SavesMore manner.saved before.saver old.engine.order whole verdicts after.saver
   pub passing : new.passed ≡ old.passed + passed verdicts
   pub lacking : new.without_pages ≡ old.without_pages + without_pages verdicts
   pub read : new.read ≡ old.read
 
 -- they were judged, and a front of what is told of them was written
-pub record HasCutWaiting {J : Type 0} (Became : J → List PacketFacts → List Verdict → J → Type 0) (Judged : J → List PacketFacts → List Verdict → Type 0)
-    (wording : Wording) (old : Live J) (before after : Option (List ℕ)) : Type 0 where
+pub record HasCutWaiting {J K : Type 0} (Became : J → List PacketFacts → List Verdict → J → Type 0) (Judged : J → List PacketFacts → List Verdict → Type 0)
+    (manner : Manner K) (old : Live J) (before after : Outputs K) : Type 0 where
   pub verdicts : List Verdict
   pub engine : Engine J
   pub found : Found
   pub settled : HasSettled Became Judged old.engine engine verdicts found
-  pub front : GotFront before after (lines_behind wording old.engine settled.fed.more verdicts)
+  pub front : GotFront before.report after.report (lines_behind manner.wording old.engine settled.fed.more verdicts)
 
--- memory ran out before any of it was written, or a write failed
-abbrev pub IsWaitingFault : {J : Type 0} → (J → List PacketFacts → List Verdict → J → Type 0) → (J → List PacketFacts → List Verdict → Type 0)
-    → Wording → Live J → Option (List ℕ) → Option (List ℕ) → Fault → Type 0
-IsWaitingFault Became Judged wording old before after Memory = after ≡ before
-IsWaitingFault Became Judged wording old before after Write = HasCutWaiting Became Judged wording old before after
-IsWaitingFault Became Judged wording old before after fault = ⊥
+-- memory ran out before any of it was written or saved, or a write failed
+abbrev pub IsWaitingFault : {J K : Type 0} → (J → List PacketFacts → List Verdict → J → Type 0) → (J → List PacketFacts → List Verdict → Type 0)
+    → Manner K → Live J → Outputs K → Outputs K → Fault → Type 0
+IsWaitingFault Became Judged manner old before after Memory = after ≡ before
+IsWaitingFault Became Judged manner old before after Write = HasCutWaiting Became Judged manner old before after
+IsWaitingFault Became Judged manner old before after fault = ⊥
 
 abbrev pub totals_with : ℕ → ℕ → ℕ → Bool → Totals
 totals_with packets passing lacking truncated =
     record { packets = packets; passed = passing; dropped = packets - passing; without_pages = lacking; truncated = truncated }
 
 -- all that was read after the header is records that were told and what waits
-pub record IsLive {J : Type 0} (Became : J → List PacketFacts → List Verdict → J → Type 0) (Judged : J → List PacketFacts → List Verdict → Type 0)
-    (wording : Wording) (begun : J) (order : Order) (before now old new : Option (List ℕ)) (live : Live J) : Type 0 where
-  pub told : HasToldSome Judged wording begun order before now old new (rest_in live.engine)
+pub record IsLive {J K : Type 0} (Became : J → List PacketFacts → List Verdict → J → Type 0) (Judged : J → List PacketFacts → List Verdict → Type 0)
+    (manner : Manner K) (begun : J) (order : Order) (before now : Option (List ℕ)) (old new : Outputs K) (live : Live J) : Type 0 where
+  pub told : HasToldSome Judged manner begun order before now old new (rest_in live.engine)
   pub stand : Became begun (packets_at 0 told.packets) told.verdicts live.engine.judges
   pub count : live.engine.packets ≡ length told.packets
   pub passing : live.passed ≡ passed told.verdicts
@@ -85,9 +89,9 @@ pub record IsLive {J : Type 0} (Became : J → List PacketFacts → List Verdict
   pub found : HaveFound live.engine.order (rest_in live.engine) live.engine.found
 
 -- and no whole record waits, and the bytes that do end so
-pub record IsTold {J : Type 0} (Became : J → List PacketFacts → List Verdict → J → Type 0) (Judged : J → List PacketFacts → List Verdict → Type 0)
-    (wording : Wording) (begun : J) (order : Order) (before now old new : Option (List ℕ)) (live : Live J) (stop : Stop) : Type 0 where
-  pub is : IsLive Became Judged wording begun order before now old new live
+pub record IsTold {J K : Type 0} (Became : J → List PacketFacts → List Verdict → J → Type 0) (Judged : J → List PacketFacts → List Verdict → Type 0)
+    (manner : Manner K) (begun : J) (order : Order) (before now : Option (List ℕ)) (old new : Outputs K) (live : Live J) (stop : Stop) : Type 0 where
+  pub is : IsLive Became Judged manner begun order before now old new live
   pub judged : Judged begun (packets_at 0 is.told.packets) is.told.verdicts
   pub stops : Stops order (rest_in live.engine) stop
   pub below : live.read < most_live

@@ -1,5 +1,5 @@
 -- What the readers of a packet's words give, as functions on words. The notation itself is in Questions.
-use Rattle.std.specs.Prelude.{ℕ, ◌^◌, Bool, ◌==◌, ◌||◌, nat_lt, List, [], ◌∷◌, codes, Option, Some, None, option_map, if◌then◌else◌}
+use Rattle.std.specs.Prelude.{ℕ, ◌^◌, Bool, ◌==◌, ◌||◌, nat_lt, List, codes, Option, Some, None, option_map, if◌then◌else◌}
 use Rattle.std.specs.Str.{bytes_eq}
 use Rattle.packet_view.specs.Addresses.{icmp_of}
 use Rattle.packet_view.specs.Tuples.{TupleFacts}

@@ -1,4 +1,4 @@
-use Rattle.std.proofs.Common.{◌≡◌, ◌∙◌}
+use Rattle.std.proofs.Common.{◌∙◌}
 use Rattle.packet_questions.proofs.QuestionLaws.{question-complete, question_found}
 use Rattle.packet_questions.proofs.question_words.question_of.Goals as goal
 

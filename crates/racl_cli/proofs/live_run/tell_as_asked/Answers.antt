@@ -1,6 +1,7 @@
 use Rattle.std.proofs.Common.{ap, inl}
 use Rattle.acl_policy.specs.Policies.{policy_facts}
 use Rattle.racl_options.specs.declared.settings.Lines.TheVariants.{Explained, Json, Plain}
+use Rattle.capture_stream.specs.Savings.{manner_of, outputs}
 use Rattle.capture_stream.proofs.TellLemmas.{none_told}
 use Rattle.racl_cli.specs.LiveRuns.{ByOneWorker}
 use Rattle.racl_cli.proofs.LiveLemmas.{explained_as_asked, objects_as_asked, plain_as_asked, some_way}
@@ -14,8 +15,12 @@ returns-in-Ok-clause-told g c =
 pub returns-in-Err-clause-told : goal.returns-in-Err-clause-told
 returns-in-Err-clause-told g c =
     let policy = policy_facts c.args.head.filter.now.policy.now in
-    let (wording, tells) = some_way c.args.head.options.now c.args.head.text.now policy Plain c.in-Plain.is c.requires.says in
-    (wording, tells, inl (none_told (ByOneWorker c.args.head.options.now) wording policy c.args.head.order (g.R.Source.bytes c.args.reader.now) (g.W.Sink.bytes c.args.writer.now)))
+    let (wording, tells) = some_way c.args.head.options.now c.args.head.text.now policy Plain c.in-Plain.is c.requires.says in (
+      wording,
+      tells,
+      inl (none_told (ByOneWorker c.args.head.options.now) (manner_of wording g.K.Saver.saved) policy c.args.head.order (g.R.Source.bytes c.args.reader.now)
+          (outputs (g.W.Sink.bytes c.args.writer.now) c.args.saver.now) c.requires.saves),
+    )
 
 pub returns-in-Ok-new-clause-told : goal.returns-in-Ok-new-clause-told
 returns-in-Ok-new-clause-told g c =
@@ -29,8 +34,12 @@ returns-in-Ok-new-clause-told g c =
 pub returns-in-Err-new-clause-told : goal.returns-in-Err-new-clause-told
 returns-in-Err-new-clause-told g c =
     let policy = policy_facts c.args.head.filter.now.policy.now in
-    let (wording, tells) = some_way c.args.head.options.now c.args.head.text.now policy Explained c.in-Explained.is c.requires.says in
-    (wording, tells, inl (none_told (ByOneWorker c.args.head.options.now) wording policy c.args.head.order (g.R.Source.bytes c.args.reader.now) (g.W.Sink.bytes c.args.writer.now)))
+    let (wording, tells) = some_way c.args.head.options.now c.args.head.text.now policy Explained c.in-Explained.is c.requires.says in (
+      wording,
+      tells,
+      inl (none_told (ByOneWorker c.args.head.options.now) (manner_of wording g.K.Saver.saved) policy c.args.head.order (g.R.Source.bytes c.args.reader.now)
+          (outputs (g.W.Sink.bytes c.args.writer.now) c.args.saver.now) c.requires.saves),
+    )
 
 pub returns-in-Ok-new-2-clause-told : goal.returns-in-Ok-new-2-clause-told
 returns-in-Ok-new-2-clause-told g c =
@@ -44,5 +53,9 @@ returns-in-Ok-new-2-clause-told g c =
 pub returns-in-Err-new-2-clause-told : goal.returns-in-Err-new-2-clause-told
 returns-in-Err-new-2-clause-told g c =
     let policy = policy_facts c.args.head.filter.now.policy.now in
-    let (wording, tells) = some_way c.args.head.options.now c.args.head.text.now policy Json c.in-Json.is c.requires.says in
-    (wording, tells, inl (none_told (ByOneWorker c.args.head.options.now) wording policy c.args.head.order (g.R.Source.bytes c.args.reader.now) (g.W.Sink.bytes c.args.writer.now)))
+    let (wording, tells) = some_way c.args.head.options.now c.args.head.text.now policy Json c.in-Json.is c.requires.says in (
+      wording,
+      tells,
+      inl (none_told (ByOneWorker c.args.head.options.now) (manner_of wording g.K.Saver.saved) policy c.args.head.order (g.R.Source.bytes c.args.reader.now)
+          (outputs (g.W.Sink.bytes c.args.writer.now) c.args.saver.now) c.requires.saves),
+    )

@@ -1,10 +1,15 @@
 //! A capture that is told while it comes.
+ghost use Rattle.std.specs.Prelude.{◌-◌, ◌<◌, ◌^◌};
+
 use super::DEFAULTS;
-use super::slow_and_failing_devices::{Drip, trickling};
-use racl_cli::{Fault, Lines, Options, run_live};
+use super::slow_and_failing_devices::{Drip, Trickle, trickling};
+use racl_cli::{Fault, Lines, LiveAsked, LiveSaves, Options, Saves, Totals, run_live};
 use racl_io::decode_digits;
 use session_state::Shown;
+use std::alloc::Global;
+use std::sync::Wait;
 use std::test::Fail;
+use std::thread::Threads;
 
 const POLICY: &[u8] = b"\
 mac 02:00:00:00:00:01
@@ -50,6 +55,29 @@ const CUTS: [(usize, &str, &str); 6] = [
     ),
 ];
 
+// For tests of live runs: what comes of one on the capture that this reader gives, which saves no packets.
+fn unsaved<T: Threads + Wait + Sync>(
+    rt: &T,
+    alloc: Global,
+    options: &Options,
+    reader: &mut Drip<'_>,
+    writer: &mut Trickle,
+) -> Result<Totals, Fault>
+    requires reader { reader.old.failures < 2 ^ 64 - 1 }
+    requires writer { writer.old.failures < 2 ^ 64 - 1 }
+{
+    let asked = LiveAsked {
+        options,
+        text: POLICY,
+    };
+    let files: Saves<Trickle> = Saves {
+        drops: None,
+        passes: None,
+    };
+    let mut saves = LiveSaves { files };
+    run_live(rt, alloc, asked, reader, writer, &mut saves)
+}
+
 /// Live runs on a capture of which a read fails, or which ends, within a record or behind one.
 #[test]
 fn lines_are_written_as_soon_as_their_records_are_there(rt: HostRuntime) -> Result<(), Fail> {
@@ -63,7 +91,7 @@ fn lines_are_written_as_soon_as_their_records_are_there(rt: HostRuntime) -> Resu
             failures: 0,
         };
         let mut writer = trickling(alloc, usize::MAX);
-        let outcome = run_live(&rt, alloc, &DEFAULTS, POLICY, &mut reader, &mut writer);
+        let outcome = unsaved(&rt, alloc, &DEFAULTS, &mut reader, &mut writer);
         assert!(rt; outcome == Err(Fault::Read), "after {count} bytes");
         assert!(rt;
             writer.taken.as_slice() == lines.as_bytes(),
@@ -75,7 +103,7 @@ fn lines_are_written_as_soon_as_their_records_are_there(rt: HostRuntime) -> Resu
             failures: 0,
         };
         let mut writer = trickling(alloc, usize::MAX);
-        let outcome = run_live(&rt, alloc, &DEFAULTS, POLICY, &mut reader, &mut writer);
+        let outcome = unsaved(&rt, alloc, &DEFAULTS, &mut reader, &mut writer);
         assert!(rt; outcome.is_ok() == true, "of {count} bytes");
         let (told, behind) = writer.taken.split_at(lines.len().min(writer.taken.len()));
         assert!(rt; told == lines.as_bytes(), "of {count} bytes");
@@ -138,7 +166,7 @@ fn live_runs_tell_in_each_form(rt: HostRuntime) -> Result<(), Fail> {
         };
         let mut writer = trickling(alloc, usize::MAX);
         let options = asked_form(lines, shown);
-        let outcome = run_live(&rt, alloc, &options, POLICY, &mut reader, &mut writer);
+        let outcome = unsaved(&rt, alloc, &options, &mut reader, &mut writer);
         assert!(rt; outcome.is_ok() == true);
         assert!(rt; writer.taken.as_slice() == wanted.as_bytes());
     }
@@ -202,9 +230,97 @@ fn live_runs_count_while_packets_come(rt: HostRuntime) -> Result<(), Fail> {
         let mut options = asked_form(lines, Shown::Nothing);
         options.hits = true;
         options.sessions = true;
-        let outcome = run_live(&rt, alloc, &options, POLICY, &mut reader, &mut writer);
+        let outcome = unsaved(&rt, alloc, &options, &mut reader, &mut writer);
         assert!(rt; outcome.is_ok() == true);
         assert!(rt; writer.taken.as_slice() == wanted.as_bytes());
+    }
+    Ok(())
+}
+
+// For tests of live runs: what is saved of the capture's first bytes, where so many more writes go through to the file of
+// dropped packets; and what came of the run.
+fn saved_of<T: Threads + Wait + Sync>(
+    rt: &T,
+    alloc: Global,
+    bytes: &[u8],
+    count: usize,
+    writes: usize,
+) -> (Result<Totals, Fault>, Trickle, LiveSaves<Trickle>) {
+    let mut reader = Drip {
+        rest: &bytes[..count.min(bytes.len())],
+        reads: count,
+        failures: 0,
+    };
+    let mut writer = trickling(alloc, usize::MAX);
+    let mut saves = LiveSaves {
+        files: Saves {
+            drops: Some(trickling(alloc, writes)),
+            passes: Some(trickling(alloc, usize::MAX)),
+        },
+    };
+    let asked = LiveAsked {
+        options: &DEFAULTS,
+        text: POLICY,
+    };
+    let outcome = run_live(rt, alloc, asked, &mut reader, &mut writer, &mut saves);
+    (outcome, writer, saves)
+}
+
+/// How many bytes came before a read failed, and how many bytes of the capture are those of its header and of the packets
+/// that passed then, and that were dropped behind them.
+const SAVED: [(usize, usize, usize); 6] = [
+    (23, 0, 0),
+    (24, 24, 0),
+    (81, 24, 0),
+    (82, 82, 0),
+    (197, 140, 0),
+    (198, 140, 58),
+];
+
+/// Live runs that save packets of a capture of which a read fails, within a record or behind one.
+#[test]
+fn packets_are_saved_as_soon_as_their_records_are_there(rt: HostRuntime) -> Result<(), Fail> {
+    let alloc = rt.alloc();
+    let bytes = decode_digits(alloc, CAPTURE)?;
+    for (count, passing, dropped) in SAVED {
+        let (outcome, _, saves) = saved_of(&rt, alloc, &bytes, count, usize::MAX);
+        assert!(rt; outcome == Err(Fault::Read), "after {count} bytes");
+        let Saves { drops, passes } = saves.files;
+        let passes = passes.expect(&rt, "a file of packets that pass");
+        let drops = drops.expect(&rt, "a file of dropped packets");
+        assert!(rt;
+            passes.taken.as_slice() == &bytes[..passing],
+            "after {count} bytes"
+        );
+        let (header, records) = drops.taken.split_at(drops.taken.len().min(24));
+        assert!(rt; header == &bytes[..passing.min(24)], "after {count} bytes");
+        assert!(rt;
+            records == &bytes[140..140 + dropped],
+            "after {count} bytes"
+        );
+    }
+    Ok(())
+}
+
+/// A live run whose file of dropped packets fails, in the capture's header or behind it, after so many bytes: it is told once,
+/// by which device, and the lines before it stand.
+#[test]
+fn a_file_that_fails_ends_a_live_run(rt: HostRuntime) -> Result<(), Fail> {
+    let alloc = rt.alloc();
+    let bytes = decode_digits(alloc, CAPTURE)?;
+    let all = "1 pass rule 1 reflect\n2 pass session\n3 drop default\n";
+    for (writes, lines) in [(0, ""), (23, ""), (24, all), (81, all)] {
+        let (outcome, writer, saves) = saved_of(&rt, alloc, &bytes, usize::MAX, writes);
+        assert!(rt; outcome == Err(Fault::Write), "after {writes} bytes");
+        assert!(rt;
+            writer.taken.as_slice() == lines.as_bytes(),
+            "after {writes} bytes"
+        );
+        let drops = saves.files.drops.expect(&rt, "a file of dropped packets");
+        assert!(rt;
+            (writer.failures, drops.failures) == (0, 1),
+            "after {writes} bytes"
+        );
     }
     Ok(())
 }
