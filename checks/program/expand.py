@@ -1,4 +1,6 @@
 """Plain policies that `expand` writes of written ones, and what it says of wrong ones."""
+import os
+
 from support.cases import TOP, Case, each, wanted
 
 # What is written, and the plain lines that it stands for, each behind the number of the line in which it was written.
@@ -49,6 +51,47 @@ WRONG = [
     ("two wrong lines, each of which stands for two", "in allow ip any any\nin deny ip any any\nin deny ip any any tcp dport 70000\n",
      "1: `allow` is no action: deny, permit or permit+reflect\nracl: -:3: `70000` is over 65535"),
     ("a list of actions", "in permit,deny ipv4 any any\n", "1: `permit,deny` is no action: deny, permit or permit+reflect"),
+    ("an include without a name", "# names\ninclude # none\n", "2: ends too early"),
+    ("an include of two names", "include a b\n", "1: `b` stands behind the name of a file: include NAME"),
+    ("an include of a name with other bytes", "include ü\n", "1: `\\xc3\\xbc` has a byte that is no visible ASCII"),
+]
+
+# Files, of which the first is expanded, and the plain lines that it stands for, each behind the file and the number of the line in
+# which it was written; or what is said, and the status.
+INCLUDED = [
+    ("a file of names", {"main": "include names\nin deny ipv4 @web any\n", "names": "set web 10.0.0.1 10.0.0.2\n"},
+     [("main", 2, "in deny ipv4 10.0.0.1 any"), ("main", 2, "in deny ipv4 10.0.0.2 any")]),
+    ("a section in an included file", {"main": "in deny ipv4 any any\n include\tsub/more # there\nout deny ipv4 any any\n",
+                                       "sub/more": "in deny ipv6 any any\ninterface 2\n\nin permit ipv4 any any\n"},
+     [("main", 1, "in deny ipv4 any any"), ("sub/more", 1, "in deny ipv6 any any"), ("sub/more", 2, "interface 2"),
+      ("sub/more", 4, "in permit ipv4 any any"), ("main", 3, "out deny ipv4 any any")]),
+    ("files beside the one that includes them", {"main": "include sub/a\n", "sub/a": "include b\ninclude ../c\n",
+                                                 "sub/b": "in deny ipv4 any any\n", "c": "in deny ipv6 any any\n"},
+     [("sub/b", 1, "in deny ipv4 any any"), ("sub/../c", 1, "in deny ipv6 any any")]),
+    ("a file twice, and an empty one", {"main": "include a\ninclude none\ninterface 1\ninclude a\n", "a": "in deny ip any any\n", "none": ""},
+     [("a", 1, "in deny ipv4 any any"), ("a", 1, "in deny ipv6 any any"), ("main", 3, "interface 1"),
+      ("a", 1, "in deny ipv4 any any"), ("a", 1, "in deny ipv6 any any")]),
+    ("files 16 deep", {"main": "include 1\n", **{str(it): f"include {it + 1}\n" for it in range(1, 16)}, "16": "in deny ipv4 any any\n"},
+     [("16", 1, "in deny ipv4 any any")]),
+    ("files 17 deep", {"main": "include 1\n", **{str(it): f"include {it + 1}\n" for it in range(1, 17)}, "17": ""},
+     ("16:1: includes a file more than 16 deep, as one that includes itself does", 1)),
+    ("a file that includes itself", {"main": "in deny ipv4 any any\ninclude main\n"},
+     ("main:2: includes a file more than 16 deep, as one that includes itself does", 1)),
+    ("a file that includes itself by longer and longer names", {"main": "include sub/../main\n", "sub/other": ""},
+     ("sub/../" * 16 + "main:1: includes a file more than 16 deep, as one that includes itself does", 1)),
+    ("256 files", {"main": "".join(f"include {it}\n" for it in range(255)), **{str(it): f"in deny ipv4 any any tcp dport {it}\n" for it in range(255)}},
+     [(str(it), 1, f"in deny ipv4 any any tcp dport {it}") for it in range(255)]),
+    ("257 files", {"main": "".join(f"include {it}\n" for it in range(256)), **{str(it): "" for it in range(256)}},
+     ("main:256: includes a file too many: a policy has at most 256", 1)),
+    ("more lines than a policy may have", {"main": "include a\n" * 17, "a": "#\n" * 65536},
+     ("main:17: includes a line too many: a policy has at most 1048576", 1)),
+    ("a set that an included file has already", {"main": "set web 10.0.0.1\ninclude a\n", "a": "# more\nset web 10.0.0.2\n"},
+     ("a:2: `web` names a set that is there already", 1)),
+    ("wrong lines of both files", {"main": "in allow ipv4 any any\ninclude a\n", "a": "\nin deny ipv4 any any tcp dport 70000\n"},
+     ("main:1: `allow` is no action: deny, permit or permit+reflect\nracl: {}/a:2: `70000` is over 65535", 1)),
+    ("an included file that is not UTF-8", {"main": "include a\n", "a": b"\xff\n"}, ("main:1: includes a file that is not UTF-8", 1)),
+    ("an included file that isn't there", {"main": "set web 10.0.0.1\ninclude a\n", "a": "\ninclude sub/b\n", "sub/a": ""},
+     ("a:2: {}/sub/b: No such file or directory (os error 2)", 4)),
 ]
 
 
@@ -63,6 +106,28 @@ class Expansions(Case):
     @each(RIGHT + WRONG)
     def standard_input(self, written, told):
         self.compare(self.program.run(["expand", "-"], written.encode()), want(told))
+
+    @each(INCLUDED)
+    def included(self, files, told):
+        for name, text in files.items():
+            path = f"{self.folder}/{name}"
+            os.makedirs(os.path.dirname(path), exist_ok=True)
+            with open(path, "wb") as file:
+                file.write(text if isinstance(text, bytes) else text.encode())
+        if isinstance(told, tuple):
+            said, status = told
+            want = wanted(b"", f"racl: {self.folder}/{said.format(self.folder)}\n", status)
+        else:
+            want = wanted("".join(f"{line} # {self.folder}/{name}:{number}\n" for name, number, line in told).encode())
+        self.compare(self.program.run(["expand", f"{self.folder}/main"]), want)
+
+    def test_included_with_roots(self):
+        """A name that begins with `/` is a file's wherever it is written, and standard input includes from where it runs."""
+        rules = self.hold("rules", b"in deny ipv4 any any\n")
+        sub = self.hold("main", f"include {rules}\n".encode())
+        want = wanted(f"in deny ipv4 any any # {rules}:1\n".encode())
+        self.compare(self.program.run(["expand", sub]), want)
+        self.compare(self.program.run(["expand", "-"], f"include {rules}\n".encode()), want)
 
     def test_example(self):
         """The expansion of the example is a policy, and that of a plain one."""

@@ -1,5 +1,6 @@
 pub mod ExpansionLemmas
 pub mod FirstMatchLemmas
+pub mod InclusionLemmas
 pub mod LineLemmas
 pub mod ListLemmas
 pub mod RowLemmas

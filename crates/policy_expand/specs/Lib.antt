@@ -1,13 +1,16 @@
 pub mod Expansions
 pub mod Families
 pub mod FirstMatch
+pub mod Inclusions
 pub mod Lists
 pub mod Meaning
+pub mod Missing
 pub mod Sections
 pub mod Sources
 pub mod Texts
 pub mod ToldExpansions
 pub mod Visible
+pub mod WholePolicies
 pub mod Written
 pub mod WrittenLines
 pub mod inner

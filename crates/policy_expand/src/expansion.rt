@@ -16,6 +16,7 @@ use crate::word_reading::words_of_written_line;
 use crate::written::Written;
 use crate::written_fault::{LineFault, WrittenReason, wrong};
 use crate::written_line::read_written_words;
+use crate::wrong_line::WrongLine;
 use std::alloc::{AllocError, Global};
 
 /// A plain policy, and where its lines were written.
@@ -24,13 +25,6 @@ pub struct Expansion {
     pub text: Vec<u8>,
     /// For each line the place of the written one among all, from 0.
     pub origins: Vec<usize>,
-}
-
-/// Why lines stand for no plain policy: what is the matter with the one at this place among them, from 0.
-#[derive(Clone, Copy)]
-pub struct ExpansionFault<'a> {
-    pub place: usize,
-    pub fault: LineFault<'a>,
 }
 
 // The plain lines that a written one stands for, each as its words.
@@ -82,10 +76,7 @@ fn push_origins(origins: &mut Vec<usize>, place: usize, count: usize) -> Result<
 }
 
 /// The plain policy that lines stand for. No clause says that a fault is right.
-pub fn expanded<'a>(
-    alloc: Global,
-    lines: &[SourceLine<'a>],
-) -> Result<Expansion, ExpansionFault<'a>>
+pub fn expanded<'a>(alloc: Global, lines: &[SourceLine<'a>]) -> Result<Expansion, WrongLine<'a>>
     ensures { IfOk result (λ expansion. IsExpansion (map source_facts lines.now) expansion.text.items) }
 {
     let mut sets = Vec::new(alloc);
@@ -94,11 +85,16 @@ pub fn expanded<'a>(
     for place in 0..lines.len() {
         let count = match expand_line(alloc, &mut sets, &lines[place], &mut text) {
             Ok(count) => count,
-            Err(fault) => return Err(ExpansionFault { place, fault }),
+            Err(fault) => {
+                return Err(WrongLine {
+                    line: lines[place],
+                    fault,
+                });
+            }
         };
         if push_origins(&mut origins, place, count).is_err() {
-            return Err(ExpansionFault {
-                place,
+            return Err(WrongLine {
+                line: lines[place],
                 fault: LineFault::Memory,
             });
         }

@@ -1,13 +1,14 @@
 //! What is told of a written policy: the plain one, or what is wrong.
 ghost use Rattle.std.specs.Prelude.{◌≡◌, IfNone, IfOk, map};
 ghost use Rattle.acl_policy.specs.Policies.{IsPolicyText, PolicyFacts};
-ghost use Rattle.policy_expand.specs.Sources.{file_lines, source_facts};
+ghost use Rattle.policy_expand.specs.Sources.{source_facts};
 ghost use Rattle.policy_expand.specs.ToldExpansions.{IsToldOf};
 
-use crate::expansion::{Expansion, ExpansionFault, expanded};
+use crate::expansion::{Expansion, expanded};
 use crate::source_line::SourceLine;
 use crate::told::Told;
 use crate::written_fault::LineFault;
+use crate::wrong_line::WrongLine;
 use policy_check::check_policy;
 use std::alloc::{AllocError, Global};
 use std::fmt::Display;
@@ -47,19 +48,13 @@ fn push_told_fault<R: Display>(
     out.push_str(format!(in alloc; "{reason}\n")?.as_str())
 }
 
-// What is told of lines of which one stands for no plain ones.
-fn told_fault(
-    alloc: Global,
-    lines: &[SourceLine<'_>],
-    found: ExpansionFault<'_>,
-) -> Result<String, AllocError> {
-    let mut out = String::new(alloc);
+/// What is told of a written line that is wrong. An `Err` says that memory ran out.
+pub fn told_fault(alloc: Global, found: WrongLine<'_>) -> Result<String, AllocError> {
     let LineFault::Wrong(reason, word) = found.fault else {
         return Err(AllocError);
     };
-    if let Some(line) = lines.get(found.place) {
-        push_told_fault(alloc, &mut out, line, word, &reason)?;
-    }
+    let mut out = String::new(alloc);
+    push_told_fault(alloc, &mut out, &found.line, word, &reason)?;
     Ok(out)
 }
 
@@ -93,41 +88,15 @@ fn told_complaints(
     Ok(Some(out))
 }
 
-// The lines of a file.
-fn source_lines<'a>(
-    alloc: Global,
-    file: &'a str,
-    text: &'a str,
-) -> Result<Vec<SourceLine<'a>>, AllocError>
-    ensures { IfOk result (λ found. map source_facts found.items ≡ file_lines file.now text.now) }
+/// Tells the plain policy that lines stand for, or what is wrong with them. An `Err` says that memory ran out.
+pub fn tell_expansion(alloc: Global, lines: &[SourceLine<'_>]) -> Result<Told, AllocError>
+    ensures { IfOk result (IsToldOf (map source_facts lines.now)) }
 {
-    let mut found = Vec::new(alloc);
-    for line in text.lines() {
-        let number = found.len() as u64 + 1;
-        found.push(SourceLine {
-            file,
-            number,
-            text: line.as_bytes(),
-        })?;
-    }
-    Ok(found)
-}
-
-/// Tells the plain policy that the text of a file stands for, or what is wrong with it. An `Err` says that memory ran out.
-pub fn tell_expansion(alloc: Global, file: &str, text: &[u8]) -> Result<Told, AllocError>
-    ensures { IfOk result (IsToldOf file.now text.now) }
-{
-    let Ok(read) = str::from_utf8(text) else {
-        return Ok(Told::Faults(format!(in alloc; "racl: {file}: is not UTF-8\n")?));
-    };
-    let lines = source_lines(alloc, file, read)?;
-    let expansion = match expanded(alloc, lines.as_slice()) {
+    let expansion = match expanded(alloc, lines) {
         Ok(expansion) => expansion,
-        Err(found) => {
-            return Ok(Told::Faults(told_fault(alloc, lines.as_slice(), found)?));
-        }
+        Err(found) => return Ok(Told::Faults(told_fault(alloc, found)?)),
     };
-    match told_complaints(alloc, lines.as_slice(), &expansion)? {
+    match told_complaints(alloc, lines, &expansion)? {
         Some(told) => Ok(Told::Faults(told)),
         None => Ok(Told::Plain(expansion.text)),
     }

@@ -4,7 +4,8 @@ ghost use Rattle.std.specs.Prelude.{◌≡◌};
 use std::alloc::{AllocError, AllocFailed};
 use thiserror::Error;
 
-/// What is the matter with a written line. It is said of a word of it; `Missing`, `NoFamily` and `TooMany` are said of none.
+/// What is the matter with a written line. It is said of a word of it; `Missing`, `NoFamily`,
+/// `TooMany` and those of included files but `SecondFile` are said of none.
 #[derive(Clone, Copy, Debug, PartialEq, Eq, Error)]
 pub enum WrittenReason {
     #[error("has a byte that is no visible ASCII")]
@@ -23,6 +24,16 @@ pub enum WrittenReason {
     NoFamily,
     #[error("stands for more than 4096 rules of a family")]
     TooMany,
+    #[error("stands behind the name of a file: include NAME")]
+    SecondFile,
+    #[error("includes a file that is not UTF-8")]
+    NotUtf8,
+    #[error("includes a file more than 16 deep, as one that includes itself does")]
+    TooDeep,
+    #[error("includes a file too many: a policy has at most 256")]
+    TooManyFiles,
+    #[error("includes a line too many: a policy has at most 1048576")]
+    TooManyLines,
 }
 
 /// Why no plain lines are made of a written one.

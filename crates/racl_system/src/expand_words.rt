@@ -9,7 +9,7 @@ use std::alloc::Global;
 const USAGE: &str = "racl expand FILE";
 
 const ABOUT: &str =
-    "Writes the plain policy of one with named sets, lists, and `ip` for both families.";
+    "Writes the plain policy of one with named sets, lists, included files, and `ip` for both families.";
 
 /// The name of the file whose policy is to be expanded. `None`: the first word after the program's name isn't `expand`.
 /// No clause says which words are refused, nor which name is read.
@@ -44,7 +44,7 @@ fn after_expand_help() -> &'static str {
 
 Exit status:
   0  the plain policy was written
-  1  the file is wrong
+  1  a file is wrong
   2  fault in the words
   4  memory or device"
 }

@@ -5,7 +5,7 @@ use Rattle.std.proofs.lemmas.Iterator.Splits.{YieldsList-from_lines}
 use Rattle.std.proofs.lemmas.List.{length_push, take_all}
 use Rattle.policy_expand.specs.Sources.{numbered, source_facts}
 use Rattle.policy_expand.proofs.SourceLemmas.{numbered_next}
-use Rattle.policy_expand.proofs.told_expansion.source_lines.Goals as goal
+use Rattle.policy_expand.proofs.file_lines.lines_of_text.Goals as goal
 
 pub loop-line-preserved : goal.loop-line-preserved
 loop-line-preserved c =

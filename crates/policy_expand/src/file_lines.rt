@@ -1,0 +1,41 @@
+//! The lines of a file.
+ghost use Rattle.std.specs.Prelude.{◌≡◌, IfOk, IfSome, map, string_bytes};
+ghost use Rattle.policy_expand.specs.Sources.{file_lines, source_facts};
+
+use crate::policy_file::PolicyFile;
+use crate::source_line::SourceLine;
+use std::alloc::{AllocError, Global};
+
+// The lines of a file with this name and text.
+fn lines_of_text<'a>(
+    alloc: Global,
+    file: &'a str,
+    text: &'a str,
+) -> Result<Vec<SourceLine<'a>>, AllocError>
+    ensures { IfOk result (λ found. map source_facts found.items ≡ file_lines file.now text.now) }
+{
+    let mut found = Vec::new(alloc);
+    for line in text.lines() {
+        let number = found.len() as u64 + 1;
+        found.push(SourceLine {
+            file,
+            number,
+            text: line.as_bytes(),
+        })?;
+    }
+    Ok(found)
+}
+
+/// The lines of a file. None: it isn't UTF-8.
+pub fn lines_of_file<'a>(
+    alloc: Global,
+    file: &'a PolicyFile,
+) -> Result<Option<Vec<SourceLine<'a>>>, AllocError>
+    ensures { IfOk result (λ found. IfSome found (λ lines. map source_facts lines.items
+        ≡ file_lines (string_bytes file.now.name) file.now.text.items)) }
+{
+    match str::from_utf8(file.text.as_slice()) {
+        Ok(text) => Ok(Some(lines_of_text(alloc, file.name.as_str(), text)?)),
+        Err(_) => Ok(None),
+    }
+}

@@ -1,0 +1,30 @@
+//! The whole text of a policy in files.
+ghost use Rattle.std.specs.Prelude.{IfOk, map};
+ghost use Rattle.policy_expand.specs.Inclusions.{file_facts};
+ghost use Rattle.policy_expand.specs.WholePolicies.{IsWholeOf};
+
+use crate::file_lines::lines_of_file;
+use crate::inclusion::included_lines;
+use crate::policy_file::PolicyFile;
+use crate::told_expansion::told_fault;
+use crate::whole::Whole;
+use std::alloc::{AllocError, Global};
+
+/// The whole text of the first of these files, which may include the others. Where there is none, nothing is told. An `Err`
+/// says that memory ran out.
+#[tactic(auto, using(crate::proofs::InclusionLemmas::first_file))]
+pub fn whole_policy<'a>(alloc: Global, files: &'a [PolicyFile]) -> Result<Whole<'a>, AllocError>
+    ensures { IfOk result (IsWholeOf (map file_facts files.now)) }
+{
+    let [first, ..] = files else {
+        return Ok(Whole::Faults(String::new(alloc)));
+    };
+    let Some(lines) = lines_of_file(alloc, first)? else {
+        let file = first.name.as_str();
+        return Ok(Whole::Faults(format!(in alloc; "racl: {file}: is not UTF-8\n")?));
+    };
+    match included_lines(alloc, files, lines) {
+        Ok(lines) => Ok(Whole::Lines(lines)),
+        Err(found) => Ok(Whole::Faults(told_fault(alloc, found)?)),
+    }
+}
