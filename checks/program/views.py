@@ -58,6 +58,7 @@ def lines_of(told, policy, is_named):
         behind += f" {protocol_of(told['protocol'], told['source'])} {' to '.join(ends)}"
         behind += f" flags {told['flags']:02x}" if "flags" in told else ""
         behind += f" type {told['type']} code {told['code']}" if "type" in told else ""
+        behind += " later fragment" if told.get("later_fragment") else ""
     if "line" in told:
         rule = policy.split(b"\n")[told["line"] - 1].partition(b"#")[0].strip()[:200].decode()
         behind += f" | line {told['line']} {rule}"

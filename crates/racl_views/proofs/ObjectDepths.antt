@@ -1,10 +1,12 @@
 -- How deep objects nest, and that they are read back.
-use Rattle.std.proofs.Common.{◌≡◌, ◌++◌, ◌≤◌, ◌==◌, ℕ, List, [], ◌∷◌, Bool, true, false, arith, cond, refl}
+use Rattle.std.proofs.Common.{◌≡◌, ◌++◌, ◌≤◌, ◌==◌, ◌||◌, ℕ, List, [], ◌∷◌, Bool, true, false, arith, cond, refl}
 use Rattle.json.proofs.Printed.Trees.{ArePrintable-json_tokens, document-print}
 use Rattle.json.specs.Tree.{HasNumbers, depth, json_tokens, members_depth}
 use Rattle.packet_view.specs.Frames.{FrameFacts, Ip, Malformed, NotIp, Short}
 use Rattle.packet_view.specs.declared.tuple.Direction.{Direction}
 use Rattle.packet_view.specs.declared.tuple.Direction.TheVariants.{Inbound, Outbound}
+use Rattle.packet_view.specs.Addresses.{icmp_of}
+use Rattle.packet_view.specs.declared.tuple.Family.{Family}
 use Rattle.packet_view.specs.declared.tuple.Fields.{Fields}
 use Rattle.packet_view.specs.declared.tuple.Fields.TheVariants.{Absent, Icmp, Ports, Tcp}
 use Rattle.session_state.specs.declared.verdict.Verdict.{Verdict}
@@ -88,21 +90,21 @@ source_flat (Ports from to) = record { few = omega arith }
 source_flat (Tcp from to flags) = record { few = omega arith }
 source_flat (Icmp kind code) = record { few = omega arith }
 
-dest_flat : (fields : Fields) → NestUpTo 0 (dest_fields fields)
-dest_flat Absent = record { few = omega arith }
-dest_flat (Ports from to) = record { few = omega arith }
-dest_flat (Tcp from to flags) = record { few = omega arith }
-dest_flat (Icmp kind code) = record { few = omega arith }
+dest_flat : (family : Family) (proto : ℕ) (fields : Fields) → NestUpTo 0 (dest_fields family proto fields)
+dest_flat family proto Absent = where_has ((proto == 6) || ((proto == 17) || (proto == icmp_of family))) _ refl
+dest_flat family proto (Ports from to) = record { few = omega arith }
+dest_flat family proto (Tcp from to flags) = record { few = omega arith }
+dest_flat family proto (Icmp kind code) = record { few = omega arith }
 
 carried_flat : (view : FrameFacts) → NestUpTo 0 (carried_fields view)
 carried_flat NotIp = record { few = omega arith }
 carried_flat Malformed = record { few = omega arith }
 carried_flat Short = record { few = omega arith }
-carried_flat (Ip direction tuple) = one _ _ refl (one _ _ refl (both 0 (source_fields tuple.fields) _ (source_flat tuple.fields) (one _ _ refl (dest_flat tuple.fields))))
+carried_flat (Ip direction tuple) = one _ _ refl (one _ _ refl (both 0 (source_fields tuple.fields) _ (source_flat tuple.fields) (one _ _ refl (dest_flat tuple.family tuple.proto tuple.fields))))
 
 pub packet_read_back : (n : ℕ) (entry : EntryFacts) → HasNumbers (packet_object n entry) → ReadsBack (packet_object n entry)
 packet_read_back n entry =
-    let seen = one _ _ refl (both 0 (frame_way entry.view) _ (way_flat entry.view) (one _ _ refl (carried_flat entry.view))) in
+    let seen = one _ _ refl (both 0 (frame_way entry.view) _ (way_flat entry.view) (one _ _ refl (one _ _ refl (carried_flat entry.view)))) in
     let line = both 0 (line_field entry.line) _ (where_kept (entry.line == 0) _ refl) seen in
     flat_read_back _ (one _ _ refl (both 0 (verdict_fields entry.verdict) _ (one _ _ refl (one _ _ refl (rule_flat entry.verdict))) line))
 

@@ -14,7 +14,7 @@ use Rattle.racl_views.specs.declared.rule_name.RuleLine.{RuleLine}
 use Rattle.racl_views.specs.Entries.{EntryFacts}
 use Rattle.racl_views.specs.ExplainedLines.{IsExplained, shown_line}
 use Rattle.racl_views.specs.Objects.{object_line, object_lines}
-use Rattle.racl_views.specs.PacketObjects.{IsToldInObjects, packet_objects, totals_object, truncation_objects}
+use Rattle.racl_views.specs.PacketObjects.{IsToldInObjects, packet_objects, totals_object}
 use Rattle.racl_views.specs.PartTellings.{AreExplainedLines, AreObjectLines, TellsRun, ToldBy, run_by}
 use Rattle.racl_views.specs.RuleLines.{AreRules, rules_from}
 use Rattle.racl_views.specs.RuleTexts.{rule_texts}
@@ -22,7 +22,7 @@ use Rattle.racl_views.specs.RunEntries.{captures_told, told_from}
 use Rattle.racl_views.specs.inner.EntryLists.{entries_on, entry_on}
 use Rattle.racl_views.specs.inner.PartWordings.{captured_at, end_objects, explained_wording, objects_wording, wording_by}
 use Rattle.racl_views.specs.inner.Spots.{said}
-use Rattle.racl_views.specs.inner.Tellings.{truncation_by}
+use Rattle.racl_views.specs.inner.Tellings.{truncation_by, truncation_objects}
 use Rattle.racl_views.proofs.EntryLemmas.{entries_by_rules}
 use Rattle.racl_views.proofs.LineLemmas.{policy_rules}
 use Rattle.racl_views.proofs.ObjectLemmas.{lines_from, object_lines-append}

@@ -1,5 +1,5 @@
 -- What is told of a packet: its entry (this project's profile).
-use Rattle.std.specs.Prelude.{◌≡◌, ℕ, List, [], ◌∷◌, Option, None, Some, if◌then◌else◌}
+use Rattle.std.specs.Prelude.{◌≡◌, ℕ, List, [], ◌∷◌, length, Option, None, Some, if◌then◌else◌}
 use Rattle.packet_view.specs.Captures.{PacketFacts}
 use Rattle.packet_view.specs.Frames.{FrameFacts, frame_facts}
 use Rattle.acl_policy.specs.Policies.{PolicyFacts}
@@ -10,19 +10,20 @@ use Rattle.racl_views.specs.declared.rule_name.RuleLine.{RuleLine}
 use Rattle.racl_views.specs.declared.rule_name.RuleName.{RuleName}
 use Rattle.racl_views.specs.Deciding.{rule_on, same_rule}
 
--- The verdict, where and when the packet was seen, what its frame is there, and the line of the rule that decided it: 0 where
+-- The verdict, where and when the packet was seen, how many bytes of it were kept, what its frame is there, and the line of the rule that decided it: 0 where
 -- none did.
 pub record EntryFacts : Type 0 where
   pub verdict : Verdict
   pub interface : ℕ
   pub moment : ℕ
+  pub bytes : ℕ
   pub view : FrameFacts
   pub line : ℕ
 
 -- what an entry says
 abbrev pub entry_facts : Entry → EntryFacts
 entry_facts e =
-    record { verdict = e.verdict; interface = e.interface; moment = e.moment; view = frame_facts e.frame; line = e.line }
+    record { verdict = e.verdict; interface = e.interface; moment = e.moment; bytes = e.bytes; view = frame_facts e.frame; line = e.line }
 
 -- the line of the first of these rules that is this one, and 0 where none is
 abbrev pub line_among : List RuleLine → RuleName → ℕ
@@ -39,6 +40,7 @@ pub record IsEntry (policy : PolicyFacts) (rules : List RuleLine) (packet : Pack
   pub verdict : entry.verdict ≡ given
   pub interface : entry.interface ≡ packet.interface
   pub moment : entry.moment ≡ packet.moment
+  pub bytes : entry.bytes ≡ length packet.frame
   pub seen : IsSeen policy packet entry.view
   pub line : entry.line ≡ line_deciding rules (rule_on packet.interface entry.view given)
 

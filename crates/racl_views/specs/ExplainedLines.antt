@@ -1,8 +1,10 @@
 -- A line of the report that says of its packet what it is, and which rule decided it (this project's profile).
-use Rattle.std.specs.Prelude.{◌≡◌, ℕ, ◌==◌, ◌-◌, List, [], ◌++◌, Option, codes, decimal, get_or, if◌then◌else◌}
+use Rattle.std.specs.Prelude.{◌≡◌, ℕ, ◌==◌, ◌||◌, ◌-◌, List, [], ◌++◌, Option, codes, decimal, get_or, if◌then◌else◌}
+use Rattle.packet_view.specs.Addresses.{icmp_of}
 use Rattle.packet_view.specs.Frames.{FrameFacts, Ip, Malformed, NotIp, Short}
 use Rattle.packet_view.specs.Tuples.{TupleFacts}
 use Rattle.packet_view.specs.declared.tuple.Direction.TheVariants.{Inbound, Outbound}
+use Rattle.packet_view.specs.declared.tuple.Family.{Family}
 use Rattle.packet_view.specs.declared.tuple.Fields.{Fields}
 use Rattle.packet_view.specs.declared.tuple.Fields.TheVariants.{Absent, Icmp, Ports, Tcp}
 use Rattle.session_state.specs.declared.verdict.Verdict.{Verdict}
@@ -21,17 +23,17 @@ from_told (Ports from to) = numbered (codes " port ") from
 from_told (Tcp from to flags) = numbered (codes " port ") from
 from_told (Icmp kind code) = []
 
--- what follows that of the destination
-abbrev pub to_told : Fields → List ℕ
-to_told Absent = []
-to_told (Ports from to) = numbered (codes " port ") to
-to_told (Tcp from to flags) = numbered (codes " port ") to ++ flags_text flags
-to_told (Icmp kind code) = numbered (codes " type ") kind ++ numbered (codes " code ") code
+-- what follows that of the destination; of a protocol with ports or types a packet without them is a fragment other than the first
+abbrev pub to_told : Family → ℕ → Fields → List ℕ
+to_told family proto Absent = if (proto == 6) || ((proto == 17) || (proto == icmp_of family)) then codes " later fragment" else []
+to_told family proto (Ports from to) = numbered (codes " port ") to
+to_told family proto (Tcp from to flags) = numbered (codes " port ") to ++ flags_text flags
+to_told family proto (Icmp kind code) = numbered (codes " type ") kind ++ numbered (codes " code ") code
 
 abbrev pub tuple_told : TupleFacts → List ℕ
 tuple_told tuple = (codes " " ++ protocol_text tuple.family tuple.proto)
     ++ ((codes " " ++ address_text tuple.family tuple.source) ++ (from_told tuple.fields
-    ++ ((codes " to " ++ address_text tuple.family tuple.dest) ++ to_told tuple.fields)))
+    ++ ((codes " to " ++ address_text tuple.family tuple.dest) ++ to_told tuple.family tuple.proto tuple.fields)))
 
 -- what a packet carries, where that is seen
 abbrev pub carried_told : FrameFacts → List ℕ

@@ -1,10 +1,12 @@
 -- What a run's packets, captures and totals are as objects of JSON; what isn't known has no key (this project's profile).
-use Rattle.std.specs.Prelude.{◌≡◌, ℕ, ◌==◌, true, List, [], ◌∷◌, ◌++◌, codes, unwrap_or, if◌then◌else◌}
+use Rattle.std.specs.Prelude.{◌≡◌, ℕ, ◌==◌, ◌||◌, true, List, [], ◌∷◌, ◌++◌, codes, unwrap_or, if◌then◌else◌}
 use Rattle.json.specs.Json.{Json, boolean}
+use Rattle.packet_view.specs.Addresses.{icmp_of}
 use Rattle.packet_view.specs.Frames.{FrameFacts, Ip, Malformed, NotIp, Short}
 use Rattle.packet_view.specs.Tuples.{TupleFacts}
 use Rattle.packet_view.specs.declared.tuple.Direction.{Direction}
 use Rattle.packet_view.specs.declared.tuple.Direction.TheVariants.{Inbound, Outbound}
+use Rattle.packet_view.specs.declared.tuple.Family.{Family}
 use Rattle.packet_view.specs.declared.tuple.Fields.{Fields}
 use Rattle.packet_view.specs.declared.tuple.Fields.TheVariants.{Absent, Icmp, Ports, Tcp}
 use Rattle.session_state.specs.Passes.{passes}
@@ -79,18 +81,18 @@ source_fields (Ports from to) = number (codes "source_port") from ∷ []
 source_fields (Tcp from to flags) = number (codes "source_port") from ∷ []
 source_fields (Icmp kind code) = []
 
--- what follows that of the destination
-abbrev pub dest_fields : Fields → List Field
-dest_fields Absent = []
-dest_fields (Ports from to) = number (codes "destination_port") to ∷ []
-dest_fields (Tcp from to flags) = number (codes "destination_port") to ∷ number (codes "flags") flags ∷ []
-dest_fields (Icmp kind code) = number (codes "type") kind ∷ number (codes "code") code ∷ []
+-- what follows that of the destination; which fragment a packet is, is told as in explained lines
+abbrev pub dest_fields : Family → ℕ → Fields → List Field
+dest_fields family proto Absent = if (proto == 6) || ((proto == 17) || (proto == icmp_of family)) then (codes "later_fragment", boolean true) ∷ [] else []
+dest_fields family proto (Ports from to) = number (codes "destination_port") to ∷ []
+dest_fields family proto (Tcp from to flags) = number (codes "destination_port") to ∷ number (codes "flags") flags ∷ []
+dest_fields family proto (Icmp kind code) = number (codes "type") kind ∷ number (codes "code") code ∷ []
 
 abbrev pub tuple_fields : TupleFacts → List Field
 tuple_fields tuple = number (codes "protocol") tuple.proto
     ∷ string (codes "source") (address_text tuple.family tuple.source)
     ∷ (source_fields tuple.fields
-    ++ string (codes "destination") (address_text tuple.family tuple.dest) ∷ dest_fields tuple.fields)
+    ++ string (codes "destination") (address_text tuple.family tuple.dest) ∷ dest_fields tuple.family tuple.proto tuple.fields)
 
 -- what a packet carries, where that is seen
 abbrev pub carried_fields : FrameFacts → List Field
@@ -103,7 +105,7 @@ carried_fields (Ip direction tuple) = tuple_fields tuple
 abbrev pub packet_object : ℕ → EntryFacts → Json
 packet_object n entry = object_of (number (codes "packet") n ∷ (verdict_fields entry.verdict ++ (line_field entry.line
     ++ number (codes "interface") entry.interface ∷ (frame_way entry.view
-    ++ number (codes "time") entry.moment ∷ carried_fields entry.view))))
+    ++ number (codes "time") entry.moment ∷ number (codes "bytes") entry.bytes ∷ carried_fields entry.view))))
 
 -- where it is shown
 abbrev pub packet_objects : Shown → ℕ → EntryFacts → List Json
@@ -114,9 +116,6 @@ abbrev pub truncation_object : Captured → Json
 truncation_object captured =
     object_of (number (codes "interface") (unwrap_or captured.named 0) ∷ number (codes "truncated_after") captured.packets ∷ [])
 
-abbrev pub truncation_objects : Captured → List Json
-truncation_objects captured = if captured.truncated then truncation_object captured ∷ [] else []
-
 -- that of the totals
 abbrev pub totals_object : Totals → Json
 totals_object t =
@@ -125,7 +124,7 @@ totals_object t =
 -- those of all packets that are shown, of truncations and of the totals
 abbrev pub run_objects : RunFacts → List EntryFacts → List Json
 run_objects run entries =
-    captures_told (λ captured. packet_objects run.shown) truncation_objects 1 entries run.captures
+    captures_told (λ captured. packet_objects run.shown) (λ captured. if captured.truncated then truncation_object captured ∷ [] else []) 1 entries run.captures
     ++ totals_object (totals_of run.verdicts run.captures) ∷ []
 
 -- what is told of a run in objects

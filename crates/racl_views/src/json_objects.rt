@@ -2,6 +2,7 @@
 ghost use Rattle.std.specs.Prelude.{◌≡◌, ◌++◌, [], ◌∷◌, IfOk, OnOk, codes, unwrap_or};
 ghost use Rattle.packet_view.specs.Frames.{frame_facts};
 ghost use Rattle.packet_view.specs.Tuples.{tuple_facts};
+ghost use Rattle.packet_view.specs.declared.tuple.Fields.TheVariants.{Absent};
 ghost use Rattle.racl_views.specs.Entries.{entry_facts};
 ghost use Rattle.racl_views.specs.Objects.{number, object_line};
 ghost use Rattle.racl_views.specs.PacketObjects;
@@ -11,9 +12,10 @@ ghost use Rattle.racl_views.specs.inner.Fields.{HasAdded};
 use crate::json_fields::{
     add_address, add_number, add_string, add_true, add_way, begin_json_object, end_json_object,
 };
+use crate::line_text::has_fields;
 use crate::packet_entry::Entry;
 use json::Writer;
-use packet_view::{Fields, Frame, Tuple};
+use packet_view::{Family, Fields, Frame, Tuple};
 use racl_io::{Captured, Totals};
 use session_state::Verdict;
 use std::alloc::AllocError;
@@ -122,12 +124,22 @@ fn add_tcp_to_object(object: &mut Writer, to: u16, flags: u8) -> Result<(), Allo
     Ok(())
 }
 
-// What follows the address of the destination in the object of a packet.
-fn add_dest_fields(object: &mut Writer, fields: Fields) -> Result<(), AllocError>
-    ensures { OnOk result (HasAdded object.old object.new (dest_fields fields)) }
+// What the object of a packet says of fields that aren't there.
+fn add_absence(object: &mut Writer, family: Family, proto: u8) -> Result<(), AllocError>
+    ensures { OnOk result (HasAdded object.old object.new (dest_fields family proto Absent)) }
 {
-    match fields {
-        Fields::Absent => Ok(()),
+    if !has_fields(family, proto) {
+        return Ok(());
+    }
+    add_true(object, "later_fragment")
+}
+
+// What follows the address of the destination in the object of a packet.
+fn add_dest_fields(object: &mut Writer, tuple: &Tuple) -> Result<(), AllocError>
+    ensures { OnOk result (HasAdded object.old object.new (dest_fields tuple.now.family tuple.now.proto tuple.now.fields)) }
+{
+    match tuple.fields {
+        Fields::Absent => add_absence(object, tuple.family, tuple.proto),
         Fields::Ports { to, .. } => add_dest_port(object, to),
         Fields::Tcp { to, flags, .. } => add_tcp_to_object(object, to, flags),
         Fields::Icmp { kind, code } => add_icmp_to_object(object, kind, code),
@@ -141,7 +153,7 @@ fn add_tuple(object: &mut Writer, address: &mut String, tuple: &Tuple) -> Result
     add_address(object, address, "source", tuple.family, tuple.source)?;
     add_source_fields(object, tuple.fields)?;
     add_address(object, address, "destination", tuple.family, tuple.dest)?;
-    add_dest_fields(object, tuple.fields)?;
+    add_dest_fields(object, tuple)?;
     Ok(())
 }
 
@@ -181,6 +193,7 @@ pub fn push_packet(
     add_number(&mut object, "interface", u64::from(entry.interface))?;
     add_frame_way(&mut object, &entry.frame)?;
     add_number(&mut object, "time", u64::from(entry.moment))?;
+    add_number(&mut object, "bytes", entry.bytes)?;
     add_carried(&mut object, address, &entry.frame)?;
     end_json_object(object, text)
 }

@@ -1,5 +1,6 @@
 //! What several lines have in pieces of their text.
-ghost use Rattle.std.specs.Prelude.{◌≡◌, ◌+◌, ◌≤◌, ◌++◌, IfOk, codes, length};
+ghost use Rattle.std.specs.Prelude.{◌≡◌, ◌==◌, ◌||◌, ◌+◌, ◌≤◌, ◌++◌, IfOk, codes, length};
+ghost use Rattle.packet_view.specs.Addresses.{icmp_of};
 ghost use Rattle.racl_views.specs.PacketWords.{flags_text, numbered, protocol_text};
 
 use crate::address_text::hex_digit;
@@ -16,6 +17,13 @@ pub fn push_numbered(piece: &mut Piece, word: &[u8], number: u64)
 {
     piece.push(word);
     Numeral::of(number).push(piece);
+}
+
+/// Whether packets of this protocol have ports, or a type, unless they are fragments other than the first.
+pub fn has_fields(family: Family, proto: u8) -> bool
+    ensures { result ≡ ((proto == 6) || ((proto == 17) || (proto == icmp_of family))) }
+{
+    proto == 6 || proto == 17 || proto == icmp_number(family)
 }
 
 // The protocol in the text of a packet or a session: by its name, or by its number where it has none.

@@ -2,13 +2,14 @@
 ghost use Rattle.std.specs.Prelude.{◌≡◌, ◌+◌, ◌<◌, ◌≤◌, ◌++◌, length};
 ghost use Rattle.packet_view.specs.Addresses.{address_limit};
 ghost use Rattle.packet_view.specs.Frames.{frame_facts};
+ghost use Rattle.packet_view.specs.declared.tuple.Fields.TheVariants.{Absent};
 ghost use Rattle.packet_view.specs.Tuples.{tuple_facts};
 ghost use Rattle.racl_views.specs.Entries.{entry_facts};
 ghost use Rattle.racl_views.specs.ExplainedLines.{carried_told, from_told, seen_told, to_told, tuple_told, way_told};
 ghost use Rattle.racl_views.specs.PacketWords.{address_text};
 
 use crate::address_text::push_address;
-use crate::line_text::{push_line_flags, push_line_protocol, push_numbered};
+use crate::line_text::{has_fields, push_line_flags, push_line_protocol, push_numbered};
 use crate::packet_entry::Entry;
 use packet_view::{Direction, Family, Fields, Frame, Tuple};
 use racl_io::Piece;
@@ -51,14 +52,25 @@ fn push_from(piece: &mut Piece, fields: Fields)
     }
 }
 
-// What follows the address of the destination in the text of a packet.
-fn push_to(piece: &mut Piece, fields: Fields)
+// What the text of a packet says of fields that aren't there.
+fn push_absence(piece: &mut Piece, family: Family, proto: u8)
     requires { length piece.old + 60 ≤ 262144 }
-    ensures text { piece.new ≡ piece.old ++ to_told fields }
+    ensures text { piece.new ≡ piece.old ++ to_told family proto Absent }
     ensures short { length piece.new ≤ length piece.old + 60 }
 {
-    match fields {
-        Fields::Absent => {}
+    if has_fields(family, proto) {
+        piece.push(b" later fragment");
+    }
+}
+
+// What follows the address of the destination in the text of a packet.
+fn push_to(piece: &mut Piece, tuple: &Tuple)
+    requires { length piece.old + 60 ≤ 262144 }
+    ensures text { piece.new ≡ piece.old ++ to_told tuple.now.family tuple.now.proto tuple.now.fields }
+    ensures short { length piece.new ≤ length piece.old + 60 }
+{
+    match tuple.fields {
+        Fields::Absent => push_absence(piece, tuple.family, tuple.proto),
         Fields::Ports { to, .. } => push_numbered(piece, b" port ", u64::from(to)),
         Fields::Tcp { to, flags, .. } => {
             push_numbered(piece, b" port ", u64::from(to));
@@ -91,7 +103,7 @@ fn push_tuple(piece: &mut Piece, tuple: &Tuple)
     push_end(piece, b" ", tuple.family, tuple.source);
     push_from(piece, tuple.fields);
     push_end(piece, b" to ", tuple.family, tuple.dest);
-    push_to(piece, tuple.fields);
+    push_to(piece, tuple);
 }
 
 /// The text of what a packet carries, where that is seen.

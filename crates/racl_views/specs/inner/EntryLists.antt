@@ -1,5 +1,5 @@
 -- Entries by the steps of the code, and where the lines of rules stand among all.
-use Rattle.std.specs.Prelude.{◌≡◌, ◌<◌, ◌^◌, ℕ, List, [], ◌∷◌, get_or}
+use Rattle.std.specs.Prelude.{◌≡◌, ◌<◌, ◌^◌, ℕ, List, [], ◌∷◌, get_or, length}
 use Rattle.packet_view.specs.Captures.{PacketFacts}
 use Rattle.packet_view.specs.Frames.{FrameFacts}
 use Rattle.packet_view.specs.inner.FrameSteps.{view_of}
@@ -20,6 +20,7 @@ entry_on policy rules packet verdict = record {
   verdict = verdict;
   interface = packet.interface;
   moment = packet.moment;
+  bytes = length packet.frame;
   view = view_at policy packet;
   line = line_deciding rules (rule_on packet.interface (view_at policy packet) verdict);
 }

@@ -1,6 +1,7 @@
 -- What is told while packets are told.
-use Rattle.std.specs.Prelude.{◌≡◌, ◌+◌, ◌++◌, ℕ, List, Option, Result, IfErr, OnErr, OnOk, map, ⊤}
+use Rattle.std.specs.Prelude.{◌≡◌, ◌+◌, ◌++◌, ℕ, if◌then◌else◌, List, [], ◌∷◌, Option, Result, IfErr, OnErr, OnOk, map, ⊤}
 use Rattle.std.specs.Io.KnownBytes.{Appends}
+use Rattle.json.specs.Json.{Json}
 use Rattle.packet_view.specs.Captures.{PacketFacts}
 use Rattle.acl_policy.specs.Policies.{IsPolicyText, PolicyFacts, policy_facts}
 use Rattle.session_state.specs.declared.verdict.Verdict.{Verdict}
@@ -14,7 +15,7 @@ use Rattle.racl_views.specs.declared.packet_telling.Telling.{Telling}
 use Rattle.racl_views.specs.Entries.{EntryFacts}
 use Rattle.racl_views.specs.ExplainedLines.{shown_line}
 use Rattle.racl_views.specs.Objects.{object_lines}
-use Rattle.racl_views.specs.PacketObjects.{packet_objects, truncation_objects}
+use Rattle.racl_views.specs.PacketObjects.{packet_objects, truncation_object}
 use Rattle.racl_views.specs.RuleLines.{AreRules}
 use Rattle.racl_views.specs.RuleTexts.{rule_texts, shown_of}
 use Rattle.racl_views.specs.inner.EntryLists.{entries_on, entry_on}
@@ -34,6 +35,10 @@ truncation_told captured = truncation_line captured.named captured.truncated cap
 -- the line of its object, where it is shown
 abbrev pub object_by : Telling → ℕ → EntryFacts → List ℕ
 object_by t n entry = object_lines (packet_objects t.shown n entry)
+
+-- the object of a capture that is truncated, and of another none
+abbrev pub truncation_objects : Captured → List Json
+truncation_objects captured = if captured.truncated then truncation_object captured ∷ [] else []
 
 -- that of a truncation
 abbrev pub truncation_by : Captured → List ℕ
