@@ -72,6 +72,19 @@ class Page(Case):
             self.compare({"rendered": "<h2>Rules</h2>" in shown_there, "run": 'title>changed' in shown_there},
                          {"rendered": True, "run": False}, "in a browser")
 
+    def test_changes(self):
+        """A request that passed and its answer are dropped by a policy without a rule."""
+        old, new, capture = self.hold("old", NAMES), self.hold("new", NAMES.split(b"\n")[0] + b"\n"), self.hold("capture", CAPTURE)
+        report = self.program.run(["--json", new, capture])["stdout"]
+        told = self.hold("changes", self.program.run(["diff", old, new, capture])["stdout"])
+        got = page_of(["--changes", told, "-"], report)
+        self.compare(got, {"stderr": "", "status": 0})
+        rows = [["pass rule 1 reflect", "drop default", "1", "1", ""], ["pass session", "drop default", "2", "1", ""]]
+        self.compare({"changes": shown(got["stdout"])["rows"][:2]}, {"changes": rows})
+        wrong = self.hold("wrong", b"1 pass session\n")
+        self.compare(page_of(["--changes", wrong, "-"], report),
+                     {"stdout": "", "stderr": f"racl-page: {wrong}: line 1 is none of racl diff\n", "status": 1})
+
     @each([("no object", b'{"packets":0,"pass":0,"drop":0}\n1\n', "line 2 is no object of racl --json"),
            ("plain lines", b"1 pass session\n", "line 1 is no object of racl --json"),
            ("no totals", b"", "the totals are missing: the report isn't whole")])
