@@ -21,7 +21,7 @@ use Rattle.racl_options.specs.Selections.{FlagName, Summary, Hits, Sessions, Exp
 use Rattle.racl_options.specs.Sizes.{size_by}
 use Rattle.racl_options.specs.Options.{AreNames, AreSettings, Setting, Use, asked_as, sets, value_at, values_of, words_as}
 use Rattle.racl_options.specs.Origins.{Name, OriginFacts}
-use Rattle.racl_options.specs.inner.Commands.{capture_id, drops_id, interface_id, only_id, passes_id, policy_id, tables_id}
+use Rattle.racl_options.specs.inner.Commands.{capture_id, drops_id, expect_id, interface_id, only_id, passes_id, policy_id, tables_id}
 use Rattle.racl_options.proofs.NameLemmas.{plain_uses}
 use Rattle.racl_options.proofs.NameWalks.{Ends, has_row_behind, names_end, rows_of_names, rows_of_uses, uses_go_on, words_of_use}
 use Rattle.racl_options.proofs.SettingWalks.{AreNew, GoesOn, Holds, IsFit, between, default_row, row_of, settings_go_on, top, words_of}
@@ -203,6 +203,12 @@ no_passes Established = refl
 no_passes Transient = refl
 no_passes Udp = refl
 
+no_expect : IsOther expect_id
+no_expect Workers = refl
+no_expect Established = refl
+no_expect Transient = refl
+no_expect Udp = refl
+
 no_flag : (f : FlagName) → IsOther (flag_id f)
 no_flag Summary Workers = refl
 no_flag Summary Established = refl
@@ -334,6 +340,7 @@ words_ask program ss uses names origin are named says = record {
     names = rw (policy_named, capture_named, captures_named) says;
     drops = no_value drops_id no_drops refl (refl, refl, refl);
     passes = no_value passes_id no_passes refl (refl, refl, refl);
+    expected = no_value expect_id no_expect refl (refl, refl, refl);
     fit = refl;
   };
 }

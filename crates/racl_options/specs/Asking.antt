@@ -3,17 +3,21 @@ use Rattle.std.specs.Prelude.{◌≡◌, ◌&&◌, ◌||◌, Bool, true, false, 
 use Rattle.std.specs.Str.{bytes_eq}
 use Rattle.clap.specs.Words.{Text, fault_of}
 use Rattle.racl_options.specs.CommandLine.{OptionFacts, SetOptions, Values, option_facts, racl, values_at}
-use Rattle.racl_options.specs.Origins.{Name, OriginFacts, FromStandard, FromFiles, FromInterfaces, origin_facts}
+use Rattle.racl_options.specs.Origins.{Name, OriginFacts, FromStandard, FromFiles, FromInterfaces, is_standard, origin_facts}
+use Rattle.session_state.specs.declared.shown_verdicts.Shown.{Shown}
+use Rattle.session_state.specs.declared.shown_verdicts.Shown.TheVariants.{Every, Passing, Dropped, Nothing}
 use Rattle.racl_options.specs.declared.settings.Asked.{Asked}
 use Rattle.racl_options.specs.declared.settings.Lines.{Lines}
 use Rattle.racl_options.specs.declared.settings.Lines.TheVariants.{Plain, Explained, Json}
 
--- all that is asked for, as a value: with the names of the files that get the packets that were dropped, and those that passed
+-- all that is asked for, as a value: with the names of the files that get the packets that were dropped, and those that passed,
+-- and of the one that says what is expected
 pub record AskedFacts : Type 0 where
   pub options : OptionFacts
   pub origin : OriginFacts
   pub drops : Option Text
   pub passes : Option Text
+  pub expected : Option Text
 
 abbrev pub asked_facts : Asked → AskedFacts
 asked_facts a = record {
@@ -21,6 +25,7 @@ asked_facts a = record {
   origin = origin_facts a.origin;
   drops = option_map (λ t. t.now) a.saved.drops;
   passes = option_map (λ t. t.now) a.saved.passes;
+  expected = option_map (λ t. t.now) a.expected;
 }
 
 -- ---- what goes together
@@ -44,10 +49,33 @@ is_plain Plain = true
 is_plain Explained = false
 is_plain Json = false
 
--- Packets are saved of the capture in a file, and in two files. Verdicts are written as packets come of the capture in a file.
+-- each packet has its plain line, and nothing is told behind the totals
+abbrev pub is_each : Shown → Bool
+is_each Every = true
+is_each Passing = false
+is_each Dropped = false
+is_each Nothing = false
+
+abbrev pub are_verdicts_told : OptionFacts → Bool
+are_verdicts_told options = is_each options.shown && (is_plain options.lines && (not options.hits && (not options.sessions && not options.live)))
+
+-- a file can be read beside those of a policy and a capture: one of the three at most is standard input
+abbrev pub is_beside : Text → OriginFacts → Bool
+is_beside name FromStandard = false
+is_beside name (FromFiles policy capture) = not (is_standard name && (is_standard policy || is_standard capture))
+is_beside name (FromInterfaces policy captures) = false
+
+-- what is expected can be compared: of the capture in a file, where one worker judges, and nothing else is to be written
+abbrev pub can_be_expected : Option Text → AskedFacts → Bool
+can_be_expected None asked = true
+can_be_expected (Some name) asked = is_beside name asked.origin
+    && ((asked.options.workers == 1) && (are_verdicts_told asked.options && not (is_saved asked)))
+
+-- Packets are saved of the capture in a file, and in two files. Verdicts are written as packets come of the capture in a file, and
+-- `--expect` is asked for only where what is expected can be compared.
 abbrev pub fit_together : AskedFacts → Bool
 fit_together asked = (not (is_saved asked) || are_files asked.origin)
-    && (not (is_shared asked.drops asked.passes) && (not asked.options.live || are_files asked.origin))
+    && (not (is_shared asked.drops asked.passes) && ((not asked.options.live || are_files asked.origin) && can_be_expected asked.expected asked))
 
 -- what a parse holds asks for this
 pub record AskBy (values : Values) (asked : AskedFacts) : Type 0 where
@@ -55,6 +83,7 @@ pub record AskBy (values : Values) (asked : AskedFacts) : Type 0 where
   pub names : Name (values.first (codes "POLICY")) (values.first (codes "CAPTURE")) (values.all (codes "interface")) asked.origin
   pub drops : values.first (codes "drops") ≡ asked.drops
   pub passes : values.first (codes "passes") ≡ asked.passes
+  pub expected : values.first (codes "expect") ≡ asked.expected
   pub fit : fit_together asked ≡ true
 
 -- ---- words

@@ -12,7 +12,7 @@ ghost use Rattle.racl_options.specs.inner.Naming.{IsRefused, SpellOptions, value
 
 use crate::named_files::{Refusal, origin_named};
 use crate::selected_output::{is_given, lines_named, saved_named, shown_named};
-use crate::settings::{Asked, Options, Origin, Saved, TableSize};
+use crate::settings::{Asked, Lines, Options, Origin, Saved, TableSize};
 use crate::table_size::size_named;
 use clap::ArgMatches;
 use session_state::{Shown, Timeouts};
@@ -25,6 +25,9 @@ const NOT_SHOWN: &str = "--only takes pass or drop";
 const NOT_SAVED: &str = "--drops and --passes are of one capture: they need POLICY CAPTURE";
 
 const ONE_FILE: &str = "--drops and --passes need a file each";
+
+const NOT_EXPECTED: &str =
+    "--expect needs POLICY CAPTURE, and goes with the timeouts, --tables and --age alone; one file of the three can be standard input";
 
 const NOT_LIVE: &str = "--live needs POLICY CAPTURE";
 
@@ -47,6 +50,7 @@ pub fn asked_by<'a>(alloc: Global, matches: &ArgMatches<'a>) -> Result<Asked<'a>
         options: read_options(matches, tables, shown),
         origin,
         saved: saved_named(matches),
+        expected: matches.get_str("expect"),
     };
     match misfit(&asked) {
         Some(mistake) => Err(Refusal::Mistake(mistake)),
@@ -78,6 +82,40 @@ fn is_shared_file_asked(drops: Option<&str>, passes: Option<&str>) -> bool
     }
 }
 
+// Whether the options that are asked let each packet have its plain line, and tell nothing behind the totals.
+fn are_verdicts_told(options: &Options) -> bool
+    ensures { result ≡ asking.are_verdicts_told (option_facts options.now) }
+{
+    matches!(options.shown, Shown::Every)
+        && matches!(options.lines, Lines::Plain)
+        && !options.hits
+        && !options.sessions
+        && !options.live
+}
+
+// Whether a file that is asked for can be read beside those of a policy and a capture.
+fn is_beside(name: &str, origin: &Origin<'_>) -> bool
+    ensures { result ≡ asking.is_beside name.now (origin_facts origin.now) }
+{
+    match origin {
+        Origin::Files(files) => !(name == "-" && (files.policy == "-" || files.capture == "-")),
+        _ => false,
+    }
+}
+
+// Whether `--expect` goes with all else that is asked for.
+fn can_be_expected(asked: &Asked<'_>) -> bool
+    ensures { let facts = asked_facts asked.now in result ≡ asking.can_be_expected facts.expected facts }
+{
+    let Some(name) = asked.expected else {
+        return true;
+    };
+    is_beside(name, &asked.origin)
+        && asked.options.workers == 1
+        && are_verdicts_told(&asked.options)
+        && !is_saved(&asked.saved)
+}
+
 // Why what is asked for doesn't go together.
 fn misfit(asked: &Asked<'_>) -> Option<&'static str>
     ensures { is_none result ≡ fit_together (asked_facts asked.now) }
@@ -90,6 +128,9 @@ fn misfit(asked: &Asked<'_>) -> Option<&'static str>
     }
     if asked.options.live && !are_files_asked(&asked.origin) {
         return Some(NOT_LIVE);
+    }
+    if !can_be_expected(asked) {
+        return Some(NOT_EXPECTED);
     }
     None
 }

@@ -72,7 +72,8 @@ const USAGE: &str = "racl [OPTIONS] POLICY CAPTURE
        racl check POLICY
        racl expand FILE
        racl ask [--explain] POLICY PACKET ..
-       racl diff OLD NEW CAPTURE";
+       racl diff OLD NEW CAPTURE
+       racl compare OLD NEW";
 
 // The help of the command line below the options. A function of its own, so that no proof of a caller has the text.
 fn after_help() -> &'static str {
@@ -92,7 +93,9 @@ Examples:
   racl --json --hits --sessions host.policy host.pcap
   racl --drops dropped.pcap --passes passed.pcap host.policy host.pcap
   tcpdump -i eth0 -U -w - | racl --live host.policy -
+  racl --expect host.expected host.policy host.pcap
   racl diff host.policy new.policy host.pcap
+  racl compare host.policy new.policy
 
 Exit status:
   0  done
@@ -100,7 +103,7 @@ Exit status:
   2  fault in the words
   3  done, but the capture was cut off
   4  memory or device
-  5  diff: a packet is changed"
+  5  diff: a packet is changed; --expect: an expectation isn't met"
 }
 
 // The command line as `clap` reads it, with all options, flags and files.
@@ -177,6 +180,12 @@ fn command_with_values<'a>(alloc: Global) -> Result<Command<'a>, AllocError>
             "passes",
             "FILE",
             "Saves the packets that pass, as a capture",
+        ))?
+        .arg(value_option(
+            alloc,
+            "expect",
+            "FILE",
+            "Tells which verdicts aren't as FILE expects in lines such as `7 drop`",
         ))
 }
 

@@ -88,4 +88,6 @@ pub struct Asked<'a> {
     pub options: Options,
     pub origin: Origin<'a>,
     pub saved: Saved<'a>,
+    /// The name of the file that says which verdicts are expected, where they are to be compared.
+    pub expected: Option<&'a str>,
 }
