@@ -1,5 +1,5 @@
 -- What the words ask for in all, and what of it doesn't go together (this project's profile).
-use Rattle.std.specs.Prelude.{◌≡◌, ◌&&◌, ◌||◌, Bool, true, false, not, is_some, List, [], Option, None, Some, option_map, codes}
+use Rattle.std.specs.Prelude.{◌≡◌, ◌==◌, ◌&&◌, ◌||◌, Bool, true, false, not, is_some, List, [], Option, None, Some, option_map, codes}
 use Rattle.std.specs.Str.{bytes_eq}
 use Rattle.clap.specs.Words.{Text, fault_of}
 use Rattle.racl_options.specs.CommandLine.{OptionFacts, SetOptions, Values, option_facts, racl, values_at}
@@ -49,6 +49,10 @@ is_plain Plain = true
 is_plain Explained = false
 is_plain Json = false
 
+-- lines are written before the whole capture is read
+unfoldable pub is_told_early : OptionFacts → Bool
+is_told_early options = options.live || options.any_length
+
 -- each packet has its plain line, and nothing is told behind the totals
 abbrev pub is_each : Shown → Bool
 is_each Every = true
@@ -57,7 +61,7 @@ is_each Dropped = false
 is_each Nothing = false
 
 abbrev pub are_verdicts_told : OptionFacts → Bool
-are_verdicts_told options = is_each options.shown && (is_plain options.lines && (not options.hits && (not options.sessions && not options.live)))
+are_verdicts_told options = is_each options.shown && (is_plain options.lines && (not options.hits && (not options.sessions && (not options.live && not options.any_length))))
 
 -- a file can be read beside those of a policy and a capture: one of the three at most is standard input
 abbrev pub is_beside : Text → OriginFacts → Bool
@@ -71,11 +75,11 @@ can_be_expected None asked = true
 can_be_expected (Some name) asked = is_beside name asked.origin
     && ((asked.options.workers == 1) && (are_verdicts_told asked.options && not (is_saved asked)))
 
--- Packets are saved of the capture in a file, and in two files. Verdicts are written as packets come of the capture in a file, and
+-- Packets are saved of the capture in a file, and in two files. Lines are written early of the capture in a file, and
 -- `--expect` is asked for only where what is expected can be compared.
 abbrev pub fit_together : AskedFacts → Bool
 fit_together asked = (not (is_saved asked) || are_files asked.origin)
-    && (not (is_shared asked.drops asked.passes) && ((not asked.options.live || are_files asked.origin) && can_be_expected asked.expected asked))
+    && (not (is_shared asked.drops asked.passes) && ((not (is_told_early asked.options) || are_files asked.origin) && can_be_expected asked.expected asked))
 
 -- what a parse holds asks for this
 pub record AskBy (values : Values) (asked : AskedFacts) : Type 0 where

@@ -7,7 +7,7 @@ ghost use Rattle.racl_options.specs.CommandLine as line;
 ghost use Rattle.racl_options.specs.Checks.{text_behind};
 ghost use Rattle.racl_options.specs.CommandLine.{HoldsNumber, HoldsNumbers, OptionName, Spells, has_flag, option_facts};
 ghost use Rattle.racl_options.specs.Origins.{origin_facts};
-ghost use Rattle.racl_options.specs.Selections.{Age, Explain, Hits, JsonLines, Live, Sessions, lines_by};
+ghost use Rattle.racl_options.specs.Selections.{Age, AnyLength, Explain, Hits, JsonLines, Live, Sessions, lines_by};
 ghost use Rattle.racl_options.specs.inner.Naming.{IsRefused, SpellOptions, values_in};
 
 use crate::named_files::{Refusal, origin_named};
@@ -29,7 +29,7 @@ const ONE_FILE: &str = "--drops and --passes need a file each";
 const NOT_EXPECTED: &str =
     "--expect needs POLICY CAPTURE, and goes with the timeouts, --tables and --age alone; one file of the three can be standard input";
 
-const NOT_LIVE: &str = "--live needs POLICY CAPTURE";
+const NOT_LIVE: &str = "--live and --any-length need POLICY CAPTURE";
 
 /// What the matches ask for.
 pub fn asked_by<'a>(alloc: Global, matches: &ArgMatches<'a>) -> Result<Asked<'a>, Refusal>
@@ -82,6 +82,14 @@ fn is_shared_file_asked(drops: Option<&str>, passes: Option<&str>) -> bool
     }
 }
 
+// Whether lines are to be written before the whole capture is read.
+#[tactic(auto, unfolding(crate::specs::Asking::is_told_early))]
+fn is_told_early(options: &Options) -> bool
+    ensures { result ≡ asking.is_told_early (option_facts options.now) }
+{
+    options.live || options.any_length
+}
+
 // Whether the options that are asked let each packet have its plain line, and tell nothing behind the totals.
 fn are_verdicts_told(options: &Options) -> bool
     ensures { result ≡ asking.are_verdicts_told (option_facts options.now) }
@@ -91,6 +99,7 @@ fn are_verdicts_told(options: &Options) -> bool
         && !options.hits
         && !options.sessions
         && !options.live
+        && !options.any_length
 }
 
 // Whether a file that is asked for can be read beside those of a policy and a capture.
@@ -126,7 +135,7 @@ fn misfit(asked: &Asked<'_>) -> Option<&'static str>
     if is_shared_file_asked(asked.saved.drops, asked.saved.passes) {
         return Some(ONE_FILE);
     }
-    if asked.options.live && !are_files_asked(&asked.origin) {
+    if is_told_early(&asked.options) && !are_files_asked(&asked.origin) {
         return Some(NOT_LIVE);
     }
     if !can_be_expected(asked) {
@@ -145,6 +154,7 @@ fn read_options(matches: &ArgMatches<'_>, tables: TableSize, shown: Shown) -> Op
     ensures hits { has_flag (values_in (found_of matches.now)) Hits ≡ result.hits }
     ensures sessions { has_flag (values_in (found_of matches.now)) Sessions ≡ result.sessions }
     ensures live { has_flag (values_in (found_of matches.now)) Live ≡ result.live }
+    ensures any_length { has_flag (values_in (found_of matches.now)) AnyLength ≡ result.any_length }
     ensures ages { has_flag (values_in (found_of matches.now)) Age ≡ result.ages }
 {
     let workers = number_at(matches, "workers");
@@ -164,6 +174,7 @@ fn read_options(matches: &ArgMatches<'_>, tables: TableSize, shown: Shown) -> Op
         hits: is_given(matches, "hits"),
         sessions: is_given(matches, "sessions"),
         live: is_given(matches, "live"),
+        any_length: is_given(matches, "any-length"),
         ages: is_given(matches, "age"),
     }
 }

@@ -9,7 +9,7 @@ ghost use Rattle.racl_options.specs.CommandLine.{Established, IsRequest, long_ru
 ghost use Rattle.racl_options.specs.Options.{AreNames, AreSettings, Setting, Use, asked_as, values_of, words_as};
 ghost use Rattle.racl_options.specs.Origins.{Name, OriginFacts};
 ghost use Rattle.racl_options.specs.inner.Commands;
-ghost use Rattle.racl_options.specs.inner.Commands.{with_flags, with_options, with_reports, with_selections, with_values, without_options};
+ghost use Rattle.racl_options.specs.inner.Commands.{with_flags, with_lines, with_options, with_reports, with_selections, with_values, without_options};
 
 use crate::asked_options::asked_by;
 use crate::named_files::Refusal;
@@ -78,9 +78,9 @@ const USAGE: &str = "racl [OPTIONS] POLICY CAPTURE
 // The help of the command line below the options. A function of its own, so that no proof of a caller has the text.
 fn after_help() -> &'static str {
     "INPUT is a policy, a line `pcap` or `hex`, and the capture in that form; POLICY and CAPTURE are such \
-    a policy and a capture's bytes. Except with --live they have at most 67108864 bytes in all, in which a byte \
-    of a capture after --interface counts twice. The report goes to standard output. --drops, --passes and \
-    --live need POLICY CAPTURE.
+    a policy and a capture's bytes. Except with --live and --any-length they have at most 67108864 bytes in all, in \
+    which a byte of a capture after --interface counts twice. The report goes to standard output. --drops, --passes, \
+    --expect, --live and --any-length need POLICY CAPTURE.
 
 Examples:
   racl check host.policy
@@ -93,6 +93,7 @@ Examples:
   racl --json --hits --sessions host.policy host.pcap
   racl --drops dropped.pcap --passes passed.pcap host.policy host.pcap
   tcpdump -i eth0 -U -w - | racl --live host.policy -
+  racl --any-length --workers 4 --hits host.policy long.pcap
   racl --expect host.expected host.policy host.pcap
   racl diff host.policy new.policy host.pcap
   racl compare host.policy new.policy
@@ -103,7 +104,7 @@ Exit status:
   2  fault in the words
   3  done, but the capture was cut off
   4  memory or device
-  5  diff: a packet is changed; --expect: an expectation isn't met"
+  5  diff, compare: something is changed; --expect: an expectation isn't met"
 }
 
 // The command line as `clap` reads it, with all options, flags and files.
@@ -123,6 +124,28 @@ fn command<'a>(alloc: Global) -> Result<Command<'a>, AllocError>
 fn command_with_flags<'a>(alloc: Global) -> Result<Command<'a>, AllocError>
     ensures { IfOk result (λ c. app_of c ≡ with_flags) }
 {
+    command_with_lines(alloc)?
+        .arg(flag(
+            alloc,
+            "live",
+            "Lines are written as packets come; it implies --age",
+        ))?
+        .arg(flag(
+            alloc,
+            "any-length",
+            "Reads a capture of any length, and writes lines as it reads",
+        ))?
+        .arg(flag(
+            alloc,
+            "age",
+            "Sessions that have ended leave the tables, which makes room for new ones",
+        ))
+}
+
+// The command with its options and the flags that say what is reported, up to the form of the lines.
+fn command_with_lines<'a>(alloc: Global) -> Result<Command<'a>, AllocError>
+    ensures { IfOk result (λ c. app_of c ≡ with_lines) }
+{
     command_with_reports(alloc)?
         .arg(flag(
             alloc,
@@ -133,16 +156,6 @@ fn command_with_flags<'a>(alloc: Global) -> Result<Command<'a>, AllocError>
             alloc,
             "json",
             "Each line and the totals as an object of JSON",
-        ))?
-        .arg(flag(
-            alloc,
-            "live",
-            "Lines are written as packets come; it implies --age",
-        ))?
-        .arg(flag(
-            alloc,
-            "age",
-            "Sessions that have ended leave the tables, which makes room for new ones",
         ))
 }
 

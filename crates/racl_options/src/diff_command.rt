@@ -63,6 +63,7 @@ pub fn diff_options() -> Options
         hits: false,
         sessions: false,
         live: true,
+        any_length: false,
         ages: true,
     }
 }

@@ -4,7 +4,7 @@ use Rattle.clap.specs.Simple.{on_top}
 use Rattle.clap.specs.Words.{App, Rule, Text, new_app, with_rule}
 use Rattle.clap.specs.declared.builder.action.ArgAction.TheVariants.{Append, Set}
 use Rattle.racl_options.specs.CommandLine.{Workers, Established, Transient, Udp, flag_rule, long_rule, number_rule}
-use Rattle.racl_options.specs.Selections.{Summary, Hits, Sessions, Explain, JsonLines, Live, Age}
+use Rattle.racl_options.specs.Selections.{Summary, Hits, Sessions, Explain, JsonLines, Live, AnyLength, Age}
 
 -- ---- words
 
@@ -58,5 +58,8 @@ with_values = with_rule (with_rule (with_rule with_selections (value_rule drops_
 abbrev pub with_reports : App
 with_reports = with_rule (with_rule (with_rule with_values (flag_rule Summary)) (flag_rule Hits)) (flag_rule Sessions)
 
+abbrev pub with_lines : App
+with_lines = with_rule (with_rule with_reports (flag_rule Explain)) (flag_rule JsonLines)
+
 abbrev pub with_flags : App
-with_flags = with_rule (with_rule (with_rule (with_rule with_reports (flag_rule Explain)) (flag_rule JsonLines)) (flag_rule Live)) (flag_rule Age)
+with_flags = with_rule (with_rule (with_rule with_lines (flag_rule Live)) (flag_rule AnyLength)) (flag_rule Age)
