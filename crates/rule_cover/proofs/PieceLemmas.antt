@@ -63,8 +63,8 @@ adds_both a b shown one two joined old new first second both is = record {
 }
 
 -- whatever a packet shows
-pub all_shown : (a b : RuleFacts) (o p q r s : List Piece) → o ≡ [] → AddsShown a b TypeAndCode o p → AddsShown a b PortPair p q → AddsShown a b PortsAndFlags q r
-    → AddsShown a b Nothing r s → AreFirst a b s
+pub all_shown : (a b : RuleFacts) (o p q r s : List Piece) → o ≡ [] → AddsShown a b Nothing o p → AddsShown a b TypeAndCode p q → AddsShown a b PortPair q r
+    → AddsShown a b PortsAndFlags r s → AreFirst a b s
 all_shown a b o p q r s none one two three four =
     let P = IsWhole a b in
     let zeroth : All P o = subst (All P) (sym none) (All-nil P) in
@@ -81,16 +81,16 @@ all_shown a b o p q r s none one two three four =
           go (shown_of tuple.fields) refl;
     }
   where
-    by_shown : (a b : RuleFacts) (o p q r s : List Piece) → AddsShown a b TypeAndCode o p → AddsShown a b PortPair p q → AddsShown a b PortsAndFlags q r
-        → AddsShown a b Nothing r s → (tuple : TupleFacts) → IsPacket tuple → Matches a tuple → Matches b tuple → (shown : Shown) → shown_of tuple.fields ≡ shown
+    by_shown : (a b : RuleFacts) (o p q r s : List Piece) → AddsShown a b Nothing o p → AddsShown a b TypeAndCode p q → AddsShown a b PortPair q r
+        → AddsShown a b PortsAndFlags r s → (tuple : TupleFacts) → IsPacket tuple → Matches a tuple → Matches b tuple → (shown : Shown) → shown_of tuple.fields ≡ shown
         → (IsInSome p tuple → IsInSome q tuple) → (IsInSome q tuple → IsInSome r tuple) → (IsInSome r tuple → IsInSome s tuple) → IsInSome s tuple
-    by_shown a b o p q r s one two three four tuple packet left right TypeAndCode is f g h =
-        h (g (f (subst (λ (ps : List Piece). IsInSome ps tuple) (sym one.is) (in_right o one.more tuple (one.every tuple packet left right is)))))
-    by_shown a b o p q r s one two three four tuple packet left right PortPair is f g h =
-        h (g (subst (λ (ps : List Piece). IsInSome ps tuple) (sym two.is) (in_right p two.more tuple (two.every tuple packet left right is))))
-    by_shown a b o p q r s one two three four tuple packet left right PortsAndFlags is f g h =
-        h (subst (λ (ps : List Piece). IsInSome ps tuple) (sym three.is) (in_right q three.more tuple (three.every tuple packet left right is)))
     by_shown a b o p q r s one two three four tuple packet left right Nothing is f g h =
+        h (g (f (subst (λ (ps : List Piece). IsInSome ps tuple) (sym one.is) (in_right o one.more tuple (one.every tuple packet left right is)))))
+    by_shown a b o p q r s one two three four tuple packet left right TypeAndCode is f g h =
+        h (g (subst (λ (ps : List Piece). IsInSome ps tuple) (sym two.is) (in_right p two.more tuple (two.every tuple packet left right is))))
+    by_shown a b o p q r s one two three four tuple packet left right PortPair is f g h =
+        h (subst (λ (ps : List Piece). IsInSome ps tuple) (sym three.is) (in_right q three.more tuple (three.every tuple packet left right is)))
+    by_shown a b o p q r s one two three four tuple packet left right PortsAndFlags is f g h =
         subst (λ (ps : List Piece). IsInSome ps tuple) (sym four.is) (in_right r four.more tuple (four.every tuple packet left right is))
 
 -- the search begins with whole pieces

@@ -31,15 +31,15 @@ fn add_shown(left: &mut Vec<Piece>, one: &Rule, two: &Rule, shown: Shown) -> Res
     Ok(())
 }
 
-// All packets that both rules match, whose uncovered ones are looked for.
+// All packets that both rules match, whose uncovered ones are looked for: those with ports first, which stand last.
 fn all_packets(alloc: Global, one: &Rule, two: &Rule) -> Result<Vec<Piece>, AllocError>
     ensures { IfOk result (λ left. AreFirst (rule_facts one.now) (rule_facts two.now) left.items) }
 {
     let mut left = Vec::new(alloc);
+    add_shown(&mut left, one, two, Shown::Nothing)?;
     add_shown(&mut left, one, two, Shown::TypeAndCode)?;
     add_shown(&mut left, one, two, Shown::PortPair)?;
     add_shown(&mut left, one, two, Shown::PortsAndFlags)?;
-    add_shown(&mut left, one, two, Shown::Nothing)?;
     Ok(left)
 }
 

@@ -162,7 +162,7 @@ fn rules_together(rt: HostRuntime) -> Result<(), Fail> {
     ];
     assert!(rt; uncovered(rt.alloc(), &whole, &whole, &halves, MOST)? == Cover::Taken(0, 2));
     let upper = uncovered(rt.alloc(), &whole, &whole, &halves[1..], MOST)?;
-    assert!(rt; upper == Cover::Left(packet(128, 0)));
+    assert!(rt; upper == Cover::Left(segment(128, 0, 0)));
     let tcp = of_protocol(6, EVERY, (0, 0));
     let flags = [of_protocol(6, EVERY, (2, 2)), of_protocol(6, EVERY, (0, 2))];
     assert!(rt; uncovered(rt.alloc(), &tcp, &tcp, &flags, MOST)? == Cover::Taken(0, 1));
