@@ -129,14 +129,6 @@ fn told_policy(alloc: Global, files: &[PolicyFile]) -> Result<Told, AllocError> 
     }
 }
 
-// The plain policy of the first of these files, or what is told of them.
-fn told_policy(alloc: Global, files: &[PolicyFile]) -> Result<Told, AllocError> {
-    match whole_policy(alloc, files)? {
-        Whole::Lines(lines) => tell_expansion(alloc, lines.as_slice()),
-        Whole::Faults(told) => Ok(Told::Faults(told)),
-    }
-}
-
 // Writes the plain policy of the file of this name, and answers the status: 0 where it was written, 1 where a file is
 // wrong, which is told, and 4 where memory ran out or a file or a device failed.
 fn expand_file<S: SystemFiles + Eprint>(system: &S, alloc: Global, name: &str) -> io::Result<u8> {
