@@ -5,6 +5,7 @@
 ghost use Rattle.std.specs.Prelude.{◌<◌, ◌-◌, ◌^◌};
 
 mod ask;
+mod compare;
 
 use racl_cli::{DiffFault, LiveAsked, LiveSaves, PolicyTexts, run, run_diff, run_live, run_saving};
 use racl_io::{Device, Fault, FrontKept, Joined, Source};
@@ -43,6 +44,11 @@ fn status_of_main<T: Threads + Wait + Sync>(
         return Ok(status);
     }
     match ask::answered(rt, threads, alloc, texts.as_slice()) {
+        Ok(None) => {}
+        Ok(Some(status)) => return Ok(status),
+        Err(error) => return Err(error),
+    }
+    match compare::compared(rt, alloc, texts.as_slice()) {
         Ok(None) => {}
         Ok(Some(status)) => return Ok(status),
         Err(error) => return Err(error),

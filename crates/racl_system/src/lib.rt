@@ -27,7 +27,7 @@ pub use diff_input::{DiffInput, opened_diff, say_capture_fault, say_policy_fault
 pub use end_of_run::{LiveInput, Ran, say_end_of_live, say_end_of_run};
 pub use file_expanding::expansion_status;
 pub use input_files::{Parts, opened_input};
-pub use live_files::{LiveFiles, opened_live};
+pub use live_files::{LiveFiles, live_policy_text, opened_live};
 pub use named_reader::Reader;
 pub use output::Output;
 pub use progress::{Progress, Watched};

@@ -3,6 +3,7 @@ use std::test::Fail;
 
 mod checks;
 mod command_line_words;
+mod comparisons;
 mod devices;
 mod digits;
 mod explained_packets;

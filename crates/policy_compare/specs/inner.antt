@@ -1,0 +1,2 @@
+-- Definitions that go as the code goes. No promise is said by them.
+pub mod Found

@@ -1,0 +1,45 @@
+//! The report on the policies that two texts say.
+ghost use Rattle.std.specs.Prelude.{◌≡◌, ◌≢◌, ◌+◌, ◌-◌, ◌<◌, ◌^◌, ◌↔◌, Err, IfErr, IfOk};
+ghost use Rattle.racl_io.specs.declared.fault.Fault.{Fault};
+ghost use Rattle.policy_compare.specs.ComparedTexts.{HasCompared, IsCompareFault};
+ghost use Rattle.policy_compare.specs.declared.compare_fault.CompareFault.TheVariants as told;
+
+use crate::compare_fault::CompareFault;
+use crate::compared_policies::compare_policies;
+use crate::comparison_report::{status_behind, write_comparison};
+use acl_policy::read_policy;
+use racl_io::{Fault, Piece, Sink};
+use std::alloc::Global;
+
+/// Writes what two policies decide differently, and answers the exit status. Nothing is written before all is found.
+pub fn compare_texts<W: Sink>(
+    alloc: Global,
+    before: &[u8],
+    after: &[u8],
+    writer: &mut W,
+) -> Result<u8, CompareFault>
+    requires { W.failures writer.old < 2 ^ 64 - 1 }
+    ensures ok { IfOk result (HasCompared before.now after.now (W.bytes writer.old) (W.bytes writer.new)) }
+    ensures fault { IfErr result (IsCompareFault before.now after.now) }
+    ensures write { (result ≡ Err (told.Run Fault.Write)) ↔ (W.failures writer.new ≡ W.failures writer.old + 1) }
+    ensures unwritten { IfErr result (λ fault. fault ≢ told.Run Fault.Write → writer.new ≡ writer.old) }
+{
+    let old = match read_policy(alloc, before) {
+        Ok(policy) => policy,
+        Err(cause) => return Err(CompareFault::Before(cause)),
+    };
+    let new = match read_policy(alloc, after) {
+        Ok(policy) => policy,
+        Err(cause) => return Err(CompareFault::After(cause)),
+    };
+    let Ok(told) = compare_policies(alloc, &old, &new) else {
+        return Err(CompareFault::Run(Fault::Memory));
+    };
+    let Ok(mut piece) = Piece::new(alloc) else {
+        return Err(CompareFault::Run(Fault::Memory));
+    };
+    match write_comparison(writer, &mut piece, &told) {
+        Ok(()) => Ok(status_behind(&told)),
+        Err(fault) => Err(CompareFault::Run(fault)),
+    }
+}

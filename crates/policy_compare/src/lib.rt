@@ -1,0 +1,22 @@
+//! Two policies beside one another: an example of a packet for each two of their rules that let different things become of it.
+#![tactic(auto)]
+
+mod compare_fault;
+mod compared_policies;
+mod compared_rules;
+mod compared_sides;
+mod compared_texts;
+mod comparing_words;
+mod comparison_report;
+mod decider;
+mod difference;
+mod example_words;
+mod number_words;
+mod own_addresses;
+mod pair_of_rules;
+
+pub use compare_fault::CompareFault;
+pub use compared_policies::compare_policies;
+pub use compared_texts::compare_texts;
+pub use comparing_words::compared_by;
+pub use difference::{CompareFiles, Compares, Comparison, Difference, Pair};

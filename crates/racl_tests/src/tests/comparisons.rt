@@ -1,0 +1,68 @@
+//! What two policies decide differently. `checks/program/compare.py` compares more of them, and takes the packets to `racl ask`.
+use super::racl_test_refused;
+use acl_policy::{Action, read_policy};
+use packet_view::{Direction, Family, Fields, Tuple};
+use policy_compare::{Compares, Difference, Pair, compare_policies, compare_texts, compared_by};
+use racl_io::Device;
+use std::test::Fail;
+
+const BEFORE: &[u8] = b"in permit+reflect ipv4 10.0.0.1 any udp dport 53\n";
+
+const AFTER: &[u8] = b"in deny ipv4 any any udp dport 53\nin permit ipv6 any any 47\n";
+
+/// Comparisons: a rule that denies what one let through, and one of the other family.
+#[test]
+fn a_denied_packet_and_a_new_rule(rt: HostRuntime) -> Result<(), Fail> {
+    let (Ok(before), Ok(after)) = (
+        read_policy(rt.alloc(), BEFORE),
+        read_policy(rt.alloc(), AFTER),
+    ) else {
+        return racl_test_refused();
+    };
+    let told = compare_policies(rt.alloc(), &before, &after)?;
+    let denied = Difference {
+        pair: Pair {
+            interface: 0,
+            direction: Direction::Inbound,
+            before: Some((1, Action::Reflect)),
+            after: Some((1, Action::Deny)),
+        },
+        packet: Some(Tuple {
+            interface: 0,
+            family: Family::V4,
+            source: 0x0a000001,
+            dest: 0,
+            proto: 17,
+            fields: Fields::Ports { from: 0, to: 53 },
+        }),
+    };
+    assert!(rt; told.differences.len() == 2 && told.differences[0] == denied);
+    assert!(rt; told.interfaces.is_empty());
+    Ok(())
+}
+
+/// The report on these, whose packets are written as `racl ask` takes them.
+#[test]
+fn the_report_on_two_policies(rt: HostRuntime) -> Result<(), Fail> {
+    let mut writer = Device::new(Vec::new(rt.alloc()));
+    assert!(rt; compare_texts(rt.alloc(), BEFORE, AFTER, &mut writer) == Ok(5));
+    let wanted = b"\
+in udp 10.0.0.1 0 0.0.0.0 53: pass rule 1 reflect -> drop rule 1
+in 47 0:0:0:0:0:0:0:0 0:0:0:0:0:0:0:0: drop default -> pass rule 2
+pairs that differ 2 unknown 0
+";
+    assert!(rt; writer.inner.as_slice() == wanted.as_slice());
+    Ok(())
+}
+
+/// Words that ask for a comparison, and others.
+#[test]
+fn words_of_a_comparison(rt: HostRuntime) {
+    let Compares::These(files) = compared_by(&["racl", "compare", "a", "b"]) else {
+        assert!(rt; false);
+        return;
+    };
+    assert!(rt; files.before == "a" && files.after == "b");
+    assert!(rt; matches!(compared_by(&["racl", "compare", "a"]), Compares::Unclear));
+    assert!(rt; matches!(compared_by(&["racl", "diff", "a", "b"]), Compares::Nothing));
+}
