@@ -34,7 +34,7 @@ none_of_right (x ∷ xs) ys tuple all = none_of_right xs ys tuple (λ i. all (su
 
 -- ---- none before a place matches
 
-from_front : (rules : List RuleFacts) (i : ℕ) (tuple : TupleFacts) → DecidesByDefault (take i rules) tuple
+pub from_front : (rules : List RuleFacts) (i : ℕ) (tuple : TupleFacts) → DecidesByDefault (take i rules) tuple
     → (k : ℕ) (other : RuleFacts) → k < i → slice_get rules k ≡ Some other → Matches other tuple → ⊥
 from_front [] i tuple none k other below read m = let f : ⊥ = cc in f
 from_front (x ∷ xs) zero tuple none k other below read m = absurd (omega (arith, below))
@@ -68,7 +68,7 @@ decides rules i tuple None read m none = λ k other at n. from_front rules i tup
 decides rules i tuple (Some rule) read m none = (i, refl, (rule, read, m, refl, λ k other below at n. from_front rules i tuple none k other below at n))
 
 -- What decides a packet is at a place of its own.
-decided : (rules : List RuleFacts) (i : ℕ) (tuple : TupleFacts) (there : Option RuleFacts) → slice_get rules i ≡ there
+pub decided : (rules : List RuleFacts) (i : ℕ) (tuple : TupleFacts) (there : Option RuleFacts) → slice_get rules i ≡ there
     → IsDecider rules tuple (option_map (λ rule. (i + 1, rule.action)) there) → MatchesIf there tuple × DecidesByDefault (take i rules) tuple
 decided rules i tuple None read is = (tt, to_front rules i tuple (λ k other below at n. is k other at n))
 decided rules i tuple (Some rule) read (place, same, (other, at, m, act, none)) =

@@ -1,2 +1,3 @@
 -- Definitions that go as the code goes. No promise is said by them.
 pub mod Found
+pub mod Limits

@@ -11,3 +11,11 @@ pub struct Sides<'a> {
     pub before: &'a [Rule],
     pub after: &'a [Rule],
 }
+
+/// Of each rule of the one list, and of no rule, the first place of the other whose rule takes all its packets, or that behind
+/// the last; and the other way round.
+#[derive(Drop)]
+pub struct Limits {
+    pub rows: Vec<usize>,
+    pub columns: Vec<usize>,
+}

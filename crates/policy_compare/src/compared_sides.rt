@@ -1,15 +1,17 @@
 //! What the rules of a direction decide differently by two policies, pair after pair.
-ghost use Rattle.std.specs.Prelude.{◌≡◌, ◌≢◌, ◌≤◌, ◌+◌, ◌++◌, IfOk, IfSome, None, OnOk, false, length, map, option_to_list, take, true};
+ghost use Rattle.std.specs.Prelude.{◌≡◌, ◌≢◌, ◌≤◌, ◌<◌, ◌+◌, ◌++◌, IfOk, IfSome, IsTrue, None, OnOk, false, length, map, option_to_list, take, true};
 ghost use Rattle.acl_policy.specs.Rules.{rule_facts};
 ghost use Rattle.packet_view.specs.Tuples.{TupleFacts, tuple_facts};
 ghost use Rattle.policy_compare.specs.Comparisons;
 ghost use Rattle.policy_compare.specs.Comparisons.{AreApart};
 ghost use Rattle.policy_compare.specs.inner.Found.{AddsDifferences, IsAtRow, IsAtSides, IsDifferenceOf, pair_at, sides_facts};
+ghost use Rattle.policy_compare.specs.inner.Limits.{AreLimits, IsBehind};
 
-use crate::compared_rules::Sides;
+use crate::compared_rules::{Limits, Sides};
 use crate::decider::{action_by, decider_at, rule_at};
 use crate::difference::{Difference, Pair};
 use crate::pair_of_rules::cover_of_both;
+use crate::taking_rules::limits_between;
 use acl_policy::Rule;
 use packet_view::Tuple;
 use rule_cover::Cover;
@@ -49,13 +51,26 @@ fn at_interface(interface: u8, tuple: &Tuple) -> Tuple
     }
 }
 
+// Whether one of these places is behind that of a rule that takes all packets of the other's.
+fn is_behind(limits: &Limits, places: (usize, usize)) -> bool
+    requires { (places.0 < length limits.now.rows.items) × (places.1 < length limits.now.columns.items) }
+    ensures { IsTrue result → IsBehind limits.now places.0 places.1 }
+{
+    if limits.rows[places.0] < places.1 {
+        return true;
+    }
+    limits.columns[places.1] < places.0
+}
+
 // What is told of the rules at these places; `earlier` are those before the one and before the other.
 fn difference_at(
     alloc: Global,
     sides: &Sides<'_>,
+    limits: &Limits,
     places: (usize, usize),
     earlier: &[Rule],
 ) -> Result<Option<Difference>, AllocError>
+    requires limits { AreLimits (sides_facts sides.now) limits.now }
     requires within { (places.0 ≤ length sides.now.before.now) × (places.1 ≤ length sides.now.after.now) }
     requires earlier { earlier.now ≡ take places.0 sides.now.before.now ++ take places.1 sides.now.after.now }
     ensures some { IfOk result (λ found. IfSome found (IsDifferenceOf (sides_facts sides.now))) }
@@ -65,6 +80,9 @@ fn difference_at(
 {
     let pair = pair_of(sides, places.0, places.1);
     if !is_apart(&pair) {
+        return Ok(None);
+    }
+    if is_behind(limits, places) {
         return Ok(None);
     }
     let one = rule_at(sides.before, places.0);
@@ -109,15 +127,23 @@ fn add_row(
     alloc: Global,
     all: &mut Vec<Difference>,
     sides: &Sides<'_>,
+    limits: &Limits,
     place: usize,
 ) -> Result<(), AllocError>
-    requires { place ≤ length sides.now.before.now }
+    requires limits { AreLimits (sides_facts sides.now) limits.now }
+    requires within { place ≤ length sides.now.before.now }
     ensures { OnOk result (AddsDifferences (IsDifferenceOf (sides_facts sides.now))
         (IsAtRow (sides_facts sides.now) place (length sides.now.after.now + 1)) all.old.items all.new.items) }
 {
     let earlier = earlier_rules(alloc, sides.before, place, sides.after)?;
     for other in 0..sides.after.len() + 1 {
-        let found = difference_at(alloc, sides, (place, other), &earlier[..place + other])?;
+        let found = difference_at(
+            alloc,
+            sides,
+            limits,
+            (place, other),
+            &earlier[..place + other],
+        )?;
         add(all, found)?;
     }
     Ok(())
@@ -131,8 +157,9 @@ pub fn add_sides(
 ) -> Result<(), AllocError>
     ensures { OnOk result (AddsDifferences (IsDifferenceOf (sides_facts sides.now)) (IsAtSides (sides_facts sides.now)) all.old.items all.new.items) }
 {
+    let limits = limits_between(alloc, sides)?;
     for place in 0..sides.before.len() + 1 {
-        add_row(alloc, all, sides, place)?;
+        add_row(alloc, all, sides, &limits, place)?;
     }
     Ok(())
 }

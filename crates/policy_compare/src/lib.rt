@@ -14,6 +14,7 @@ mod example_words;
 mod number_words;
 mod own_addresses;
 mod pair_of_rules;
+mod taking_rules;
 
 pub use compare_fault::CompareFault;
 pub use compared_policies::compare_policies;

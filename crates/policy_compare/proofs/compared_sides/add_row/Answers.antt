@@ -6,7 +6,7 @@ use Rattle.policy_compare.proofs.compared_sides.add_row.Goals as goal
 pub difference_at-requires-clause-earlier : goal.difference_at-requires-clause-earlier
 difference_at-requires-clause-earlier c =
     ap (take (c.args.place + c.loop-other.other)) (c.deref.ensures.value ∙ c.in_ok-earlier.ensures)
-    ∙ front_of_both c.args.sides.now.before.now c.args.sides.now.after.now c.args.place c.loop-other.other c.requires
+    ∙ front_of_both c.args.sides.now.before.now c.args.sides.now.after.now c.args.place c.loop-other.other c.requires.within
 
 pub loop-other-preserved : goal.loop-other-preserved
 loop-other-preserved c =
