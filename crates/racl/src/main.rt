@@ -14,7 +14,7 @@ use racl_system::{
     DiffInput, LiveFiles, LiveInput, Output, Parts, Ran, Watched, asked_or_status, diff_or_status,
     expansion_status, failure_status, opened_diff, opened_input, opened_live, saves_to,
     say_capture_fault, say_end_of_live, say_end_of_run, say_policy_fault, say_unsaved,
-    say_used_twice, settled, texts_of, words_of,
+    say_used_twice, settled, texts_of, watched_where, words_of,
 };
 use std::alloc::Global;
 use std::io;
@@ -60,7 +60,7 @@ fn status_of_main<T: Threads + Wait + Sync>(
     }
     match asked_or_status(rt, alloc, texts.as_slice()) {
         Ok(Ok(asked)) => match &asked.origin {
-            Origin::Files(files) if asked.options.live => {
+            Origin::Files(files) if asked.options.live || asked.options.any_length => {
                 status_of_live(rt, threads, alloc, &asked, files)
             }
             _ => status_of_run(rt, threads, alloc, &asked),
@@ -132,7 +132,7 @@ fn run_main_program<T: Threads + Wait + Sync, R: Source + Send>(
     }))
 }
 
-// Runs the main program on the capture of a file while it comes, saves packets of it where that is asked for, tells how that
+// Runs the main program on the capture of a file while it is read, saves packets of it where that is asked for, tells how that
 // ended, and answers the exit status. What was saved stays, however it ended.
 fn status_of_live<T: Threads + Wait + Sync>(
     rt: &HostRuntime,
@@ -152,7 +152,8 @@ fn status_of_live<T: Threads + Wait + Sync>(
         Err(error) => return Err(error),
     };
     let text = text.as_slice();
-    let mut reader = Device::new(FrontKept::new(capture));
+    let source = Device::new(FrontKept::new(capture));
+    let mut reader = watched_where(rt, asked.options.any_length, source);
     let mut writer = Device::new(rt.stdout());
     let mut saves = LiveSaves {
         files: saves_to(rt, &asked.saved),
@@ -162,13 +163,14 @@ fn status_of_live<T: Threads + Wait + Sync>(
         text,
     };
     let outcome = run_live(threads, alloc, live, &mut reader, &mut writer, &mut saves);
+    reader.progress.end();
     if say_unsaved(rt, settled(saves.files, true))? {
         return Ok(4);
     }
     let input = LiveInput {
         files: *files,
         text,
-        front: reader.inner.front(),
+        front: reader.source.inner.front(),
     };
     say_end_of_live(rt, alloc, &asked.options, input, &outcome)
 }

@@ -18,14 +18,14 @@ use Rattle.racl_report.specs.BehindTotals.{IsBehind}
 use Rattle.racl_report.specs.RunReports.{told_facts}
 use Rattle.racl_report.specs.declared.text_behind_totals.Behind.{Behind}
 use Rattle.racl_cli.specs.Crews.{AreAsAsked, AreIdleOf, AreSaid, AreSaidBy, AreSaidSoFar, HaveCountedAfter, HaveEndedCounting, HaveEndedOn, HaveSaidAfter, Orders, cuts_four, orders_for, size_of, views_with}
-use Rattle.racl_cli.specs.LiveRuns.{IsToldBehind}
+use Rattle.racl_cli.specs.LiveRuns.{IsToldBehind, ages_in}
 use Rattle.racl_cli.specs.Runs.{AreStoredOf, keeps_stored, layout_for}
 use Rattle.racl_cli.specs.inner.LiveEnds.{MayTellBehind}
 use Rattle.racl_cli.specs.declared.counted_judging.Counted.{Counted}
 use Rattle.racl_cli.specs.declared.live_run.LiveHead.{LiveHead}
 use Rattle.racl_cli.specs.declared.sized_tables_and_workers.SizedCallers.{SizedCallers}
 use Rattle.racl_cli.specs.declared.sized_tables_and_workers.SizedTables.{SizedTables}
-use Rattle.racl_cli.proofs.LiveLemmas.{by_ageing_workers}
+use Rattle.racl_cli.proofs.LiveLemmas.{by_live_workers}
 use Rattle.racl_cli.proofs.OutcomeLemmas.{judged_count}
 
 -- what was said of all packets is as much as there are
@@ -86,7 +86,7 @@ counted_end orders asked packets said kept counted callers has ended =
 -- what stands behind the totals may be told
 pub may_tell_behind : (head : LiveHead) (tables : SizedTables) (packets : List PacketFacts) (said : List Verdict) (counts : HitCounts) (callers : SizedCallers) (orders : Orders)
     → IsPolicyText head.text.now (policy_facts head.filter.now.policy.now) → head.filter.now.times ≡ head.options.now.times
-    → AreAsAsked head.options.now.tables true tables → orders ≡ orders_for tables head.filter.now head.options.now.workers (cuts_four tables)
+    → AreAsAsked head.options.now.tables (ages_in head.options.now) tables → orders ≡ orders_for tables head.filter.now head.options.now.workers (cuts_four tables)
     → HaveEndedCounting orders head.options.now.hits packets said counts callers → MayTellBehind head tables packets said counts callers
 may_tell_behind head tables packets said counts callers orders says times asked given ended =
     record { says = says; times = times; asked = asked; orders = orders; given = given; ended = ended }
@@ -105,10 +105,10 @@ pub told_behind : (head : LiveHead) (tables : SizedTables) (packets : List Packe
 told_behind head tables packets said counts callers stored behind may kept is =
     let options = head.options.now in
     let ready = head.filter.now in
-    let one = by_ageing_workers options ready tables may.orders options.workers packets said may.given may.asked.four may.asked.size may.times options.few.0 (omega arith)
+    let one = by_live_workers options ready tables may.orders options.workers packets said may.given may.asked.four may.asked.size may.times options.few.0 (omega arith)
     (views_with callers, may.ended.by.said) in
     record {
-      by_ageing = one.0;
+      by_live = one.0;
       stored = stored;
       kept = λ asked. subst (λ v. AreStoredOf (layout_for options.tables) v stored) (sym one.1)
           (subst (λ s. AreStoredOf (layout_for s) (views_with callers) stored) may.asked.size (kept asked));

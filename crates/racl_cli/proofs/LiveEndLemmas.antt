@@ -18,7 +18,7 @@ use Rattle.racl_io.proofs.TellingLemmas.{front_on}
 use Rattle.racl_options.specs.declared.settings.Options.{Options}
 use Rattle.capture_stream.specs.Lives.{HasJudgedAll, HasToldSome, IsLiveFault}
 use Rattle.capture_stream.specs.Savings.{manner_of, outputs}
-use Rattle.racl_cli.specs.LiveRuns.{AreFirstVerdicts, ByAgeingWorkers, HasCutReport, HasToldBehind, IsReportBehind, IsToldBehind}
+use Rattle.racl_cli.specs.LiveRuns.{AreFirstVerdicts, ByLiveWorkers, HasCutReport, HasToldBehind, IsReportBehind, IsToldBehind}
 
 module _ {J : Type 0} {Judged : J → List PacketFacts → List Verdict → Type 0} {begun : J} (T : Type 0) (options : Options) (text : List ℕ) (wording : Wording) (policy : PolicyFacts)
     (order : Order) (before after old mid : Option (List ℕ)) (totals : Totals) (all : HasJudgedAll Judged begun order before after totals)
@@ -52,7 +52,7 @@ module _ {J : Type 0} {Judged : J → List PacketFacts → List Verdict → Type
     abbrev report : List ℕ
     report = report_in wording (packets_at 0 all.packets) all.verdicts all.truncated ++ behind
 
-    abbrev judged : HasJudgedAll (ByAgeingWorkers options) policy order before after totals
+    abbrev judged : HasJudgedAll (ByLiveWorkers options) policy order before after totals
     judged = record {
       read = all.read;
       consumed = all.consumed;
@@ -63,7 +63,7 @@ module _ {J : Type 0} {Judged : J → List PacketFacts → List Verdict → Type
       truncated = all.truncated;
       end = all.end;
       verdicts = all.verdicts;
-      judged = told.by_ageing;
+      judged = told.by_live;
       count = all.count;
       counted = all.counted;
     }

@@ -1,6 +1,6 @@
 -- A run over a capture that is told while it comes.
 use Rattle.std.proofs.KnownBytes.{Consumes-all, Consumes-trans}
-use Rattle.std.proofs.Common.{◌≡◌, ◌∙◌, ◌≤◌, ◌++◌, ℕ, List, [], Option, Result, Ok, Err, MatchResult, ap, arith, inl, inr, length, map, refl, subst, sym, drop, true}
+use Rattle.std.proofs.Common.{◌≡◌, ◌∙◌, ◌≤◌, ◌++◌, ℕ, Bool, List, [], Option, Result, Ok, Err, MatchResult, ap, arith, inl, inr, length, map, refl, subst, sym, drop, true}
 use Rattle.std.proofs.lemmas.List.{drop_all, length-map}
 use Rattle.packet_view.specs.Captures.{AreRecords, PacketFacts, end_of, packet_at, packets_at}
 use Rattle.packet_view.specs.declared.capture.Order.{Order}
@@ -15,6 +15,7 @@ use Rattle.session_state.specs.declared.verdict.Verdict.{Verdict}
 use Rattle.racl_options.specs.declared.settings.Lines.{Lines}
 use Rattle.racl_options.specs.declared.settings.Lines.TheVariants.{Explained, Json, Plain}
 use Rattle.racl_options.specs.declared.settings.Options.{Options}
+use Rattle.racl_options.specs.declared.settings.TableSize.{TableSize}
 use Rattle.session_state.specs.declared.shown_verdicts.Shown.{Shown}
 use Rattle.racl_io.specs.declared.fault.Fault.{Fault}
 use Rattle.racl_io.specs.declared.fault.Fault.TheVariants.{Write}
@@ -34,10 +35,10 @@ use Rattle.racl_report.specs.declared.saved_packets.Saves.{Saves}
 use Rattle.capture_stream.specs.Lives.{HaveFailed, IsLiveFault}
 use Rattle.capture_stream.specs.Savings.{manner_of, outputs}
 use Rattle.capture_stream.proofs.TellLemmas.{failed_since, fault_as}
-use Rattle.racl_cli.specs.Crews.{AreRestingWith, AreSaid, AreSaidSoFar, HaveSaidAfter, Orders, cuts_four, orders_for, orders_in, orders_of, size_of}
-use Rattle.racl_cli.specs.LiveRuns.{AreFirstLines, AreFirstVerdicts, ByAgeingWorkers, ByOneWorker, HasHead, HasRunLive, IsEarlyFault, IsLiveReport, IsLiveRunFault, IsOrderFor, IsReportBehind, TellsAsAsked, TellsBehind}
+use Rattle.racl_cli.specs.Crews.{AreAsAsked, AreRestingWith, AreSaid, AreSaidSoFar, HaveSaidAfter, Orders, cuts_four, orders_for, orders_in, orders_of, size_of}
+use Rattle.racl_cli.specs.LiveRuns.{AreFirstLines, AreFirstVerdicts, ByLiveWorkers, ByOneWorker, HasHead, HasRunLive, IsEarlyFault, IsLiveReport, IsLiveRunFault, IsOrderFor, IsReportBehind, TellsAsAsked, TellsBehind, ages_in}
 use Rattle.racl_cli.specs.LiveSaves.{HaveSaved}
-use Rattle.racl_cli.specs.Runs.{bucket_deal}
+use Rattle.racl_cli.specs.Runs.{ByWorkers, bucket_deal}
 use Rattle.racl_cli.specs.inner.Heads.{HasReadHeader, IsHeadless}
 use Rattle.racl_cli.specs.inner.Kept.{HaveGot}
 use Rattle.racl_cli.specs.declared.live_saves.LiveSaves.{LiveSaves}
@@ -74,16 +75,27 @@ said_so_far {T} orders packets more said verdicts old new after same rest count 
       one = λ one. judged one after.rest;
     })
 
--- what workers said over tables that cut blocks, and what they knew then
-pub by_ageing_workers : (options : Options) (ready : InterfaceFilters) (tables : SizedTables) (orders : Orders) (workers : ℕ) (packets : List PacketFacts)
-    (verdicts : List Verdict) → orders ≡ orders_for tables ready workers (cuts_four tables) → cuts_four tables ≡ true → size_of tables ≡ options.tables
+-- tables that cut blocks as one of two equal answers says
+pub as_asked : {size : TableSize} {tables : SizedTables} {cuts ages : Bool} → AreAsAsked size cuts tables → cuts ≡ ages → AreAsAsked size ages tables
+as_asked {size} {tables} asked same = subst (λ (b : Bool). AreAsAsked size b tables) same asked
+
+-- what workers said over tables that cut blocks, or don't, and what they knew then
+by_some_workers : (options : Options) (ready : InterfaceFilters) (tables : SizedTables) (orders : Orders) (workers : ℕ) (ages : Bool) (packets : List PacketFacts)
+    (verdicts : List Verdict) → orders ≡ orders_for tables ready workers (cuts_four tables) → cuts_four tables ≡ ages → size_of tables ≡ options.tables
     → ready.times ≡ options.times → 1 ≤ workers → workers ≤ options.workers → (said : AreSaid orders packets verdicts)
-    → (by : ByAgeingWorkers options (policy_facts ready.policy.now) packets verdicts) × (by.by_workers.views ≡ said.0) × (by.by_workers.workers ≡ workers)
-by_ageing_workers options ready tables orders workers packets verdicts given cut sized same some few said =
-    let policy = policy_facts ready.policy.now in
-    let judged = judged_as packets verdicts said.0 orders tables options.tables ready workers true (given ∙ ap (orders_for tables ready workers) cut) sized said.1 in
-    let by = given_by_workers options ready.times true policy packets verdicts said.0 workers same some few judged in
-    (record { by_workers = by.0; by_one_thread = by_one options true policy packets verdicts by.0 }, by.1, by.2)
+    → (by : ByWorkers options ages (policy_facts ready.policy.now) packets verdicts) × (by.views ≡ said.0) × (by.workers ≡ workers)
+by_some_workers options ready tables orders workers ages packets verdicts given cut sized same some few said =
+    let judged = judged_as packets verdicts said.0 orders tables options.tables ready workers ages (given ∙ ap (orders_for tables ready workers) cut) sized said.1 in
+    given_by_workers options ready.times ages (policy_facts ready.policy.now) packets verdicts said.0 workers same some few judged
+
+-- over those of a run that writes early
+pub by_live_workers : (options : Options) (ready : InterfaceFilters) (tables : SizedTables) (orders : Orders) (workers : ℕ) (packets : List PacketFacts)
+    (verdicts : List Verdict) → orders ≡ orders_for tables ready workers (cuts_four tables) → cuts_four tables ≡ ages_in options → size_of tables ≡ options.tables
+    → ready.times ≡ options.times → 1 ≤ workers → workers ≤ options.workers → (said : AreSaid orders packets verdicts)
+    → (by : ByLiveWorkers options (policy_facts ready.policy.now) packets verdicts) × (by.by_workers.views ≡ said.0) × (by.by_workers.workers ≡ workers)
+by_live_workers options ready tables orders workers packets verdicts given cut sized same some few said =
+    let by = by_some_workers options ready tables orders workers (ages_in options) packets verdicts given cut sized same some few said in
+    (record { by_workers = by.0; by_one_thread = by_one options (ages_in options) (policy_facts ready.policy.now) packets verdicts by.0 }, by.1, by.2)
 
 -- and one worker
 pub by_one_worker : {T : Type 0} (options : Options) (ready : InterfaceFilters) (tables : SizedTables) (orders : Orders) (packets : List PacketFacts)
@@ -91,12 +103,12 @@ pub by_one_worker : {T : Type 0} (options : Options) (ready : InterfaceFilters) 
     → ready.times ≡ options.times → 1 ≤ options.workers → AreSaidSoFar T orders packets verdicts
     → ByOneWorker options (policy_facts ready.policy.now) packets verdicts
 by_one_worker options ready tables orders packets verdicts given cut sized same some said =
-    let by = by_ageing_workers options ready tables orders 1 packets verdicts given cut sized same (omega arith) some (said.one (ap (λ (o : Orders). o.deal.workers) given)) in
-    record { by_workers = by.0.by_workers; one = by.2; by_one_thread = by.0.by_one_thread }
+    let by = by_some_workers options ready tables orders 1 true packets verdicts given cut sized same (omega arith) some (said.one (ap (λ (o : Orders). o.deal.workers) given)) in
+    record { by_workers = by.0; one = by.2; by_one_thread = by_one options true (policy_facts ready.policy.now) packets verdicts by.0 }
 
 -- what workers said of the first packets
 pub first_verdicts : {T : Type 0} (options : Options) (ready : InterfaceFilters) (tables : SizedTables) (orders : Orders) (packets : List PacketFacts)
-    (verdicts : List Verdict) → orders ≡ orders_for tables ready options.workers (cuts_four tables) → cuts_four tables ≡ true → size_of tables ≡ options.tables
+    (verdicts : List Verdict) → orders ≡ orders_for tables ready options.workers (cuts_four tables) → cuts_four tables ≡ ages_in options → size_of tables ≡ options.tables
     → ready.times ≡ options.times → 1 ≤ options.workers → AreSaidSoFar T orders packets verdicts
     → AreFirstVerdicts T options (policy_facts ready.policy.now) packets verdicts
 first_verdicts options ready tables orders packets verdicts given cut sized same some said = record {
@@ -109,7 +121,7 @@ first_verdicts options ready tables orders packets verdicts given cut sized same
   });
   rest = said.after.rest;
   count = said.count;
-  one = λ one. (by_ageing_workers options ready tables orders options.workers packets verdicts given cut sized same some (omega arith)
+  one = λ one. (by_live_workers options ready tables orders options.workers packets verdicts given cut sized same some (omega arith)
       (said.one (ap (λ (o : Orders). o.deal.workers) given ∙ one))).0;
 }
 
@@ -199,7 +211,7 @@ live_report options text before left after policy order wording totals report sa
         refl,
       );
       verdicts = judged.verdicts;
-      by_ageing = is.told.by_ageing;
+      by_live = is.told.by_live;
       stored = is.told.stored;
       kept = is.told.kept;
       told = record {

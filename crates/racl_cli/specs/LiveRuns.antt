@@ -1,5 +1,5 @@
 -- A run over a capture that is told while it comes: its policy is text of its own, and sessions that have ended are removed.
-use Rattle.std.specs.Prelude.{◌≡◌, ◌≢◌, ◌<◌, ◌⊎◌, ◌++◌, ℕ, Bool, true, List, ◌∷◌, [], None, Option, IfSome, MatchResult, Result, length}
+use Rattle.std.specs.Prelude.{◌≡◌, ◌≢◌, ◌<◌, ◌⊎◌, ◌||◌, ◌++◌, ℕ, Bool, true, List, ◌∷◌, [], None, Option, IfSome, MatchResult, Result, length}
 use Rattle.std.specs.Io.KnownBytes.{Appends, Consumes, IsAtEnd}
 use Rattle.packet_view.specs.Captures.{HasFileHeader, IsCaptureAt, IsHeaderFault, PacketFacts, end_of, packets_at}
 use Rattle.packet_view.specs.declared.capture.CaptureFault.{CaptureFault}
@@ -35,17 +35,22 @@ use Rattle.racl_report.specs.ReadInputs.{told_of}
 use Rattle.racl_report.specs.RunReports.{AreLines, IsReportOn, sessions_behind, told_facts, view_behind}
 use Rattle.racl_report.specs.declared.saved_packets.Saves.{Saves}
 
--- Workers that age gave these verdicts, no more of them than the words ask for. They are those of the one-thread filter, which
--- forgets nothing, where none of them says no-pages, and ageing is in time.
-pub record ByAgeingWorkers (options : Options) (policy : PolicyFacts) (packets : List PacketFacts) (verdicts : List Verdict) : Type 0 where
-  pub by_workers : ByWorkers options true policy packets verdicts
+-- whether sessions that have ended are removed: in a live run, which may never end, and where that is asked for
+abbrev pub ages_in : Options → Bool
+ages_in options = options.live || options.ages
+
+-- Workers gave these verdicts, who age where sessions are removed, and no more of them than the words ask for. They are those of
+-- the one-thread filter, which forgets nothing, where none of them says no-pages, and ageing is in time.
+pub record ByLiveWorkers (options : Options) (policy : PolicyFacts) (packets : List PacketFacts) (verdicts : List Verdict) : Type 0 where
+  pub by_workers : ByWorkers options (ages_in options) policy packets verdicts
   pub by_one_thread : HavePages verdicts → AgeInTime by_workers → ByOneThread options.tables options.times policy packets verdicts
 
--- as many workers as the words ask for judge so: over tables of the size, with the timeouts, and by this policy; and they age
+-- as many workers as the words ask for judge so: over tables of the size, with the timeouts, and by this policy; and they age where
+-- sessions are removed
 pub record IsOrderFor (options : Options) (policy : PolicyFacts) (orders : Orders) : Type 0 where
   pub deal : orders.deal ≡ bucket_deal options.tables options.workers
   pub times : orders.times ≡ options.times
-  pub ages : orders.ages ≡ true
+  pub ages : orders.ages ≡ ages_in options
   pub policy_is : orders.policy ≡ policy
 
 -- What such workers handed over, as many as the words ask for, who go on: a verdict on each of these packets. Of one worker these
@@ -55,9 +60,9 @@ pub record AreFirstVerdicts (T : Type 0) (options : Options) (policy : PolicyFac
   pub by : IsOrderFor options policy (orders_of workers)
   pub rest : AreRestingWith packets verdicts workers
   pub count : length verdicts ≡ length packets
-  pub one : options.workers ≡ 1 → ByAgeingWorkers options policy packets verdicts
+  pub one : options.workers ≡ 1 → ByLiveWorkers options policy packets verdicts
 
--- so did one worker
+-- one worker who ages gave these verdicts
 pub record ByOneWorker (options : Options) (policy : PolicyFacts) (packets : List PacketFacts) (verdicts : List Verdict) : Type 0 where
   pub by_workers : ByWorkers options true policy packets verdicts
   pub one : by_workers.workers ≡ 1
@@ -87,9 +92,9 @@ TellsAsAsked options text policy wording =
 
 -- what stands behind the totals of packets with these verdicts: hits, and the sessions that stood in the tables then
 pub record IsToldBehind (options : Options) (text : List ℕ) (policy : PolicyFacts) (packets : List PacketFacts) (verdicts : List Verdict) (behind : List ℕ) : Type 0 where
-  pub by_ageing : ByAgeingWorkers options policy packets verdicts
+  pub by_live : ByLiveWorkers options policy packets verdicts
   pub stored : StoredFacts
-  pub kept : keeps_stored options ≡ true → AreStoredOf (layout_for options.tables) by_ageing.by_workers.views stored
+  pub kept : keeps_stored options ≡ true → AreStoredOf (layout_for options.tables) by_live.by_workers.views stored
   pub hits : List ℕ
   pub told : (captures : List Captured)
       → AreHits options.hits (view_behind options.lines) options.times (told_facts policy text packets (record { verdicts = verdicts; captures = captures }) options.shown) stored hits
@@ -98,7 +103,7 @@ pub record IsToldBehind (options : Options) (text : List ℕ) (policy : PolicyFa
 -- all of a capture behind its header was judged, and this is the report on it
 pub record IsReportBehind (options : Options) (text : List ℕ) (wording : Wording) (policy : PolicyFacts) (order : Order) (before after : Option (List ℕ))
     (totals : Totals) (report : List ℕ) : Type 0 where
-  pub judged : HasJudgedAll (ByAgeingWorkers options) policy order before after totals
+  pub judged : HasJudgedAll (ByLiveWorkers options) policy order before after totals
   pub behind : List ℕ
   pub told : IsToldBehind options text policy (packets_at 0 judged.packets) judged.verdicts behind
   pub all : report ≡ report_in wording (packets_at 0 judged.packets) judged.verdicts judged.truncated ++ behind
@@ -140,9 +145,9 @@ pub record IsLiveReport (options : Options) (text : List ℕ) (given : Option (L
   pub truncated : Bool
   pub records : IsCaptureAt 0 bytes packets (end_of truncated)
   pub verdicts : List Verdict
-  pub by_ageing : ByAgeingWorkers options policy packets verdicts
+  pub by_live : ByLiveWorkers options policy packets verdicts
   pub stored : StoredFacts
-  pub kept : keeps_stored options ≡ true → AreStoredOf (layout_for options.tables) by_ageing.by_workers.views stored
+  pub kept : keeps_stored options ≡ true → AreStoredOf (layout_for options.tables) by_live.by_workers.views stored
   pub told : IsReportOn options text policy packets
       (record { outcome = record { verdicts = verdicts; captures = told_of None packets truncated ∷ [] }; stored = stored }) report
   pub counted : totals ≡ totals_of verdicts (told_of None packets truncated ∷ [])

@@ -7,7 +7,7 @@ ghost use Rattle.racl_io.specs.Tellings.{HasToldText, Wording};
 ghost use Rattle.capture_stream.specs.Lives.{HaveFailed, with_read};
 ghost use Rattle.capture_stream.specs.Savings.{Outputs, manner_of, outputs};
 ghost use Rattle.racl_report.specs.declared.saved_packets.Saves.{Saves};
-ghost use Rattle.racl_cli.specs.LiveRuns.{HasRunLive, IsLiveRunFault, IsToldBehind, TellsAsAsked, TellsBehind};
+ghost use Rattle.racl_cli.specs.LiveRuns.{HasRunLive, IsLiveRunFault, IsToldBehind, TellsAsAsked, TellsBehind, ages_in};
 ghost use Rattle.racl_cli.specs.LiveSaves.{failures_in};
 ghost use Rattle.racl_cli.specs.inner.LiveEnds.{MayTellBehind};
 
@@ -85,8 +85,15 @@ fn tell_end_behind<L: Teller, W: Sink>(
     }
 }
 
+// Whether sessions that have ended are removed while packets come: in a live run, as it may never end, and where that is asked for.
+fn ages_early(options: &Options) -> bool
+    ensures { result ≡ ages_in options.now }
+{
+    options.live || options.ages
+}
+
 // In a live run workers judge the packets of the capture behind its header, and they are told and saved, while they come. The
-// tables cut blocks, and sessions that have ended are removed, as the run may never end.
+// tables cut blocks where sessions that have ended are removed.
 fn tell_capture<L: Teller, K: Saver, R: Source, W: Sink, T: Threads + Wait + Sync>(
     rt: &T,
     head: LiveHead<'_, '_>,
@@ -105,7 +112,8 @@ fn tell_capture<L: Teller, K: Saver, R: Source, W: Sink, T: Threads + Wait + Syn
         (λ fault. HaveFailed (W.failures writer.old) (W.failures writer.new) (K.failures saver.old) (K.failures saver.new) fault) }
 {
     let alloc = head.alloc;
-    let Ok((tables, callers)) = create_sized(alloc, head.options.tables, true) else {
+    let ages = ages_early(head.options);
+    let Ok((tables, callers)) = create_sized(alloc, head.options.tables, ages) else {
         return Err(Fault::Memory);
     };
     let manner = Manner {

@@ -30,7 +30,7 @@ pub use input_files::{Parts, opened_input};
 pub use live_files::{LiveFiles, live_policy_text, opened_live};
 pub use named_reader::Reader;
 pub use output::Output;
-pub use progress::{Progress, Watched};
+pub use progress::{Progress, Watched, watched_where};
 pub use save_file::{SaveFile, saves_to, say_unsaved, settled};
 pub use saved_names::say_used_twice;
 pub use say_and_answer_status::failure_status;

@@ -1,5 +1,5 @@
 //! How much of a long input was read, on a terminal.
-ghost use Rattle.std.specs.Prelude.{◌≡◌};
+ghost use Rattle.std.specs.Prelude.{◌≡◌, None};
 
 use racl_io::{DeviceFault, Source};
 use std::io::IsTerminal;
@@ -36,6 +36,18 @@ impl<'a> Progress<'a> {
             rt,
             bytes: 0,
             due,
+            is_shown: false,
+        }
+    }
+
+    /// Nothing was read, and no line is ever written.
+    pub fn silent(rt: &'a HostRuntime) -> Progress<'a>
+        ensures { result.due ≡ None }
+    {
+        Progress {
+            rt,
+            bytes: 0,
+            due: None,
             is_shown: false,
         }
     }
@@ -87,6 +99,18 @@ impl<'a, S> Watched<'a, S> {
             progress: Progress::new(rt),
         }
     }
+}
+
+/// A source of which nothing was read, whose progress is shown on a terminal where that is asked and no report is written there.
+pub fn watched_where<'a, S>(rt: &'a HostRuntime, is_asked: bool, source: S) -> Watched<'a, S>
+    ensures { result.source ≡ source }
+{
+    let progress = if is_asked && !rt.stdout().is_terminal() {
+        Progress::new(rt)
+    } else {
+        Progress::silent(rt)
+    };
+    Watched { source, progress }
 }
 
 impl<S: Source> Source for Watched<'_, S> {

@@ -7,7 +7,7 @@ use Rattle.racl_cli.specs.Crews.{Orders, orders_of}
 use Rattle.racl_cli.specs.LiveRuns.{AreFirstVerdicts}
 use Rattle.racl_cli.proofs.CountedLemmas.{may_tell_behind}
 use Rattle.racl_cli.proofs.LiveEndLemmas.{end_fault, end_told, end_unwritten}
-use Rattle.racl_cli.proofs.LiveLemmas.{first_verdicts}
+use Rattle.racl_cli.proofs.LiveLemmas.{as_asked, first_verdicts}
 use Rattle.racl_cli.proofs.live_run.tell_capture.Goals as goal
 
 pub returns-in_default-clause-told : goal.returns-in_default-clause-told
@@ -41,7 +41,7 @@ returns-in-Err-clause-told g c =
     let ready = c.args.head.filter.now in
     let tells = first_verdicts options ready _ (orders_of c.in-Ok-new.workers) in
     inl (fault_as _ (AreFirstVerdicts _ options) (g.L.Teller.wording c.args.teller.now) g.K.Saver.saved g.K.Saver.saved _ (policy_facts ready.policy.now)
-    (λ packets verdicts judged. (tells packets verdicts c.in-Ok-new.ensures.given c.in-Ok.ensures.asked.four c.in-Ok.ensures.asked.size c.requires.sound.0 options.few.0 judged))
+    (λ packets verdicts judged. (tells packets verdicts c.in-Ok-new.ensures.given (as_asked c.in-Ok.ensures.asked c.ages_early-ages.ensures).four (as_asked c.in-Ok.ensures.asked c.ages_early-ages.ensures).size c.requires.sound.0 options.few.0 judged))
     _ _ _ _ _ _ _ _ _ (λ whole verdicts saved. saved) c.in-Err.fault c.in-Err.ensures.told)
 
 pub end-requires : goal.end-requires
@@ -55,7 +55,7 @@ told_behind_live-requires g c =
     let ended = c.in-Ok-end.ensures _ _ (packets_at 0 all.all.packets) all.all.verdicts all.stand.1 in (
       packets_at 0 all.all.packets,
       all.all.verdicts,
-      may_tell_behind c.args.head _ _ _ _ _ (orders_of c.in-Ok-new.workers) c.requires.says c.requires.sound.0 c.in-Ok.ensures.asked c.in-Ok-new.ensures.given ended,
+      may_tell_behind c.args.head _ _ _ _ _ (orders_of c.in-Ok-new.workers) c.requires.says c.requires.sound.0 (as_asked c.in-Ok.ensures.asked c.ages_early-ages.ensures) c.in-Ok-new.ensures.given ended,
     )
 
 pub returns-in_default-end-clause-told : goal.returns-in_default-end-clause-told
@@ -64,7 +64,7 @@ returns-in_default-end-clause-told g c =
     let ready = c.args.head.filter.now in
     let all = c.in-Ok-tell_live.ensures.told in
     let first = first_verdicts options ready _ (orders_of c.in-Ok-new.workers) (packets_at 0 all.all.packets) all.all.verdicts c.in-Ok-new.ensures.given
-    c.in-Ok.ensures.asked.four c.in-Ok.ensures.asked.size c.requires.sound.0 options.few.0 all.all.judged in
+    (as_asked c.in-Ok.ensures.asked c.ages_early-ages.ensures).four (as_asked c.in-Ok.ensures.asked c.ages_early-ages.ensures).size c.requires.sound.0 options.few.0 all.all.judged in
     inl (end_unwritten _ options c.args.head.text.now (g.L.Teller.wording c.args.teller.now) (policy_facts ready.policy.now) c.args.head.order _ _ _ _
     c.in-Ok-tell_live.told.totals all.all first all.text g.K.Saver.saved _ _ all.whole all.spelt all.saved)
 
@@ -74,7 +74,7 @@ returns-in_default-told_behind_live-clause-told g c =
     let ready = c.args.head.filter.now in
     let all = c.in-Ok-tell_live.ensures.told in
     let first = first_verdicts options ready _ (orders_of c.in-Ok-new.workers) (packets_at 0 all.all.packets) all.all.verdicts c.in-Ok-new.ensures.given
-    c.in-Ok.ensures.asked.four c.in-Ok.ensures.asked.size c.requires.sound.0 options.few.0 all.all.judged in
+    (as_asked c.in-Ok.ensures.asked c.ages_early-ages.ensures).four (as_asked c.in-Ok.ensures.asked c.ages_early-ages.ensures).size c.requires.sound.0 options.few.0 all.all.judged in
     inl (end_unwritten _ options c.args.head.text.now (g.L.Teller.wording c.args.teller.now) (policy_facts ready.policy.now) c.args.head.order _ _ _ _
     c.in-Ok-tell_live.told.totals all.all first all.text g.K.Saver.saved _ _ all.whole all.spelt all.saved)
 
@@ -83,11 +83,11 @@ returns-in-Ok-tell_end_behind-clause-told g c =
     let all = c.in-Ok-tell_live.ensures.told in
     let ended = c.in-Ok-end.ensures _ _ (packets_at 0 all.all.packets) all.all.verdicts all.stand.1 in
     let told = c.in-Ok-told_behind_live.ensures (packets_at 0 all.all.packets) all.all.verdicts
-    (may_tell_behind c.args.head _ _ _ _ _ (orders_of c.in-Ok-new.workers) c.requires.says c.requires.sound.0 c.in-Ok.ensures.asked c.in-Ok-new.ensures.given ended) in
+    (may_tell_behind c.args.head _ _ _ _ _ (orders_of c.in-Ok-new.workers) c.requires.says c.requires.sound.0 (as_asked c.in-Ok.ensures.asked c.ages_early-ages.ensures) c.in-Ok-new.ensures.given ended) in
     let options = c.args.head.options.now in
     let ready = c.args.head.filter.now in
     let first = first_verdicts options ready _ (orders_of c.in-Ok-new.workers) (packets_at 0 all.all.packets) all.all.verdicts c.in-Ok-new.ensures.given
-    c.in-Ok.ensures.asked.four c.in-Ok.ensures.asked.size c.requires.sound.0 options.few.0 all.all.judged in
+    (as_asked c.in-Ok.ensures.asked c.ages_early-ages.ensures).four (as_asked c.in-Ok.ensures.asked c.ages_early-ages.ensures).size c.requires.sound.0 options.few.0 all.all.judged in
     end_told _ c.args.head.options.now c.args.head.text.now (g.L.Teller.wording c.args.teller.now) (policy_facts c.args.head.filter.now.policy.now) c.args.head.order _ _ _ _
     c.in-Ok-tell_live.told.totals all.all first all.text g.K.Saver.saved _ _ all.whole all.spelt all.saved _ told _ (g.L.Teller.wording c.tell_live.new.teller) c.in-Ok-tell_live.ensures.same
     c.in-Ok-tell_end_behind.ensures.0
@@ -97,11 +97,11 @@ returns-clause-told g c =
     let all = c.in-Ok-tell_live.ensures.told in
     let ended = c.in-Ok-end.ensures _ _ (packets_at 0 all.all.packets) all.all.verdicts all.stand.1 in
     let told = c.in-Ok-told_behind_live.ensures (packets_at 0 all.all.packets) all.all.verdicts
-    (may_tell_behind c.args.head _ _ _ _ _ (orders_of c.in-Ok-new.workers) c.requires.says c.requires.sound.0 c.in-Ok.ensures.asked c.in-Ok-new.ensures.given ended) in
+    (may_tell_behind c.args.head _ _ _ _ _ (orders_of c.in-Ok-new.workers) c.requires.says c.requires.sound.0 (as_asked c.in-Ok.ensures.asked c.ages_early-ages.ensures) c.in-Ok-new.ensures.given ended) in
     let options = c.args.head.options.now in
     let ready = c.args.head.filter.now in
     let first = first_verdicts options ready _ (orders_of c.in-Ok-new.workers) (packets_at 0 all.all.packets) all.all.verdicts c.in-Ok-new.ensures.given
-    c.in-Ok.ensures.asked.four c.in-Ok.ensures.asked.size c.requires.sound.0 options.few.0 all.all.judged in
+    (as_asked c.in-Ok.ensures.asked c.ages_early-ages.ensures).four (as_asked c.in-Ok.ensures.asked c.ages_early-ages.ensures).size c.requires.sound.0 options.few.0 all.all.judged in
     end_fault _ c.args.head.options.now c.args.head.text.now (g.L.Teller.wording c.args.teller.now) (policy_facts c.args.head.filter.now.policy.now) c.args.head.order _ _ _ _
     c.in-Ok-tell_live.told.totals all.all first all.text g.K.Saver.saved _ _ all.whole all.spelt all.saved _ told _ c.in-Err-tell_end_behind.fault (g.L.Teller.wording c.tell_live.new.teller)
     c.in-Ok-tell_live.ensures.same c.in-Err-tell_end_behind.ensures.0
