@@ -1,21 +1,18 @@
 -- The first plain rule that matches is of the first written line that does.
-use Rattle.std.proofs.Common.{◌≡◌, ◌<◌, ◌+◌, ℕ, zero, suc, List, [], ◌∷◌, ◌++◌, map, Option, Some, None, refl, sym, ap, ◌∙◌, subst, ◌⊎◌, inl, inr, arith}
-use Rattle.std.specs.Prelude.{slice_get}
+use Rattle.std.proofs.Common.{◌≡◌, ℕ, zero, suc, List, [], ◌∷◌, ◌++◌, map, Some, None, refl, sym, ap, ◌∙◌, subst, ◌⊎◌, inl, inr, arith}
 use Rattle.std.specs.List.{filter_map}
-use Rattle.std.proofs.lemmas.List.{map-append}
 use Rattle.packet_view.specs.Tuples.{TupleFacts}
 use Rattle.packet_view.specs.declared.tuple.Direction.{Direction}
 use Rattle.packet_view.specs.declared.tuple.Direction.TheVariants.{Inbound, Outbound}
-use Rattle.packet_view.specs.declared.tuple.Mac.{Mac}
 use Rattle.acl_policy.specs.declared.rule.Action.{Action}
-use Rattle.acl_policy.specs.Lines.{Begins, Blank, IsLine, IsRule, LineFacts, Own, Ruled}
+use Rattle.acl_policy.specs.Lines.{Begins, Blank, IsLine, LineFacts, Own, Ruled}
 use Rattle.acl_policy.specs.Matching.{Decides, DecidesByDefault, Matches}
 use Rattle.acl_policy.specs.Policies.{AreLines, AreLinesOf, SectionFacts, rule_in, rules_of}
 use Rattle.acl_policy.specs.Rules.{RuleFacts}
 use Rattle.acl_policy.proofs.SectionLaws.{one_reading}
 use Rattle.policy_words.specs.Words.{without_comment, words_of}
 use Rattle.policy_expand.specs.FirstMatch.{AreAlike, DecidesFirst, HaveWords, joined}
-use Rattle.policy_expand.specs.Meaning.{IsOneOf, MatchAlike, MatchesLine, MatchesPlain}
+use Rattle.policy_expand.specs.Meaning.{IsOneOf, MatchesPlain}
 use Rattle.policy_expand.specs.Written.{LineWritten, word_text}
 use Rattle.policy_expand.specs.declared.visible_word.Word.{Word}
 

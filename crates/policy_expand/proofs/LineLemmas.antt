@@ -1,11 +1,8 @@
 -- The plain lines of a written one match as it does.
-use Rattle.std.proofs.Common.{◌≡◌, ℕ, List, [], ◌∷◌, map, refl, sym, subst, ap, ◌∙◌, codes, inl, inr}
-use Rattle.packet_view.specs.Tuples.{TupleFacts}
-use Rattle.packet_view.specs.declared.tuple.Direction.{Direction}
-use Rattle.acl_policy.specs.declared.rule.Action.{Action}
-use Rattle.policy_expand.specs.Meaning.{IsOneOf, MatchAlike, MatchesPlain}
+use Rattle.std.proofs.Common.{◌≡◌, List, [], ◌∷◌, map, refl, sym, subst, ap, ◌∙◌, codes, inl, inr}
+use Rattle.policy_expand.specs.Meaning.{MatchAlike, MatchesPlain}
 use Rattle.acl_policy.specs.Lines.{Begins, Say}
-use Rattle.policy_expand.specs.Sections.{BeginAlike, BeginsSection}
+use Rattle.policy_expand.specs.Sections.{BeginAlike}
 use Rattle.policy_expand.specs.Written.{LineWritten, Nothing, Plain, Rule, word_text}
 use Rattle.policy_expand.specs.WrittenLines.{IsReadAs}
 use Rattle.policy_expand.specs.inner.Rows.{line_rows}

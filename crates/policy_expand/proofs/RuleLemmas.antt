@@ -1,6 +1,5 @@
 -- The rows of a written rule match as the rule does.
-use Rattle.std.proofs.Common.{arith, get_or, ◌≡◌, ◌≢◌, ℕ, List, [], ◌∷◌, ◌++◌, map, refl, sym, ap, ◌∙◌, subst, ◌⊎◌, inl, inr, Bool, true, false, not, codes, Some, fold}
-use Rattle.std.specs.Prelude.{is_none, is_some, ◌&&◌}
+use Rattle.std.proofs.Common.{arith, get_or, ◌≡◌, ℕ, List, [], ◌∷◌, map, refl, sym, ap, ◌∙◌, subst, inl, inr, true, not, codes, Some}
 use Rattle.packet_view.specs.Tuples.{TupleFacts}
 use Rattle.packet_view.specs.declared.tuple.Direction.{Direction}
 use Rattle.packet_view.specs.declared.tuple.Family.{Family}
@@ -8,15 +7,15 @@ use Rattle.packet_view.specs.declared.tuple.Family.TheVariants.{V4, V6}
 use Rattle.packet_view.specs.declared.tuple.Fields.{Fields}
 use Rattle.packet_view.specs.declared.tuple.Fields.TheVariants.{Absent, Ports, Tcp, Icmp}
 use Rattle.acl_policy.specs.declared.rule.Action.{Action}
-use Rattle.acl_policy.specs.Lines.{IsRule, action_word, direction_word, family_word, traffic_of}
-use Rattle.acl_policy.specs.Matching.{HasFields, HoldsPrefix, HoldsProtocol, Matches}
+use Rattle.acl_policy.specs.Lines.{action_word, direction_word, family_word, traffic_of}
+use Rattle.acl_policy.specs.Matching.{HasFields, HoldsProtocol}
 use Rattle.acl_policy.specs.Rules.{RuleFacts}
 use Rattle.policy_words.specs.Prefixes.{IsPrefix}
 use Rattle.policy_words.specs.Traffic.{IsTraffic}
 use Rattle.policy_words.specs.inner.Reading.Prefixes.{prefix_in}
 use Rattle.policy_words.proofs.PrefixLaws.{prefix_in-complete}
-use Rattle.policy_expand.specs.Families.{is_of_other, kept, other_family}
-use Rattle.policy_expand.specs.Meaning.{AreChosen, HoldsOne, HoldsTraffic, IsOneOf, MatchAlike, MatchesPlain, MatchesWritten}
+use Rattle.policy_expand.specs.Families.{is_of_other, kept}
+use Rattle.policy_expand.specs.Meaning.{AreChosen, IsOneOf, MatchAlike, MatchesPlain, MatchesWritten}
 use Rattle.policy_expand.specs.Written.{AreFamilies, Rule, RuleWritten, word_text}
 use Rattle.policy_expand.specs.inner.Rows.{family_rows, rule_rows, rows_by_family}
 use Rattle.policy_expand.specs.declared.visible_word.Word.{Word}

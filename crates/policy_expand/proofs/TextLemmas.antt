@@ -1,20 +1,19 @@
 -- The lines of a text that spells rows have these words.
-use Rattle.std.proofs.Common.{◌≡◌, ◌≢◌, ◌<◌, ◌-◌, ℕ, suc, List, [], ◌∷◌, ◌++◌, length, map, get_or, take, Bool, true, false, not, IsTrue, refl, sym, ap, ◌∙◌, subst, arith, inl, inr}
+use Rattle.std.proofs.Common.{◌≡◌, ◌≢◌, ◌<◌, ◌-◌, ℕ, suc, List, [], ◌∷◌, ◌++◌, length, map, get_or, take, Bool, true, false, not, refl, sym, ap, ◌∙◌, subst, arith, inl, inr}
 use Rattle.std.specs.Prelude.{◌&&◌, ◌==◌, filter, nat_lt}
 use Rattle.std.specs.Fmt.{decimal}
-use Rattle.std.specs.List.{All, before_first, flat_map, list_all, position_or_len, onto_first, slice_split}
+use Rattle.std.specs.List.{All, before_first, list_all, position_or_len, onto_first, slice_split}
 use Rattle.std.specs.Str.Lines.{lines, lines_of_parts, strip_carriage_return}
-use Rattle.std.proofs.lemmas.Bool.{cases_Bool, cases_lt, eqb-true, lt-ltb, ltb-true, ne_eqb, not-true}
+use Rattle.std.proofs.lemmas.Bool.{cases_Bool, cases_lt, lt-ltb, ltb-true, ne_eqb, not-true}
 use Rattle.std.proofs.lemmas.List.{append_assoc, get_or_past, map-append}
-use Rattle.std.proofs.lemmas.List.Concat.{flat_map-append}
-use Rattle.std.proofs.lemmas.List.Splits.{slice_split_at, slice_split_none, slice_split-cons_no, slice_split-cons_yes}
+use Rattle.std.proofs.lemmas.List.Splits.{slice_split_at, slice_split-cons_no, slice_split-cons_yes}
 use Rattle.std.proofs.lemmas.List.Sums.{AllPass-from_list_all}
 use Rattle.policy_words.specs.Words.{is_blank, is_hash, is_word, without_comment, words_of}
-use Rattle.policy_expand.specs.Expansions.{AreExpanded, IsLineExpanded}
+use Rattle.policy_expand.specs.Expansions.{AreExpanded}
 use Rattle.policy_expand.specs.FirstMatch.{AreAlike, HaveWords, joined}
 use Rattle.policy_expand.specs.Sources.{SourceFacts}
 use Rattle.policy_expand.specs.Texts.{ended, is_printable, place_mark, plain_text, shown, spelt}
-use Rattle.policy_expand.specs.Visible.{is_ink, is_visible_word}
+use Rattle.policy_expand.specs.Visible.{is_ink}
 use Rattle.policy_expand.specs.Written.{LineWritten, word_text}
 use Rattle.policy_expand.specs.declared.named_set.NamedSet.{NamedSet}
 use Rattle.policy_expand.specs.declared.visible_word.Word.{Word}

@@ -1,5 +1,5 @@
 -- What a line of a written policy says behind the sets before it (this project's profile).
-use Rattle.std.specs.Prelude.{◌≡◌, ◌≢◌, ◌≤◌, ◌<◌, ◌⊎◌, List, [], ◌∷◌, ◌++◌, codes, length, map, None}
+use Rattle.std.specs.Prelude.{◌≡◌, ◌≢◌, ◌<◌, ◌⊎◌, List, [], ◌∷◌, ◌++◌, codes, length, map, None}
 use Rattle.policy_expand.specs.Lists.{AreListsOf, IsListOf, IsUnionOf, find_set}
 use Rattle.policy_expand.specs.Written.{AreFamilies, LineWritten, Nothing, Plain, Rule, RuleWritten, list_words, word_text}
 use Rattle.policy_expand.specs.declared.named_set.NamedSet.{NamedSet}

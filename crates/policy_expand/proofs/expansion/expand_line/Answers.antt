@@ -1,4 +1,4 @@
-use Rattle.std.proofs.Common.{◌≡◌, ◌++◌, ◌∙◌, List, ℕ, ap, ap₂, map, refl, subst}
+use Rattle.std.proofs.Common.{◌++◌, ◌∙◌, List, ℕ, ap, ap₂, map, refl, subst}
 use Rattle.policy_expand.specs.Meaning.{MatchAlike}
 use Rattle.policy_expand.specs.Sections.{BeginAlike}
 use Rattle.policy_expand.specs.Sources.{source_facts}
