@@ -3,12 +3,15 @@ import os
 
 from support.cases import TOP, Case, each, wanted
 
-# What is written, and the plain lines that it stands for, each behind the number of the line in which it was written.
+# What is written, and the plain lines that it stands for, each behind the number of the line in which it was written and before that
+# line's own comment.
 RIGHT = [
     ("no line", "", []),
     ("a comment and a line without words", "# nothing\n\n \t\n", []),
     ("a plain policy", "mac 02:00:00:00:00:01 # own\nin  permit\tipv4 any 10.0.0.1\ninterface 2\nout deny ipv6 any any icmp type 8\r\n",
-     [(1, "mac 02:00:00:00:00:01"), (2, "in permit ipv4 any 10.0.0.1"), (3, "interface 2"), (4, "out deny ipv6 any any icmp type 8")]),
+     [(1, "mac 02:00:00:00:00:01", "# own"), (2, "in permit ipv4 any 10.0.0.1"), (3, "interface 2"), (4, "out deny ipv6 any any icmp type 8")]),
+    ("a comment of its own, of other bytes too", "in deny ip any any\t#name: ü \n",
+     [(1, "in deny ipv4 any any", "#name: ?? "), (1, "in deny ipv6 any any", "#name: ?? ")]),
     ("lists of addresses, the sources changing last", "in deny ipv4 10.0.0.1,10.0.0.2 192.0.2.1,any tcp\n",
      [(1, "in deny ipv4 10.0.0.1 192.0.2.1 tcp"), (1, "in deny ipv4 10.0.0.1 any tcp"),
       (1, "in deny ipv4 10.0.0.2 192.0.2.1 tcp"), (1, "in deny ipv4 10.0.0.2 any tcp")]),
@@ -99,7 +102,7 @@ def want(told):
     """What is wanted of an expansion: plain lines, or what is said."""
     if isinstance(told, str):
         return wanted(b"", f"racl: -:{told}\n", 1)
-    return wanted("".join(f"{line} # -:{number}\n" for number, line in told).encode())
+    return wanted("".join(f"{line} # -:{number}{''.join(f' {it}' for it in comment)}\n" for number, line, *comment in told).encode())
 
 
 class Expansions(Case):

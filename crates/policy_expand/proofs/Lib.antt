@@ -3,6 +3,7 @@ pub mod FirstMatchLemmas
 pub mod InclusionLemmas
 pub mod LineLemmas
 pub mod ListLemmas
+pub mod MarkLemmas
 pub mod RowLemmas
 pub mod RuleLemmas
 pub mod SectionLemmas

@@ -12,7 +12,7 @@ use Rattle.policy_words.specs.Words.{is_blank, is_hash, is_word, without_comment
 use Rattle.policy_expand.specs.Expansions.{AreExpanded}
 use Rattle.policy_expand.specs.FirstMatch.{AreAlike, HaveWords, joined}
 use Rattle.policy_expand.specs.Sources.{SourceFacts}
-use Rattle.policy_expand.specs.Texts.{ended, is_printable, place_mark, plain_text, shown, spelt}
+use Rattle.policy_expand.specs.Texts.{ended, is_printable, own_comment, place_mark, plain_text, shown, spelt}
 use Rattle.policy_expand.specs.Visible.{is_ink}
 use Rattle.policy_expand.specs.Written.{LineWritten, word_text}
 use Rattle.policy_expand.specs.declared.named_set.NamedSet.{NamedSet}
@@ -198,7 +198,7 @@ expanded_lines sets (line ∷ texts) news written plain text
       subst (λ (ws : List LineWritten). AreAlike ws plain) (sym written_split) (rows, more, plain_split, one.alike, one.begin, behind.0),
       subst (λ (ps : List (List (List Word))). HaveWords (lines text) (joined ps)) (sym plain_split)
           (ap (λ (t : List ℕ). map line_words (lines t)) (split ∙ ap (λ (a : List ℕ). a ++ rest) one.spells)
-          ∙ spelt_lines rows mark rest (all_shown (32 ∷ (line.file ++ 58 ∷ decimal line.number)))
+          ∙ spelt_lines rows mark rest (all_shown (32 ∷ (line.file ++ 58 ∷ (decimal line.number ++ own_comment line.text))))
           ∙ ap (λ (all : List (List (List ℕ))). map (map word_text) rows ++ all) behind.1
           ∙ sym (map-append (map word_text) rows (joined more))),
     )

@@ -29,6 +29,12 @@ AreExpanded sets (line ∷ lines) news written plain text =
     × (written ≡ first ∷ others) × (plain ≡ rows ∷ more) × (text ≡ added ++ rest)
     × IsLineExpanded sets line mid first rows added × AreExpanded mid lines news others more rest
 
+-- Of these lines those before this one stand for plain ones.
+abbrev pub IsBehindExpanded : List SourceFacts → SourceFacts → Type 0
+IsBehindExpanded lines line =
+    (before after : List SourceFacts) × (news : List NamedSet) × (written : List LineWritten) × (plain : List (List (List Word))) × (text : List ℕ)
+    × (lines ≡ before ++ line ∷ after) × AreExpanded [] before news written plain text
+
 -- The text is the expansion of these lines, of which no set stands before.
 abbrev pub IsExpansion : List SourceFacts → List ℕ → Type 0
 IsExpansion lines text =

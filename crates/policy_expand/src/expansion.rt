@@ -1,6 +1,6 @@
 //! The plain policy that written lines stand for.
-ghost use Rattle.std.specs.Prelude.{◌≡◌, ◌++◌, ◌∷◌, [], List, ℕ, IfOk, IsTrue, OnOk, map};
-ghost use Rattle.policy_expand.specs.Expansions.{IsExpansion, IsLineExpanded};
+ghost use Rattle.std.specs.Prelude.{◌≡◌, ◌++◌, ◌∷◌, [], List, ℕ, IfErr, IfOk, IsTrue, OnOk, map};
+ghost use Rattle.policy_expand.specs.Expansions.{IsBehindExpanded, IsExpansion, IsLineExpanded};
 ghost use Rattle.policy_expand.specs.Sources.{source_facts};
 ghost use Rattle.policy_expand.specs.Written.{LineWritten, list_words};
 ghost use Rattle.policy_expand.specs.WrittenLines.{line_written};
@@ -75,9 +75,10 @@ fn push_origins(origins: &mut Vec<usize>, place: usize, count: usize) -> Result<
     Ok(())
 }
 
-/// The plain policy that lines stand for. No clause says that a fault is right.
+/// The plain policy that lines stand for. No clause says that the reason of a fault is right.
 pub fn expanded<'a>(alloc: Global, lines: &[SourceLine<'a>]) -> Result<Expansion, WrongLine<'a>>
-    ensures { IfOk result (λ expansion. IsExpansion (map source_facts lines.now) expansion.text.items) }
+    ensures ok { IfOk result (λ expansion. IsExpansion (map source_facts lines.now) expansion.text.items) }
+    ensures first { IfErr result (λ found. IsBehindExpanded (map source_facts lines.now) (source_facts found.line)) }
 {
     let mut sets = Vec::new(alloc);
     let mut text = Vec::new(alloc);

@@ -1,12 +1,14 @@
 //! The text of plain lines, each with the place at which it was written.
-ghost use Rattle.std.specs.Prelude.{◌≡◌, ◌++◌, IfOk, OnOk, map};
+ghost use Rattle.std.specs.Prelude.{◌≡◌, ◌++◌, IfOk, OnOk, drop, length, map};
+ghost use Rattle.policy_words.specs.Words.{without_comment};
 ghost use Rattle.policy_expand.specs.Sources.{source_facts};
 ghost use Rattle.policy_expand.specs.Texts;
-ghost use Rattle.policy_expand.specs.Texts.{ended, place_mark, plain_text, spelt};
+ghost use Rattle.policy_expand.specs.Texts.{ended, own_comment, place_mark, plain_text, spelt};
 ghost use Rattle.policy_expand.specs.Written.{list_words};
 
 use crate::source_line::SourceLine;
 use crate::visible_word::{Word, WordList};
+use policy_words::before_comment;
 use std::alloc::{AllocError, Global};
 
 // A byte of a place's mark: any that isn't printable is shown as `?`.
@@ -27,12 +29,35 @@ fn shown_bytes(alloc: Global, bytes: &[u8]) -> Result<Vec<u8>, AllocError>
     Ok(out)
 }
 
-/// The mark of a line's place: its file and number.
+// What stands behind the words of a line: its comment with its `#`, or nothing.
+#[tactic(auto, using(crate::proofs::MarkLemmas::words_short))]
+fn comment_of(line: &[u8]) -> &[u8]
+    ensures { result.now ≡ drop (length (without_comment line.now)) line.now }
+{
+    &line[before_comment(line).len()..]
+}
+
+// Adds a line's own comment with its `#` to a mark, behind a space.
+fn push_own_comment(out: &mut Vec<u8>, line: &[u8]) -> Result<(), AllocError>
+    ensures { OnOk result (out.new.items ≡ out.old.items ++ own_comment line.now) }
+{
+    let comment = comment_of(line);
+    if comment.is_empty() {
+        return Ok(());
+    }
+    out.push(b' ')?;
+    out.extend_from_slice(comment)?;
+    Ok(())
+}
+
+/// The mark of a line's place: its file and number, and behind them its own comment.
 pub fn mark_of(alloc: Global, line: &SourceLine<'_>) -> Result<Vec<u8>, AllocError>
     ensures { IfOk result (λ mark. mark.items ≡ place_mark (source_facts line.now)) }
 {
     let place = format!(in alloc; " {}:{}", line.file, line.number)?;
-    shown_bytes(alloc, place.as_bytes())
+    let mut mark = Vec::from_slice(alloc, place.as_bytes())?;
+    push_own_comment(&mut mark, line.text)?;
+    shown_bytes(alloc, mark.as_slice())
 }
 
 // Adds words to a text, each with a space behind it.
