@@ -14,8 +14,8 @@ LATE = [(1000, True, 4, 0), (1675, True, 4, 1), (1585, False, 4, 0)]
 FORGOTTEN = ["pass rule 1 reflect", "pass rule 1 reflect", "drop default"]
 
 # What is told of hits, and of the session that is left, where the late answer finds none.
-TOLD = b"""interface 0 out rule 1 line 2 packets 2
-interface 0 out rule 2 line 3 packets 0
+TOLD = b"""interface 0 out rule 1 line 2 packets 2 | out permit+reflect ipv4 any any udp
+interface 0 out rule 2 line 3 packets 0 | out permit+reflect ipv6 any any udp
 session packets 0
 default packets 1
 full packets 0

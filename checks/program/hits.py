@@ -5,11 +5,11 @@ from support.captures import header
 from support.cases import FEWER_LINES, TOP, Case, bytes_of_file, kept, wanted
 
 # What is told of hits on examples/router.racl: its rules by the lines of its policy, and who decided each of its packets.
-HITS = b"""interface 0 out rule 1 line 5 packets 1
-interface 0 out rule 2 line 6 packets 1
-interface 1 in rule 1 line 9 packets 1
-interface 1 in rule 2 line 10 packets 1
-interface 1 in rule 3 line 11 packets 0
+HITS = b"""interface 0 out rule 1 line 5 packets 1 | out permit+reflect ipv4 192.0.2.0/24 any udp dport 53
+interface 0 out rule 2 line 6 packets 1 | out permit+reflect ipv4 192.0.2.0/24 any tcp flags 02/17     # SYN alone opens a connection; with 02/12 SYN and FIN would too
+interface 1 in rule 1 line 9 packets 1 | in deny ipv4 any 192.0.2.1                                  # the router itself answers nothing
+interface 1 in rule 2 line 10 packets 1 | in permit+reflect ipv4 192.0.2.0/24 any udp dport 53
+interface 1 in rule 3 line 11 packets 0 | in permit+reflect ipv4 192.0.2.0/24 any tcp flags 02/17
 session packets 3
 default packets 4
 full packets 0
@@ -42,7 +42,7 @@ class Hits(Case):
 
     def test_no_packet(self):
         got = self.program.run(["--hits"], b"in deny ipv4 any any\npcap\n" + header())
-        rule = b"interface 0 in rule 1 line 1 packets 0\n"
+        rule = b"interface 0 in rule 1 line 1 packets 0 | in deny ipv4 any any\n"
         others = b"".join(re.sub(rb"\d+$", b"0", it) + b"\n" for it in HITS.splitlines()[5:])
         self.compare(got, wanted(b"packets 0 pass 0 drop 0\n" + rule + others))
 

@@ -41,7 +41,7 @@ class Page(Case):
         told = list(map(json.loads, report["stdout"].splitlines()))
         totals = next(it for it in told if "pass" in it)
         rules = [[str(it["interface"]), f"{it['direction']} {it['rule']}", str(it["line"]),
-                  policy[it["line"] - 1].partition("#")[0].strip(), spaced(it["packets"]), ""]
+                  policy[it["line"] - 1].strip(), spaced(it["packets"]), ""]
                  for it in told if "line" in it and "packets" in it]
         reasons = [[it["reason"], spaced(it["packets"])] for it in told if "reason" in it and "packets" in it]
         got = page_of(["--policy", self.hold("policy", "\n".join(policy).encode()), "-"], report["stdout"])

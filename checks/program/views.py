@@ -21,7 +21,15 @@ def protocol_of(number, address):
     return {6: "tcp", 17: "udp", 58 if ":" in address else 1: "icmp"}.get(number, f"protocol {number}")
 
 
-def behind_totals(told):
+def rule_in(policy, number):
+    """What is shown of a policy's line: all of it, or what stands before a comment that has other bytes than printable ASCII."""
+    line = policy.split(b"\n")[number - 1]
+    line = line[:-1] if line.endswith(b"\r") else line
+    shown = line if all(32 <= it < 127 or it == 9 for it in line) else line.partition(b"#")[0]
+    return shown.strip(b" \t")[:200].decode()
+
+
+def behind_totals(told, policy):
     """The line of hits or sessions that an object of JSON stands for, None where it stands for none."""
     if "until" in told:
         ends = (address_in(it["address"]) + (f" port {it['port']}" if "port" in it else "")
@@ -33,7 +41,7 @@ def behind_totals(told):
         return None
     if "rule" in told:
         return (f"interface {told['interface']} {told['direction']} rule {told['rule']} line {told['line']} "
-                f"packets {told['packets']}")
+                f"packets {told['packets']} | {rule_in(policy, told['line'])}")
     if "reason" in told:
         return f"{told['reason']} packets {told['packets']}"
     (name, count), = told.items()
@@ -42,7 +50,7 @@ def behind_totals(told):
 
 def lines_of(told, policy, is_named):
     """The line of the report that an object of JSON stands for, and what goes on behind it where lines are explained."""
-    behind = behind_totals(told)
+    behind = behind_totals(told, policy)
     if behind:
         return behind, ""
     name = f"if {told['interface']} " if is_named and "interface" in told else ""
@@ -60,8 +68,7 @@ def lines_of(told, policy, is_named):
         behind += f" type {told['type']} code {told['code']}" if "type" in told else ""
         behind += " later fragment" if told.get("later_fragment") else ""
     if "line" in told:
-        rule = policy.split(b"\n")[told["line"] - 1].partition(b"#")[0].strip()[:200].decode()
-        behind += f" | line {told['line']} {rule}"
+        behind += f" | line {told['line']} {rule_in(policy, told['line'])}"
     return f"{told['packet']} {name}{told['verdict']} {said}", behind
 
 
@@ -91,6 +98,16 @@ class Views(Case):
         data = bytes_of_file(f"{TOP}/examples/router.racl")
         lines = self.program.run(["--explain", "--summary"], data)["stdout"]
         self.compare(self.program.run(["--explain", "--summary", "--hits"], data), wanted(lines + HITS))
+
+    def test_written_rules(self):
+        """A rule of an expansion is shown with the file and line in which it was written, and with its own comment."""
+        written = self.hold("rules", b"set web 192.0.2.10\n\nmac 02:00:00:00:00:01\nin permit ip any @web tcp dport 80,22 # name: web and ssh\n")
+        plain = self.hold("plain", self.program.run(["expand", written])["stdout"])
+        got = self.program.run(["ask", "--explain", plain, "100 in tcp 10.0.0.1 5000 192.0.2.10 22 flags 02"])
+        self.compare(got, wanted(
+            b"1 pass rule 2 | interface 0 in time 100 tcp 10.0.0.1 port 5000 to 192.0.2.10 port 22 flags 02"
+            b" | line 3 in permit ipv4 any 192.0.2.10 tcp dport 22 # " + written.encode() + b":4 # name: web and ssh\n"
+            b"packets 1 pass 1 drop 0\n"))
 
     def test_many_explained_lines(self):
         data, verdicts = many_flows()

@@ -1,5 +1,5 @@
 //! What a check tells, line by line.
-ghost use Rattle.std.specs.Prelude.{◌↔◌, IfOk, IsTrue};
+ghost use Rattle.std.specs.Prelude.{◌↔◌, ◌<◌, ◌^◌, IfOk, IfSome, IsTrue};
 ghost use Rattle.acl_policy.specs.Policies.{IsPolicyText, PolicyFacts};
 
 use crate::complaint::{Checked, Complaint};
@@ -8,6 +8,8 @@ use crate::policy_checking::check_policy;
 use crate::remark_kinds::Remark;
 use crate::remarks_on_policy::remarks_on;
 use acl_policy::Policy;
+use packet_view::Direction;
+use racl_views::{RuleName, line_of, rule_table_by_place, text_at};
 use std::alloc::{AllocError, Global};
 
 /// The lines that tell what a check found, and whether the text is a policy.
@@ -57,9 +59,65 @@ fn push_told_complaint(
     push_told_text(out, format!(in alloc; " {}\n", told.reason)?.as_str())
 }
 
-// Adds the line of a remark to the text that a check tells.
-fn push_told_remark(alloc: Global, out: &mut Vec<u8>, remark: &Remark) -> Result<(), AllocError> {
-    push_told_text(out, format!(in alloc; "remark: {remark}\n")?.as_str())
+// A rule that a remark is of.
+fn remarked_rule(interface: u8, direction: Direction, number: u64) -> Option<RuleName>
+    ensures interface { IfSome result (λ rule. rule.interface < 2 ^ 8) }
+    ensures number { IfSome result (λ rule. rule.number < 2 ^ 16) }
+{
+    if number > 65_535 {
+        return None;
+    }
+    Some(RuleName {
+        interface,
+        direction,
+        number,
+    })
+}
+
+// The rule that a remark is of, where it is of one.
+fn rule_of_remark(remark: &Remark) -> Option<RuleName>
+    ensures interface { IfSome result (λ rule. rule.interface < 2 ^ 8) }
+    ensures number { IfSome result (λ rule. rule.number < 2 ^ 16) }
+{
+    match *remark {
+        Remark::NoRule | Remark::NoMac(_) => None,
+        Remark::Shadowed(interface, direction, number, _)
+        | Remark::ShadowedTogether(interface, direction, number, _, _)
+        | Remark::SourceBits(interface, direction, number)
+        | Remark::DestBits(interface, direction, number)
+        | Remark::Mask(interface, direction, number, _)
+        | Remark::UnmatchedFlags(interface, direction, number) => {
+            remarked_rule(interface, direction, number)
+        }
+    }
+}
+
+// The rule that takes all packets of the one that a remark is of, where it tells of one alone.
+fn rule_that_takes_all(remark: &Remark) -> Option<RuleName>
+    ensures interface { IfSome result (λ rule. rule.interface < 2 ^ 8) }
+    ensures number { IfSome result (λ rule. rule.number < 2 ^ 16) }
+{
+    match *remark {
+        Remark::Shadowed(interface, direction, _, other) => {
+            remarked_rule(interface, direction, other)
+        }
+        _ => None,
+    }
+}
+
+// Adds a rule to the text that a check tells: its line, which is 0 where there is none, and what stands there.
+fn push_told_rule(
+    alloc: Global,
+    out: &mut Vec<u8>,
+    line: u64,
+    text: &[u8],
+) -> Result<(), AllocError> {
+    if line == 0 {
+        return Ok(());
+    }
+    push_told_text(out, format!(in alloc; " | line {line} ")?.as_str())?;
+    out.extend_from_slice(text)?;
+    Ok(())
 }
 
 // How many rules a policy has, which the text of a check tells in its last line.
@@ -73,11 +131,22 @@ fn told_rule_count(policy: &Policy) -> usize {
     count
 }
 
-// Adds the lines that are told of a policy: the remarks on it, and then how many rules and sections it has.
-fn push_told_policy(alloc: Global, out: &mut Vec<u8>, policy: &Policy) -> Result<(), AllocError> {
+// Adds the lines that are told of a policy that this text says: the remarks on it, and then how many rules and sections it has.
+fn push_told_policy(
+    alloc: Global,
+    out: &mut Vec<u8>,
+    text: &[u8],
+    policy: &Policy,
+) -> Result<(), AllocError> {
     let remarks = remarks_on(alloc, policy)?;
+    let table = rule_table_by_place(alloc, text)?;
     for remark in &remarks {
-        push_told_remark(alloc, out, remark)?;
+        push_told_text(out, format!(in alloc; "remark: {remark}")?.as_str())?;
+        let line = line_of(&table.lines, rule_of_remark(remark));
+        push_told_rule(alloc, out, line, text_at(&table.texts, line))?;
+        let line = line_of(&table.lines, rule_that_takes_all(remark));
+        push_told_rule(alloc, out, line, text_at(&table.texts, line))?;
+        push_told_text(out, "\n")?;
     }
     let rules = told_rule_count(policy);
     let sections = policy.sections.len();
@@ -117,7 +186,7 @@ pub fn tell(alloc: Global, text: &[u8]) -> Result<Told, AllocError>
     let is_policy = checked.complaints.is_empty();
     let mut out = Vec::new(alloc);
     if is_policy {
-        push_told_policy(alloc, &mut out, &checked.policy)?;
+        push_told_policy(alloc, &mut out, text, &checked.policy)?;
     } else {
         push_told_complaints(alloc, &mut out, text, &checked)?;
     }

@@ -1,5 +1,5 @@
 -- Packets that are counted one after the other.
-use Rattle.std.proofs.Common.{◌≡◌, ◌∙◌, ◌++◌, ◌+◌, ◌-◌, ◌<◌, ◌≤◌, ℕ, suc, List, [], ◌∷◌, Option, append_assoc, append-nil, arith, ap, count_by, drop, get_or, length, max, refl, subst, sym, cond}
+use Rattle.std.proofs.Common.{◌≡◌, ◌∙◌, ◌++◌, ◌+◌, ◌-◌, ◌<◌, ◌≤◌, ℕ, suc, List, [], ◌∷◌, Option, append_assoc, arith, ap, count_by, drop, get_or, length, max, refl, subst, sym, cond}
 use Rattle.std.proofs.Math.Seq.{drop-cons}
 use Rattle.std.proofs.lemmas.List.Sums.{sum_by-append}
 use Rattle.packet_view.specs.Captures.{PacketFacts}

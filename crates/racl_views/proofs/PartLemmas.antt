@@ -1,5 +1,5 @@
 -- Packets that are told one part after the other are told as in the report.
-use Rattle.std.proofs.Common.{◌≡◌, ◌∙◌, ◌++◌, ◌+◌, ◌≤◌, ℕ, Bool, List, [], ◌∷◌, None, append-nil, append_assoc, ap, ap₂, arith, length, map, refl, subst, sym, take}
+use Rattle.std.proofs.Common.{◌≡◌, ◌∙◌, ◌++◌, ◌+◌, ◌≤◌, ℕ, Bool, List, [], ◌∷◌, None, append-nil, append_assoc, ap, ap₂, arith, length, map, refl, sym}
 use Rattle.std.proofs.lemmas.List.{take_all}
 use Rattle.std.specs.Str.Lines.{lines}
 use Rattle.packet_view.specs.Captures.{PacketFacts}

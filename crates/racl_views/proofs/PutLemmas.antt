@@ -1,5 +1,5 @@
 -- What is written behind what was.
-use Rattle.std.proofs.Common.{◌≡◌, ◌+◌, ◌++◌, ℕ, List, Option, Result, Ok, Err, subst}
+use Rattle.std.proofs.Common.{◌≡◌, ◌++◌, ℕ, List, Option, Result, Ok, Err, subst}
 use Rattle.std.specs.Prelude.{⊤, OnOk}
 use Rattle.std.specs.Io.KnownBytes.{Appends}
 use Rattle.racl_io.specs.declared.fault.Fault.{Fault}

@@ -1,6 +1,6 @@
 -- How many packets each rule of a policy decided, how many none did, and how many sessions were entered, matched and expired (this
 -- project's profile).
-use Rattle.std.specs.Prelude.{◌≡◌, ℕ, ◌+◌, ◌-◌, Bool, true, false, not, List, [], ◌∷◌, ◌++◌, Option, codes, count_by, map, max}
+use Rattle.std.specs.Prelude.{◌≡◌, ℕ, ◌+◌, ◌-◌, Bool, true, false, not, List, [], ◌∷◌, ◌++◌, Option, codes, count_by, get_or, map, max}
 use Rattle.std.specs.List.{flat_map}
 use Rattle.json.specs.Json.{Json}
 use Rattle.packet_view.specs.Captures.{PacketFacts}
@@ -24,6 +24,7 @@ use Rattle.racl_views.specs.Objects.{number, object_line, object_of, string}
 use Rattle.racl_views.specs.PacketObjects.{way_field}
 use Rattle.racl_views.specs.PacketWords.{numbered}
 use Rattle.racl_views.specs.RuleLines.{AreRules}
+use Rattle.racl_views.specs.RuleTexts.{rule_texts}
 use Rattle.racl_views.specs.Stored.{StoredFacts}
 use Rattle.racl_views.specs.RunEntries.{RunFacts}
 
@@ -102,14 +103,15 @@ abbrev pub way_word : Direction → List ℕ
 way_word Inbound = codes " in rule "
 way_word Outbound = codes " out rule "
 
-abbrev pub hit_line : Hit → List ℕ
-hit_line (hit.Rule at count) = numbered (codes "interface ") at.rule.interface
+-- a line for a hit; the text of a rule's line is one of these
+abbrev pub hit_line : List (List ℕ) → Hit → List ℕ
+hit_line texts (hit.Rule at count) = numbered (codes "interface ") at.rule.interface
     ++ (numbered (way_word at.rule.direction) at.rule.number
-    ++ (numbered (codes " line ") at.line ++ (numbered (codes " packets ") count ++ codes "\n")))
-hit_line (hit.Unruled why count) = word_of why ++ (numbered (codes " packets ") count ++ codes "\n")
-hit_line (hit.Entered count) = numbered (codes "sessions entered ") count ++ codes "\n"
-hit_line (hit.Matched count) = numbered (codes "sessions matched ") count ++ codes "\n"
-hit_line (hit.Expired count) = numbered (codes "sessions expired ") count ++ codes "\n"
+    ++ (numbered (codes " line ") at.line ++ (numbered (codes " packets ") count ++ (codes " | " ++ (get_or texts (at.line - 1) [] ++ codes "\n")))))
+hit_line texts (hit.Unruled why count) = word_of why ++ (numbered (codes " packets ") count ++ codes "\n")
+hit_line texts (hit.Entered count) = numbered (codes "sessions entered ") count ++ codes "\n"
+hit_line texts (hit.Matched count) = numbered (codes "sessions matched ") count ++ codes "\n"
+hit_line texts (hit.Expired count) = numbered (codes "sessions expired ") count ++ codes "\n"
 
 abbrev pub hit_object : Hit → Json
 hit_object (hit.Rule at count) = object_of (number (codes "interface") at.rule.interface ∷ way_field at.rule.direction
@@ -119,9 +121,9 @@ hit_object (hit.Entered count) = object_of (number (codes "sessions_entered") co
 hit_object (hit.Matched count) = object_of (number (codes "sessions_matched") count ∷ [])
 hit_object (hit.Expired count) = object_of (number (codes "sessions_expired") count ∷ [])
 
-abbrev pub hit_told : View → Hit → List ℕ
-hit_told form.Text it = hit_line it
-hit_told form.Json it = object_line (hit_object it)
+abbrev pub hit_told : View → List (List ℕ) → Hit → List ℕ
+hit_told form.Text texts it = hit_line texts it
+hit_told form.Json texts it = object_line (hit_object it)
 
 -- ---- all of it
 
@@ -132,7 +134,7 @@ pub record IsHits (view : View) (times : Timeouts) (run : RunFacts) (stored : St
   pub lines : AreRules run.text rules
   pub deciding : List (Option RuleName)
   pub decided : AreDecided run.policy run.packets run.verdicts deciding
-  pub all : told ≡ flat_map (hit_told view)
+  pub all : told ≡ flat_map (hit_told view (rule_texts run.text))
       (rule_hits deciding rules ++ (reason_hits run.verdicts ++ session_hits (session_counts times run stored)))
 
 -- the same, where it is asked for

@@ -1,5 +1,6 @@
 -- The text of a rule, as its line has it (this project's profile).
-use Rattle.std.specs.Prelude.{ℕ, List, [], ◌∷◌, drop, take, map, not, option_map, position, unwrap_or, if◌then◌else◌}
+use Rattle.std.specs.Prelude.{ℕ, Bool, ◌&&◌, ◌||◌, ◌==◌, List, [], ◌∷◌, drop, nat_lt, take, map, not, option_map, position, unwrap_or, if◌then◌else◌}
+use Rattle.std.specs.List.{list_all}
 use Rattle.std.specs.Str.Lines as split
 use Rattle.policy_words.specs.Words.{is_blank, without_comment}
 use Rattle.racl_views.specs.declared.shown_rule_text.RuleText.{RuleText}
@@ -18,9 +19,12 @@ abbrev pub without_end : List ℕ → List ℕ
 without_end [] = []
 without_end (byte ∷ bytes) = before byte (without_end bytes)
 
--- what is shown of a line: all up to its comment but the blanks at both ends, up to 200 bytes
+-- what is shown of a line: all but the blanks at both ends, up to 200 bytes; without its comment where the line has a byte that
+-- is neither printable ASCII nor a tab
 abbrev pub rule_text : List ℕ → List ℕ
-rule_text line = take 200 (without_end (from_word (without_comment line)))
+rule_text line =
+    let is_plain : Bool = list_all (λ b. (nat_lt 31 b && nat_lt b 127) || (b == 9)) line in
+    take 200 (without_end (from_word (if is_plain then line else without_comment line)))
 
 -- of each line of a policy
 abbrev pub rule_texts : List ℕ → List (List ℕ)

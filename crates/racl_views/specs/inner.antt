@@ -6,5 +6,6 @@ pub mod EntryLists
 pub mod Fields
 pub mod PartWordings
 pub mod Places
+pub mod ShownLines
 pub mod Spots
 pub mod Tellings

@@ -1,5 +1,5 @@
 //! What is told of hits, in lines or objects.
-ghost use Rattle.std.specs.Prelude.{◌≡◌, ◌+◌, ◌≤◌, ◌++◌, [], ◌∷◌, List, Option, OnOk, IfOk, codes, length};
+ghost use Rattle.std.specs.Prelude.{◌≡◌, ◌+◌, ◌≤◌, ◌++◌, [], ◌∷◌, List, Option, OnOk, IfOk, codes, length, map};
 ghost use Rattle.std.specs.List.{flat_map};
 ghost use Rattle.acl_policy.specs.Policies.{IsPolicyText, policy_facts};
 ghost use Rattle.session_state.specs.declared.verdict.Verdict.{Verdict};
@@ -8,6 +8,7 @@ ghost use Rattle.racl_views.specs.Hits;
 ghost use Rattle.racl_views.specs.Hits.{IsHits, hit_line, hit_told, reason_hits, rule_hits, session_hits};
 ghost use Rattle.racl_views.specs.Objects.{number, object_line, object_of};
 ghost use Rattle.racl_views.specs.PacketWords.{numbered};
+ghost use Rattle.racl_views.specs.RuleTexts.{shown_of};
 ghost use Rattle.racl_views.specs.RunEntries.{RunFacts, run_facts};
 ghost use Rattle.racl_views.specs.Stored.{stored_facts};
 ghost use Rattle.racl_views.specs.declared.hit.Hit.TheVariants.{Rule, Unruled};
@@ -23,8 +24,10 @@ use crate::place_of_rule::number_at;
 use crate::reason_without_rule::Reason;
 use crate::rule_name::RuleLine;
 use crate::rule_numbering::numbered_rules;
+use crate::rule_texts_in_policy::{text_at, texts_of};
 use crate::run_and_verdicts::Run;
 use crate::session_counts::{SessionCounts, count_sessions};
+use crate::shown_rule_text::RuleText;
 use crate::stored_pairs::StoredPairs;
 use crate::text_or_json::View;
 use packet_view::Direction;
@@ -61,21 +64,23 @@ fn word_of(reason: Reason) -> &'static str
 }
 
 // The line among the hits of how many packets a rule decided.
-fn push_rule(piece: &mut Piece, at: RuleLine, count: u64)
-    requires { length piece.old + 199 ≤ 262144 }
-    ensures { piece.new ≡ piece.old ++ hit_line (Rule at count) }
+fn push_rule<'a>(piece: &mut Piece, texts: &'a [RuleText<'a>], at: RuleLine, count: u64)
+    requires { length piece.old + 402 ≤ 262144 }
+    ensures { piece.new ≡ piece.old ++ hit_line (map shown_of texts.now) (Rule at count) }
 {
     push_numbered(piece, b"interface ", u64::from(at.rule.interface));
     push_numbered(piece, way_word(at.rule.direction), at.rule.number);
     push_numbered(piece, b" line ", at.line);
     push_numbered(piece, b" packets ", count);
+    piece.push(b" | ");
+    piece.push(text_at(texts, at.line));
     piece.push(b"\n");
 }
 
 // The line among the hits of how many packets a reason decided that is no rule.
 fn push_reason(piece: &mut Piece, reason: Reason, count: u64)
     requires { length piece.old + 199 ≤ 262144 }
-    ensures { piece.new ≡ piece.old ++ hit_line (Unruled reason count) }
+    ensures { piece.new ≡ piece.old ++ hit_line [] (Unruled reason count) }
 {
     piece.push(word_of(reason).as_bytes());
     push_numbered(piece, b" packets ", count);
@@ -92,12 +97,12 @@ fn push_hit_count(piece: &mut Piece, word: &'static [u8], count: u64)
 }
 
 // The line of a hit.
-fn push_hit(piece: &mut Piece, hit: Hit)
-    requires { length piece.old + 199 ≤ 262144 }
-    ensures { piece.new ≡ piece.old ++ hit_line hit }
+fn push_hit<'a>(piece: &mut Piece, texts: &'a [RuleText<'a>], hit: Hit)
+    requires { length piece.old + 402 ≤ 262144 }
+    ensures { piece.new ≡ piece.old ++ hit_line (map shown_of texts.now) hit }
 {
     match hit {
-        Hit::Rule(at, count) => push_rule(piece, at, count),
+        Hit::Rule(at, count) => push_rule(piece, texts, at, count),
         Hit::Unruled(reason, count) => push_reason(piece, reason, count),
         Hit::Entered(count) => push_hit_count(piece, b"sessions entered ", count),
         Hit::Matched(count) => push_hit_count(piece, b"sessions matched ", count),
@@ -151,13 +156,19 @@ fn hit_object(text: Vec<u8>, hit: Hit) -> Result<Vec<u8>, AllocError>
 }
 
 // What is told of a hit behind a text. The piece is room for it.
-fn tell_hit(text: Vec<u8>, piece: &mut Piece, view: View, hit: Hit) -> Result<Vec<u8>, AllocError>
-    ensures { IfOk result (λ new. new.items ≡ text.items ++ hit_told view hit) }
+fn tell_hit<'a>(
+    text: Vec<u8>,
+    piece: &mut Piece,
+    view: View,
+    texts: &'a [RuleText<'a>],
+    hit: Hit,
+) -> Result<Vec<u8>, AllocError>
+    ensures { IfOk result (λ new. new.items ≡ text.items ++ hit_told view (map shown_of texts.now) hit) }
 {
     match view {
         View::Text => {
             piece.clear();
-            push_hit(piece, hit);
+            push_hit(piece, texts, hit);
             append_line_text(text, piece)
         }
         View::Json => hit_object(text, hit),
@@ -165,13 +176,18 @@ fn tell_hit(text: Vec<u8>, piece: &mut Piece, view: View, hit: Hit) -> Result<Ve
 }
 
 // What is told of hits.
-fn tell_hits(alloc: Global, view: View, hits: &[Hit]) -> Result<Vec<u8>, AllocError>
-    ensures { IfOk result (λ told. told.items ≡ flat_map (hit_told view) hits.now) }
+fn tell_hits<'a>(
+    alloc: Global,
+    view: View,
+    texts: &'a [RuleText<'a>],
+    hits: &[Hit],
+) -> Result<Vec<u8>, AllocError>
+    ensures { IfOk result (λ told. told.items ≡ flat_map (hit_told view (map shown_of texts.now)) hits.now) }
 {
     let mut piece = Piece::new(alloc)?;
     let mut text = Vec::new(alloc);
     'hits: for hit in hits {
-        text = tell_hit(text, &mut piece, view, *hit)?;
+        text = tell_hit(text, &mut piece, view, texts, *hit)?;
     }
     Ok(text)
 }
@@ -239,7 +255,7 @@ fn hits_to_tell(
 }
 
 /// What is told of the hits of packets that were counted, under a policy that this text says: for each of its rules its
-/// interface, direction and number, its line and how many packets it decided; for each verdict that is no rule's how many
+/// interface, direction and number, its line, how many packets it decided and its text; for each verdict that is no rule's how many
 /// packets have it; and how many sessions were entered, how many packets they let through, and how many have expired by the
 /// latest second of any packet. `stored` has the sessions that the tables hold after the run. An `Err` says that memory ran
 /// out.
@@ -257,7 +273,8 @@ pub fn counted_hits_text(
     let rules = numbered_rules(alloc, text)?;
     let sessions = count_sessions(times, counts, stored);
     let hits = hits_to_tell(alloc, &rules, counts, sessions)?;
-    let told = tell_hits(alloc, view, &hits)?;
+    let texts = texts_of(alloc, text)?;
+    let told = tell_hits(alloc, view, &texts, &hits)?;
     Ok(told)
 }
 

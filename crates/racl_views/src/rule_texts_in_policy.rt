@@ -1,8 +1,11 @@
 //! The texts of rules, as their lines have them.
 ghost use Rattle.std.specs.Prelude.{◌≡◌, ◌-◌, ◌<◌, ◌≤◌, [], IfOk, get_or, length, map, take};
+ghost use Rattle.std.specs.List.{list_all};
 ghost use Rattle.std.specs.Str.{IsUtf8};
 ghost use Rattle.racl_views.specs.RuleTexts;
 ghost use Rattle.racl_views.specs.RuleTexts.{from_word, rule_texts, shown_of, without_end};
+ghost use Rattle.racl_views.specs.inner.ShownLines;
+ghost use Rattle.racl_views.specs.inner.ShownLines.{with_comment};
 
 use crate::shown_rule_text::RuleText;
 use acl_policy::before_comment;
@@ -11,6 +14,38 @@ use std::alloc::{AllocError, Global};
 
 /// How many bytes of a rule are shown at most.
 const MOST_SHOWN: usize = 200;
+
+// Whether a byte is shown of a comment of a rule.
+fn is_shown_byte(byte: u8) -> bool
+    ensures { result ≡ ShownLines.is_shown_byte byte }
+{
+    byte >= 32 && byte < 127 || byte == b'\t'
+}
+
+// Whether all bytes of a rule's line are shown.
+fn is_shown_whole(line: &[u8]) -> bool
+    ensures { result ≡ list_all ShownLines.is_shown_byte line.now }
+{
+    let mut rest = line;
+    'bytes: while !rest.is_empty() {
+        if !is_shown_byte(rest[0]) {
+            return false;
+        }
+        rest = &rest[1..];
+    }
+    true
+}
+
+// A rule's line with its comment, where that is shown.
+fn rule_line_with_comment(line: &[u8]) -> &[u8]
+    ensures { result.now ≡ with_comment line.now }
+{
+    if is_shown_whole(line) {
+        line
+    } else {
+        before_comment(line)
+    }
+}
 
 // The text of a policy's line from its first word on, where what is shown of a rule begins.
 fn rule_text_after_blanks(text: &[u8]) -> &[u8]
@@ -52,7 +87,9 @@ fn rule_text(line: &[u8]) -> RuleText<'_>
     ensures { shown_of result ≡ RuleTexts.rule_text line.now }
 {
     RuleText {
-        text: rule_text_cut(rule_text_before_blanks(rule_text_after_blanks(before_comment(line)))),
+        text: rule_text_cut(rule_text_before_blanks(rule_text_after_blanks(rule_line_with_comment(
+            line,
+        )))),
     }
 }
 
@@ -76,13 +113,12 @@ pub fn texts_of<'a>(alloc: Global, text: &'a [u8]) -> Result<Vec<RuleText<'a>>, 
     }
 }
 
-/// What is shown of the line with this number, counted from 1, and nothing where there is none.
+/// What is shown of the line with this number, counted from 1, and nothing where there is none. Of 0 it is that of 1.
 pub fn text_at<'a>(texts: &'a [RuleText<'a>], line: u64) -> &'a [u8]
-    requires { 0 < line }
     ensures text { result.now ≡ get_or (map shown_of texts.now) (line - 1) [] }
     ensures short { length result.now ≤ 200 }
 {
-    let place = (line - 1) as usize;
+    let place = line.saturating_sub(1) as usize;
     if place < texts.len() {
         texts[place].text
     } else {

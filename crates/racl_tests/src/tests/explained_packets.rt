@@ -24,7 +24,7 @@ const ROWS: [(u8, &[u8], Verdict, &str, &str); 7] = [
         \x0f\xa0\0\x35\0\x08\0\0",
         Verdict::Reflect(1),
         "1 if 0 pass rule 1 reflect | interface 0 out time 10 udp 192.0.2.1 port 4000 to 198.51.100.9 port 53 \
-        | line 2 out permit+reflect ipv4 any any udp\n\
+        | line 2 out permit+reflect ipv4 any any udp # questions\n\
         if 0 truncated after 1\npackets 1 pass 1 drop 0\n",
         "{\"packet\":1,\"verdict\":\"pass\",\"reason\":\"rule\",\"rule\":1,\"reflect\":true,\"line\":2,\
         \"interface\":0,\"direction\":\"out\",\"time\":10,\"bytes\":42,\"protocol\":17,\

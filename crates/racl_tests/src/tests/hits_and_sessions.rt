@@ -12,7 +12,7 @@ use std::test::Fail;
 // For tests of hits: a policy whose rules stand in the lines 2, 4 and 5.
 fn hits_rules() -> &'static [u8] {
     b"mac 02:00:00:00:00:01\n\
-    out permit+reflect ipv4 any any udp\n\n\
+    out permit+reflect ipv4 any any udp # questions\n\n\
     in deny ipv4 10.0.0.3 any\n\
     out deny ipv4 any any\n"
 }
@@ -56,9 +56,9 @@ const HITS: [(Timeouts, View, &str); 3] = [
     (
         TIMES,
         View::Text,
-        "interface 0 out rule 1 line 2 packets 1\n\
-        interface 0 in rule 1 line 4 packets 1\n\
-        interface 0 out rule 2 line 5 packets 0\n\
+        "interface 0 out rule 1 line 2 packets 1 | out permit+reflect ipv4 any any udp # questions\n\
+        interface 0 in rule 1 line 4 packets 1 | in deny ipv4 10.0.0.3 any\n\
+        interface 0 out rule 2 line 5 packets 0 | out deny ipv4 any any\n\
         session packets 0\ndefault packets 0\nfull packets 0\nworn packets 0\nno-pages packets 0\n\
         not-ip packets 0\nmalformed packets 0\nshort packets 0\n\
         sessions entered 1\nsessions matched 0\nsessions expired 0\n",
@@ -78,9 +78,9 @@ const HITS: [(Timeouts, View, &str); 3] = [
     (
         SHORTER_TIMES,
         View::Text,
-        "interface 0 out rule 1 line 2 packets 1\n\
-        interface 0 in rule 1 line 4 packets 1\n\
-        interface 0 out rule 2 line 5 packets 0\n\
+        "interface 0 out rule 1 line 2 packets 1 | out permit+reflect ipv4 any any udp # questions\n\
+        interface 0 in rule 1 line 4 packets 1 | in deny ipv4 10.0.0.3 any\n\
+        interface 0 out rule 2 line 5 packets 0 | out deny ipv4 any any\n\
         session packets 0\ndefault packets 0\nfull packets 0\nworn packets 0\nno-pages packets 0\n\
         not-ip packets 0\nmalformed packets 0\nshort packets 0\n\
         sessions entered 1\nsessions matched 0\nsessions expired 1\n",

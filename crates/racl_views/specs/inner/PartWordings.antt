@@ -1,6 +1,5 @@
 -- How packets are told one part after the other.
-use Rattle.std.specs.Prelude.{◌++◌, ℕ, List, None, map}
-use Rattle.acl_policy.specs.Policies.{policy_facts}
+use Rattle.std.specs.Prelude.{◌++◌, ℕ, List, None}
 use Rattle.session_state.specs.declared.shown_verdicts.Shown.{Shown}
 use Rattle.acl_policy.specs.Policies.{PolicyFacts}
 use Rattle.racl_io.specs.declared.totals_and_truncation.Captured.{Captured}

@@ -191,7 +191,7 @@ const BEHIND: [(Lines, &str); 2] = [
         Lines::Explained,
         "\
 packets 3 pass 2 drop 1
-interface 0 out rule 1 line 2 packets 1
+interface 0 out rule 1 line 2 packets 1 | out permit+reflect ipv4 10.0.0.1 any udp dport 53
 session packets 1
 default packets 1
 full packets 0
