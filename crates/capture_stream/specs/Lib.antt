@@ -1,6 +1,5 @@
 pub mod Feeding
 pub mod Found
-pub mod HexDigits
 pub mod Histories
 pub mod Lives
 pub mod Savings

@@ -1,4 +1,3 @@
-pub mod Digits
 pub mod Feedings
 pub mod Tellings
 pub mod Walks

@@ -2,7 +2,6 @@
 #![tactic(auto)]
 
 mod engine;
-mod hex_digits;
 mod judge;
 mod live_telling;
 mod saver;
@@ -10,7 +9,6 @@ mod stream_judging;
 mod windows_of_records;
 
 pub use engine::{Engine, is_cut};
-pub use hex_digits::{HexDigits, are_digits};
 pub use judge::Judge;
 pub use live_telling::{Headed, ToldCapture, tell_live};
 pub use saver::Saver;

@@ -1,6 +1,7 @@
+pub mod AtHandLemmas
 pub mod CountedLemmas
 pub mod DiffLemmas
-pub mod DigitLemmas
+pub mod DigitCaptureLemmas
 pub mod InputLaws
 pub mod LiveEndLemmas
 pub mod LiveLemmas
@@ -11,4 +12,3 @@ pub mod ReadLemmas
 pub mod RunLemmas
 pub mod SavingLemmas
 pub mod StoredLaws
-pub mod TakenLemmas

@@ -1,10 +1,7 @@
 -- What was read of an input up to the records of its capture, and what is answered of it once these are judged.
-use Rattle.std.proofs.Common.{◌≡◌, ◌∙◌, ◌+◌, ◌-◌, ◌≤◌, ℕ, Bool, true, false, List, [], ◌∷◌, ◌++◌, Option, IfOk, IfErr, Result, Ok, Err, drop, length, append-nil, append_assoc, arith, refl, sym, ap, subst, inl, inr}
+use Rattle.std.proofs.Common.{◌≡◌, ◌∙◌, ◌+◌, ◌-◌, ◌≤◌, ℕ, List, [], ◌∷◌, ◌++◌, Option, IfOk, IfErr, Result, Ok, Err, drop, length, take, append-nil, append_assoc, arith, refl, sym, ap, subst, inl, inr}
 use Rattle.std.proofs.Math.Seq.{drop-append-add}
-use Rattle.std.proofs.lemmas.List.{drop-append-le, length-append}
-use Rattle.std.proofs.lemmas.List.Filters.{length-filter_both}
-use Rattle.std.specs.Prelude.{not}
-use Rattle.hex.proofs.HexLemmas.{decode_of-ok}
+use Rattle.std.proofs.lemmas.List.{drop-append-le, length-append, take_at}
 use Rattle.packet_view.specs.Captures.{AreRecords, HasFileHeader, IsCaptureFault, IsHeaderFault}
 use Rattle.packet_view.specs.declared.capture.CaptureFault.{CaptureFault}
 use Rattle.packet_view.specs.declared.capture.CaptureFault.TheVariants as capture
@@ -16,9 +13,9 @@ use Rattle.racl_options.specs.declared.settings.Options.{Options}
 use Rattle.racl_io.specs.declared.fault.Fault.{Fault}
 use Rattle.racl_io.specs.declared.fault.Fault.TheVariants.{Memory, Read, TooLarge, LongRecord}
 use Rattle.racl_io.specs.declared.marker_line.Form.{Form}
-use Rattle.racl_io.specs.declared.marker_line.Form.TheVariants.{Binary, Hexadecimal, Numbered}
+use Rattle.racl_io.specs.declared.marker_line.Form.TheVariants.{Binary}
 use Rattle.racl_io.specs.Faults.{capture_fault}
-use Rattle.racl_io.specs.Inputs.{InputFacts, IsContent, IsInput, IsMarked, digits_of, is_blank, most_bytes}
+use Rattle.racl_io.specs.Inputs.{InputFacts, IsContent, IsInput, IsMarked, most_bytes}
 use Rattle.capture_stream.specs.Streams.{HasLongRecord, IsStreamFault, records_in}
 use Rattle.capture_stream.specs.declared.stream_judging.Opening.{Opening}
 use Rattle.racl_cli.specs.Reads.{AnswersInput, AnswersRead, HasHeaded, HasJudged, IsHeaded, IsSaid}
@@ -68,6 +65,13 @@ records_behind_header bytes capture last =
     let whole = ap length last.parted in let sizes = length-append last.front capture in
     let place : length bytes - length capture + 24 ≡ length last.front + 24 = omega arith in
     ap (λ n. drop n bytes) place ∙ ap (drop (length last.front + 24)) last.parted ∙ drop-append-add last.front capture 24
+
+-- the policy's text stands at the front of the input
+pub text_before : (bytes : List ℕ) (parts : InputFacts) → IsInput bytes parts → take (length parts.policy) bytes ≡ parts.policy
+text_before bytes parts is = ap (take (length parts.policy)) is.parted ∙ take_at parts.policy is.marked (length parts.policy) refl
+
+pub text_within : (bytes : List ℕ) (parts : InputFacts) → IsInput bytes parts → length parts.policy ≤ length bytes
+text_within bytes parts is = let whole = ap length is.parted in let sizes = length-append parts.policy is.marked in omega arith
 
 -- what follows a marker line stands at the end of the input
 pub content_behind : (bytes : List ℕ) (parts : InputFacts) → IsInput bytes parts → drop (length bytes - length parts.content) bytes ≡ parts.content
@@ -156,23 +160,6 @@ pub record IsOpeningOf (front : List ℕ) (headed : Headed) (opening : Opening) 
   pub from : opening.from ≡ headed.from
   pub order : opening.order ≡ headed.order
   pub few : length front ≤ most_bytes
-
--- ---- sizes
-
-not_twice : (b : Bool) → b ≡ not (not b)
-not_twice true = refl
-not_twice false = refl
-
-digits_short : (content capture : List ℕ) → IsContent Hexadecimal content capture → length capture ≤ length content
-digits_short content capture is =
-    let twice = (decode_of-ok (digits_of content) capture is).2 in
-    let all = length-filter_both (λ b. not (is_blank b)) is_blank (λ b. not_twice (is_blank b)) content in
-    omega arith
-
-pub content_short : (form : Form) (content capture : List ℕ) → IsContent form content capture → length capture ≤ length content
-content_short Binary content capture is = let e = ap length is in omega arith
-content_short Hexadecimal content capture is = digits_short content capture is
-content_short (Numbered number) content capture is = absurd is
 
 -- ---- what is answered
 

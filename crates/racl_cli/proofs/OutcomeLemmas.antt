@@ -38,7 +38,7 @@ use Rattle.racl_cli.specs.declared.sized_tables_and_workers.SizedWorkers.{SizedW
 use Rattle.racl_cli.specs.Reads.{AnswersInput, AreKnown, HasJudged, IsOutcomeOfAll, IsReached, IsSaid}
 use Rattle.racl_cli.specs.inner.Stored.{HasStored}
 use Rattle.racl_cli.specs.inner.Streams.{HasEnded}
-use Rattle.racl_report.specs.WrittenReports.{HasReport, MayTell, needs_bytes}
+use Rattle.racl_report.specs.WrittenReports.{HasReport}
 use Rattle.racl_cli.specs.Runs.{AgeInTime, AreStoredOf, ByOneThread, ByWorkers, HasOutcome, HasRun, bucket_deal, layout_for}
 use Rattle.racl_report.specs.ReadInputs.{IsRead, told_of}
 use Rattle.racl_report.specs.RunReports.{JudgedFacts, Outcome}
@@ -259,18 +259,13 @@ module _ (options : Options) (bytes : List ℕ) (parts : InputFacts) (policy : P
 
 -- ---- the report
 
--- the report on the input that was judged is written, whichever input it is
+-- the report on the input that was judged is written, whichever policy and packets it says
 abbrev pub Tells : Option (List ℕ) → Option (List ℕ) → Options → List ℕ → JudgedFacts → Result Totals Fault → Type 0
-Tells old new options kept judged result = (input : List ℕ) (policy : PolicyFacts) (packets : List PacketFacts)
-    → MayTell options kept input → IsRead input policy packets judged.outcome.captures → IfOk result (HasReport options input policy packets judged old new)
+Tells old new options input judged result = (policy : PolicyFacts) (packets : List PacketFacts)
+    → IsRead input policy packets judged.outcome.captures → IfOk result (HasReport options input policy packets judged old new)
 
--- what is told of bytes is told of those that were kept
-pub kept_told : (old new : Option (List ℕ)) (options : Options) (bytes kept : List ℕ) (judged : JudgedFacts) (result : Result Totals Fault) → bytes ≡ kept
-    → Tells old new options bytes judged result → Tells old new options kept judged result
-kept_told old new options bytes kept judged result same tells = subst (λ (b : List ℕ). Tells old new options b judged result) same tells
-
-module _ (old new : Option (List ℕ)) (options : Options) (given : Option (List ℕ)) (kept : List ℕ) (judged : JudgedFacts) (result : Result Totals Fault)
-    (k : IsOutcomeOfAll options given judged) (same : needs_bytes options ≡ true → kept ≡ k.bytes) (tells : Tells old new options kept judged result) where
+module _ (old new : Option (List ℕ)) (options : Options) (given : Option (List ℕ)) (judged : JudgedFacts) (result : Result Totals Fault)
+    (k : IsOutcomeOfAll options given judged) (tells : Tells old new options k.bytes judged result) where
   -- a run on the input, whose outcome is this one
   abbrev pub RunsOn : Option (List ℕ) → Totals → Type 0
   RunsOn known totals = (run : HasRun options known old new totals) × (run.outcome ≡ judged.outcome) × (run.bytes ≡ k.bytes)
@@ -281,7 +276,7 @@ module _ (old new : Option (List ℕ)) (options : Options) (given : Option (List
 
   run_on : (policy : PolicyFacts) (packets : List PacketFacts) (read : IsRead k.bytes policy packets judged.outcome.captures)
       → IsReached options policy packets judged.outcome.captures judged → (known : Option (List ℕ)) → AreKnown known k.bytes → IfOk result (RunsOnPackets policy packets known)
-  run_on policy packets read reached known is = go result (tells k.bytes policy packets same read)
+  run_on policy packets read reached known is = go result (tells policy packets read)
     where
       go : (r : Result Totals Fault) → IfOk r (HasReport options k.bytes policy packets judged old new) → IfOk r (RunsOnPackets policy packets known)
       go (Ok totals) w = (
@@ -314,14 +309,6 @@ module _ (old new : Option (List ℕ)) (options : Options) (given : Option (List
   ran = go result (run_on k.answers.ok.policy k.answers.ok.packets k.answers.ok.read k.answers.ok.reached given k.known)
     where
       go : (r : Result Totals Fault) → IfOk r (RunsOnPackets k.answers.ok.policy k.answers.ok.packets given) → IfOk r (RunsOn given)
-      go (Ok totals) is = is.0
-      go (Err fault) is = tt
-
-  -- the report on what was reached was written, or a device failed
-  pub has_run : IfOk result (HasRun options given old new)
-  has_run = go result ran
-    where
-      go : (r : Result Totals Fault) → IfOk r (RunsOn given) → IfOk r (HasRun options given old new)
       go (Ok totals) is = is.0
       go (Err fault) is = tt
 

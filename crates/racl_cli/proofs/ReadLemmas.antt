@@ -12,7 +12,7 @@ use Rattle.racl_io.specs.Faults.{IsInputFault, IsSystemFault}
 use Rattle.racl_io.specs.Transfers.{GaveAtMost, HasRead, HasReadWithin, failures_after_reads}
 use Rattle.racl_io.proofs.TransferLemmas.{gave_more}
 use Rattle.racl_io.specs.Inputs.{most_bytes}
-use Rattle.racl_cli.specs.Reads.{AnswersInput, AnswersRead, AreKnown, HasKept, HasRest, IsOutcomeOfAll, IsUnread}
+use Rattle.racl_cli.specs.Reads.{AnswersInput, AnswersRead, AreKnown, HasRest, IsOutcomeOfAll, IsUnread}
 use Rattle.racl_cli.specs.Runs.{HasOutcome}
 use Rattle.racl_report.specs.RunReports.{JudgedFacts, Outcome}
 use Rattle.racl_cli.proofs.RunLemmas.{IsWhole, device_or, excluded_by_input, fault_of_input, no_device, steady}
@@ -178,50 +178,10 @@ unwritten options given fault (inl (other, same, inr (inl failed))) write = let 
 unwritten options given fault (inl (other, same, inr (inr (large, many)))) write = let f : ⊥ = cc in f
 unwritten options given fault (inr whole) write = (no_device options whole.read fault whole.answers).1 write
 
--- ---- bytes that are read once more
-
-known_as : (given : Option (List ℕ)) (bytes kept : List ℕ) → AreKnown given kept → bytes ≡ kept → AreKnown given bytes
-known_as None bytes kept known same = tt
-known_as (Some all) bytes kept known same = same ∙ known
-
--- where nothing is kept
+-- what is answered right is the outcome of all bytes
 pub all_judged : (options : Options) (given : Option (List ℕ)) (result : Result JudgedFacts Fault) → AnswersRead options [] given result
     → IfOk result (IsOutcomeOfAll options given)
 all_judged options given (Ok outcome) answers =
     let r = outcome_read options given outcome answers in
     record { bytes = r.bytes; known = r.whole.whole; few = r.whole.few; answers = r.answers }
 all_judged options given (Err fault) answers = tt
-
--- what was kept is all
-pub kept_all : (options : Options) (given : Option (List ℕ)) (kept : List ℕ) (result : Result JudgedFacts Fault) → AreKnown given kept
-    → AnswersRead options [] (Some kept) result → IfOk result (HasKept options given kept)
-kept_all options given kept (Ok outcome) known answers =
-    let r = outcome_read options (Some kept) outcome answers in
-    record {
-      all = record { bytes = r.bytes; known = known_as given r.bytes kept known r.whole.whole; few = r.whole.few; answers = r.answers };
-      same = sym r.whole.whole;
-    }
-kept_all options given kept (Err fault) known answers = tt
-
--- and is answered as the source's bytes are
-pub answers_again : (options : Options) (given : Option (List ℕ)) (kept : List ℕ) (result : Result JudgedFacts Fault) → AreKnown given kept
-    → AnswersRead options [] (Some kept) result → AnswersRead options [] given result
-answers_again options given kept result known (inl (fault, same, inl memory)) = inl (fault, same, inl memory)
-answers_again options given kept result known (inl (fault, same, inr (inl failed))) = inl (fault, same, inr (inl failed))
-answers_again options None kept result known (inl (fault, same, inr (inr (large, many)))) = inl (fault, same, inr (inr (large, tt)))
-answers_again options (Some all) kept result known (inl (fault, same, inr (inr (large, many)))) =
-    inl (fault, same, inr (inr (large, subst (λ (b : List ℕ). most_bytes < 0 + length b) known many)))
-answers_again options given kept result known (inr whole) =
-    inr (record { read = whole.read; known = known_as given whole.read kept known whole.known; few = whole.few; answers = whole.answers })
-
--- reading them never fails
-pub sound_again : (before after : ℕ) (result : Result JudgedFacts Fault) → after ≡ before → 0 ≡ failures_after_reads 0 result
-    → after ≡ failures_after_reads before result
-sound_again before after (Ok outcome) same never = same
-sound_again before after (Err fault) same never =
-    same ∙ sym (steady JudgedFacts before fault (λ is. absurd (let f : 0 ≡ 0 + 1 = subst (λ e. 0 ≡ failures_after_reads {X = JudgedFacts} 0 (Err e)) is never in omega arith)))
-
--- all that the source had is kept
-pub known_kept : (before after : Option (List ℕ)) (old kept : List ℕ) → old ≡ [] → HasRest before after old kept → AreKnown before kept
-known_kept before after old kept empty rest =
-    known_as before kept rest.read (all_known before after rest.read rest.consumed rest.ended) (rest.appended ∙ ap (λ (b : List ℕ). b ++ rest.read) empty)

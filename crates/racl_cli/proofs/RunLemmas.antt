@@ -1,5 +1,5 @@
 -- The faults of an input are those of its parts.
-use Rattle.std.proofs.Common.{◌≡◌, ◌≢◌, ◌≤◌, ◌∙◌, ◌⊎◌, ℕ, List, [], ◌∷◌, Option, Some, None, IfSome, Result, Ok, Err, length, arith, refl, sym, ap, subst, inl, inr}
+use Rattle.std.proofs.Common.{◌≡◌, ◌≢◌, ◌≤◌, ◌∙◌, ◌⊎◌, ℕ, List, [], ◌∷◌, Option, Some, None, IfErr, IfSome, Result, Ok, Err, length, arith, refl, sym, ap, subst, inl, inr}
 use Rattle.acl_policy.specs.Policies.{IsPolicyFault, IsPolicyText, PolicyFacts}
 use Rattle.acl_policy.specs.declared.policy.PolicyFault.{PolicyFault}
 use Rattle.acl_policy.specs.declared.policy.PolicyFault.TheVariants as policy
@@ -16,7 +16,6 @@ use Rattle.racl_options.specs.declared.settings.Options.{Options}
 use Rattle.packet_view.specs.declared.capture.CaptureFault.{CaptureFault}
 use Rattle.packet_view.specs.declared.capture.CaptureFault.TheVariants as capture
 use Rattle.racl_cli.specs.Reads.{AnswersInput}
-use Rattle.racl_report.specs.RunReports.{JudgedFacts}
 
 -- where the parts are known, the input has no fault but theirs
 pub fault_of_known_parts : (bytes : List ℕ) (parts : InputFacts) (fault : Fault) → IsInput bytes parts → IsFaultOfBytes bytes fault → IsFaultOfParts parts fault
@@ -148,8 +147,8 @@ steady X n LinkType other = refl
 steady X n (LongRecord number) other = refl
 
 -- a source from which nothing is read answers what the bytes do
-pub within_unread : {R : Type 0} (left : R → Option (List ℕ)) (failures : R → ℕ) (most : ℕ) (source : R) (options : Options) (bytes : List ℕ)
-    (result : Result JudgedFacts Fault) → AnswersInput options bytes result → HasReadWithin left failures most source source result
-within_unread left failures most source options bytes (Ok outcome) answers = record { gave = gave_none (left source) most; failed = refl }
-within_unread left failures most source options bytes (Err fault) answers =
-    record { gave = gave_none (left source) most; failed = sym (steady JudgedFacts (failures source) fault (no_device options bytes fault answers).0) }
+pub within_unread : {R X : Type 0} (left : R → Option (List ℕ)) (failures : R → ℕ) (most : ℕ) (source : R) (options : Options) (bytes : List ℕ)
+    (result : Result X Fault) → IfErr result (λ fault. AnswersInput options bytes (Err fault)) → HasReadWithin left failures most source source result
+within_unread {X = X} left failures most source options bytes (Ok met) answers = record { gave = gave_none (left source) most; failed = refl }
+within_unread {X = X} left failures most source options bytes (Err fault) answers =
+    record { gave = gave_none (left source) most; failed = sym (steady X (failures source) fault (no_device options bytes fault answers).0) }

@@ -1,5 +1,5 @@
 -- What is answered of an input that is read, and what stands before the records of its captures.
-use Rattle.std.specs.Prelude.{◌≡◌, ◌≢◌, ◌+◌, ◌<◌, ◌≤◌, ◌⊎◌, ◌++◌, ℕ, Bool, true, List, [], ◌∷◌, Option, None, IfSome, IfOk, IfErr, MatchResult, Result, Ok, Err, drop, length}
+use Rattle.std.specs.Prelude.{◌≡◌, ◌≢◌, ◌+◌, ◌<◌, ◌≤◌, ◌⊎◌, ◌++◌, ℕ, Bool, true, false, List, [], ◌∷◌, Option, None, IfSome, IfOk, IfErr, MatchResult, Result, Ok, Err, drop, length, take}
 use Rattle.std.specs.Io.KnownBytes.{Consumes, IsAtEnd}
 use Rattle.packet_view.specs.Captures.{AreRecords, HasFileHeader, IsEnd, IsHeaderFault, PacketFacts, RecordFacts, end_of, packets_at}
 use Rattle.packet_view.specs.declared.capture.CaptureFault.{CaptureFault}
@@ -21,11 +21,13 @@ use Rattle.capture_stream.specs.declared.stream_judging.Opening.{Opening}
 use Rattle.racl_cli.specs.declared.input_front.Headed.{Headed}
 use Rattle.racl_cli.specs.declared.input_front.Marked.{Marked}
 use Rattle.racl_cli.specs.declared.input_front.Opened.{Opened}
-use Rattle.racl_cli.specs.declared.input_front.Opened.TheVariants.{Bytes, Digits}
+use Rattle.racl_cli.specs.declared.input_front.Opened.TheVariants.{Bytes, Whole}
 use Rattle.racl_cli.specs.declared.input_front.Front.{Front}
 use Rattle.racl_cli.specs.Runs.{AgeInTime, AreStoredOf, ByOneThread, ByWorkers, keeps_stored, layout_for}
+use Rattle.racl_report.specs.KeptInputs.{KeepsWhere}
 use Rattle.racl_report.specs.ReadInputs.{IsRead, told_of}
 use Rattle.racl_report.specs.RunReports.{JudgedFacts}
+use Rattle.racl_report.specs.declared.kept_input.Kept.{Kept}
 
 -- ---- what is answered of the bytes of an input
 
@@ -64,10 +66,10 @@ pub record IsOutcomeOfAll (options : Options) (given : Option (List ℕ)) (judge
   pub few : length bytes ≤ most_bytes
   pub answers : AnswersInput options bytes (Ok judged)
 
--- and these are kept
-pub record HasKept (options : Options) (given : Option (List ℕ)) (kept : List ℕ) (judged : JudgedFacts) : Type 0 where
-  pub all : IsOutcomeOfAll options given judged
-  pub same : kept ≡ all.bytes
+-- and this is kept of them, where it is asked for
+pub record HasMet (options : Options) (keeps : Bool) (given : Option (List ℕ)) (met : JudgedFacts × Option Kept) : Type 0 where
+  pub all : IsOutcomeOfAll options given met.0
+  pub kept : KeepsWhere keeps all.bytes met.1
 
 -- memory ran out, reading failed, or there are too many bytes after so many
 abbrev pub IsUnread : ℕ → Option (List ℕ) → Fault → Type 0
@@ -119,28 +121,28 @@ pub record HasHeaded (options : Options) (bytes : List ℕ) (headed : Headed) : 
   pub within : headed.from ≤ length bytes
   pub behind : drop headed.from bytes ≡ drop 24 parts.content
 
--- the bytes begin with a right policy and a marker line of digits, and what follows begins at its place
+-- the bytes begin with a right policy and a marker line of this form, and the policy ends and what follows begins at their places
 pub record HasMarked (options : Options) (bytes : List ℕ) (marked : Marked) : Type 0 where
   pub parts : InputFacts
   pub parted : IsInput bytes parts
   pub policy : IsSaid parts.policy (policy_facts marked.filter.policy)
   pub times : marked.filter.times ≡ options.times
   pub form : parts.form ≡ marked.form
-  pub digits : marked.form ≢ Binary
-  pub within : marked.from ≤ length bytes
+  pub text : take marked.text bytes ≡ parts.policy
+  pub within : (marked.text ≤ length bytes) × (marked.from ≤ length bytes)
   pub content : drop marked.from bytes ≡ parts.content
 
-abbrev pub HasOpened : Options → List ℕ → Opened → Type 0
-HasOpened options bytes (Bytes headed) = HasHeaded options bytes headed
-HasOpened options bytes (Digits marked) = HasMarked options bytes marked
+abbrev pub HasOpened : Options → Bool → List ℕ → Opened → Type 0
+HasOpened options keeps bytes (Bytes headed) = (keeps ≡ false) × HasHeaded options bytes headed
+HasOpened options keeps bytes (Whole marked) = HasMarked options bytes marked
 
--- the source gave these bytes, which have all digits, and they begin so
-pub record HasFront (options : Options) (before after : Option (List ℕ)) (front : Front) : Type 0 where
+-- the source gave these bytes, all but records that aren't kept, and they begin so
+pub record HasFront (options : Options) (keeps : Bool) (before after : Option (List ℕ)) (front : Front) : Type 0 where
   pub consumed : Consumes before after front.bytes.items
   pub few : length front.bytes.items ≤ most_bytes
   pub ended : front.ended ≡ true → IsAtEnd after
-  pub whole : (marked : Marked) → front.opened ≡ Digits marked → front.ended ≡ true
-  pub opened : HasOpened options front.bytes.items front.opened
+  pub whole : (marked : Marked) → front.opened ≡ Whole marked → front.ended ≡ true
+  pub opened : HasOpened options keeps front.bytes.items front.opened
 
 -- ---- the records
 

@@ -1,7 +1,8 @@
 //! What stands before the packets of an input.
-ghost use Rattle.std.specs.Prelude.{◌≡◌, ◌+◌, ◌-◌, ◌<◌, ◌^◌, [], true, IfErr, IfOk, OnOk, Err, length};
+ghost use Rattle.std.specs.Prelude.{◌≡◌, ◌+◌, ◌-◌, ◌<◌, ◌^◌, [], true, IfErr, IfOk, IfSome, OnOk, Err, length};
 ghost use Rattle.racl_io.specs.Inputs.{most_bytes};
 ghost use Rattle.racl_io.specs.Transfers.{HasReadWithin};
+ghost use Rattle.racl_cli.specs.declared.input_front.Opened.TheVariants.{Bytes};
 ghost use Rattle.racl_cli.specs.Reads.{AnswersInput, AnswersRead, HasFront, HasOpened, HasRest, IsUnread};
 
 use crate::run_plan::front_bytes;
@@ -12,7 +13,7 @@ use racl_io::{Fault, Form, MOST_BYTES, Source, read_until, split_input};
 use racl_options::Options;
 use std::alloc::Global;
 
-/// What stands before the records of a capture that an input has as it is.
+/// What stands before the records of a capture that an input has as it is, and that is judged while it is read.
 #[derive(Drop)]
 pub struct Headed {
     pub filter: Filter,
@@ -22,10 +23,12 @@ pub struct Headed {
     pub from: usize,
 }
 
-/// What stands before captures that an input has as digits.
+/// What stands before captures that are judged when all of the input was read.
 #[derive(Drop)]
 pub struct Marked {
     pub filter: Filter,
+    /// Where the policy's text ends in the input.
+    pub text: usize,
     /// How the first marker line says that they are written.
     pub form: Form,
     /// Where what follows its marker line begins in the input.
@@ -35,16 +38,21 @@ pub struct Marked {
 /// What stands before the packets of an input.
 #[derive(Drop)]
 pub enum Opened {
-    /// A capture as it is.
+    /// A capture as it is, of which nothing is kept.
     Bytes(Headed),
-    /// Captures as digits: one that has no number, or one or several with numbers.
-    Digits(Marked),
+    /// One of which all is kept, or captures as digits: one that has no number, or one or several with numbers.
+    Whole(Marked),
 }
 
 /// What stands before the packets of the input that these bytes are, or that they are the front of; or the fault that they
-/// have before them.
-pub fn open_input(alloc: Global, options: &Options, bytes: &[u8]) -> Result<Opened, Fault>
-    ensures ok { IfOk result (HasOpened options.now bytes.now) }
+/// have before them. A capture as it is isn't looked at where it is kept.
+pub fn open_input(
+    alloc: Global,
+    options: &Options,
+    keeps: bool,
+    bytes: &[u8],
+) -> Result<Opened, Fault>
+    ensures ok { IfOk result (HasOpened options.now keeps bytes.now) }
     ensures fault { IfErr result (λ fault. AnswersInput options.now bytes.now (Err fault)) }
 {
     let Some(input) = split_input(bytes) else {
@@ -55,24 +63,21 @@ pub fn open_input(alloc: Global, options: &Options, bytes: &[u8]) -> Result<Open
         policy,
         times: options.times,
     };
+    let from = bytes.len() - input.content.len();
     match input.form {
-        Form::Binary => {
+        Form::Binary if !keeps => {
             let order = capture_header(input.content)?;
             Ok(Opened::Bytes(Headed {
                 filter,
                 order,
-                from: bytes.len() - input.content.len() + 24,
+                from: from + 24,
             }))
         }
-        Form::Hexadecimal => Ok(Opened::Digits(Marked {
+        form => Ok(Opened::Whole(Marked {
             filter,
-            form: input.form,
-            from: bytes.len() - input.content.len(),
-        })),
-        Form::Numbered(_) => Ok(Opened::Digits(Marked {
-            filter,
-            form: input.form,
-            from: bytes.len() - input.content.len(),
+            text: input.policy.len(),
+            form,
+            from,
         })),
     }
 }
@@ -88,13 +93,13 @@ pub struct Front {
 }
 
 // The front of an input of which all was read.
-fn open_whole(alloc: Global, options: &Options, bytes: Vec<u8>) -> Result<Front, Fault>
+fn open_whole(alloc: Global, options: &Options, keeps: bool, bytes: Vec<u8>) -> Result<Front, Fault>
     ensures bytes { IfOk result (λ front. front.bytes ≡ bytes) }
     ensures ended { IfOk result (λ front. front.ended ≡ true) }
-    ensures opened { IfOk result (λ front. HasOpened options.now bytes.items front.opened) }
+    ensures opened { IfOk result (λ front. HasOpened options.now keeps bytes.items front.opened) }
     ensures fault { IfErr result (λ fault. AnswersInput options.now bytes.items (Err fault)) }
 {
-    match open_input(alloc, options, &bytes) {
+    match open_input(alloc, options, keeps, &bytes) {
         Ok(opened) => Ok(Front {
             bytes,
             ended: true,
@@ -118,14 +123,29 @@ pub fn read_behind_front<R: Source>(reader: &mut R, bytes: &mut Vec<u8>) -> Resu
     }
 }
 
-/// Reads the front of an input, up to records of a capture as it is: or all of it where that has a fault, or captures as digits.
+// What stands before records at the front of an input that are judged while the rest is read, where these bytes begin so.
+fn open_front(alloc: Global, options: &Options, keeps: bool, bytes: &[u8]) -> Option<Headed>
+    ensures { IfSome result (λ headed. HasOpened options.now keeps bytes.now (Bytes headed)) }
+{
+    if keeps {
+        return None;
+    }
+    match open_input(alloc, options, keeps, bytes) {
+        Ok(Opened::Bytes(headed)) => Some(headed),
+        _ => None,
+    }
+}
+
+/// Reads the front of an input, up to records of a capture as it is: or all of it where it is kept, or where it has a fault
+/// there, or captures as digits.
 pub fn open_source<R: Source>(
     alloc: Global,
     options: &Options,
+    keeps: bool,
     reader: &mut R,
 ) -> Result<Front, Fault>
     requires { R.failures reader.old < 2 ^ 64 - 1 }
-    ensures ok { IfOk result (HasFront options.now (R.bytes reader.old) (R.bytes reader.new)) }
+    ensures ok { IfOk result (HasFront options.now keeps (R.bytes reader.old) (R.bytes reader.new)) }
     ensures fault { IfErr result (λ fault. AnswersRead options.now [] (R.bytes reader.old) (Err fault)) }
     ensures within { HasReadWithin R.bytes R.failures (most_bytes + 1) reader.old reader.new result }
 {
@@ -135,9 +155,9 @@ pub fn open_source<R: Source>(
         Err(fault) => return Err(fault),
     };
     if ended {
-        return open_whole(alloc, options, bytes);
+        return open_whole(alloc, options, keeps, bytes);
     }
-    if let Ok(Opened::Bytes(headed)) = open_input(alloc, options, &bytes) {
+    if let Some(headed) = open_front(alloc, options, keeps, &bytes) {
         return Ok(Front {
             bytes,
             ended,
@@ -145,7 +165,7 @@ pub fn open_source<R: Source>(
         });
     }
     match read_behind_front(reader, &mut bytes) {
-        Ok(()) => open_whole(alloc, options, bytes),
+        Ok(()) => open_whole(alloc, options, keeps, bytes),
         Err(fault) => Err(fault),
     }
 }

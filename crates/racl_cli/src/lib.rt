@@ -2,17 +2,18 @@
 //! capture in, a verdict on each packet out. The program around it is the crate `racl`.
 #![tactic(auto)]
 
-mod bytes_at_hand;
 mod capture_header_reading;
+mod captures_at_hand;
 mod counted_judging;
 mod diff_input;
 mod diff_run;
-mod digit_captures_in_turn;
+mod digit_captures;
 mod ended_workers;
 mod input_front;
 mod judge_by_plan;
 mod live_run;
 mod live_saves;
+mod no_file;
 mod open_gate;
 mod run_laws;
 mod run_plan;

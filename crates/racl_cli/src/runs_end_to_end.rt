@@ -5,39 +5,41 @@ ghost use Rattle.racl_io.specs.Faults.{IsInputFault, IsSystemFault, RefusesRead}
 ghost use Rattle.racl_io.specs.Inputs.{most_bytes};
 ghost use Rattle.racl_io.specs.Transfers.{GaveAtMost, HasReadWithin};
 ghost use Rattle.racl_report.specs.Saves.{failures_of};
-ghost use Rattle.racl_cli.specs.Reads.{AnswersRead, HasKept};
+ghost use Rattle.racl_cli.specs.Reads.{AnswersRead, HasMet};
 ghost use Rattle.racl_cli.specs.Runs.{AnswersRight, HasRun};
 ghost use Rattle.racl_cli.specs.SavingRuns.{HasRunSaving, failures_in_all};
 
-use crate::bytes_at_hand::AtHand;
-use crate::digit_captures_in_turn::judge_digit_captures;
-use crate::input_front::{Front, Headed, Opened, open_source, read_behind_front};
+use crate::captures_at_hand::judge_at_hand;
+use crate::input_front::{Front, Headed, Opened, open_source};
 use crate::judge_by_plan::judge_records;
+use crate::no_file::NoFile;
 use crate::run_plan::threads_beside;
 use capture_stream::Opening;
 use racl_io::{Fault, Sink, Source, Totals};
 use racl_options::Options;
-use racl_report::{Judged, Saves, needs_bytes, save_packets, write_judged, write_plain};
+use racl_report::{Judged, Kept, Saves, keeps_input, save_packets, write_judged};
 use std::alloc::Global;
 use std::sync::Wait;
 use std::thread::Threads;
 
-// What the packets met of an input that a run reads from its front to its end.
+// What the packets met of an input that a run reads from its front to its end, and what is kept of it, where that is asked for.
 fn judge_source<R: Source + Send, T: Threads + Wait + Sync>(
     rt: &T,
     alloc: Global,
     options: &Options,
+    keeps: bool,
     reader: &mut R,
-) -> Result<Judged, Fault>
+) -> Result<(Judged, Option<Kept>), Fault>
     requires { R.failures reader.old < 2 ^ 64 - 1 }
-    ensures answers { AnswersRead options.now [] (R.bytes reader.old) result }
+    ensures ok { IfOk result (HasMet options.now keeps (R.bytes reader.old)) }
+    ensures fault { IfErr result (λ fault. AnswersRead options.now [] (R.bytes reader.old) (Err fault)) }
     ensures within { HasReadWithin R.bytes R.failures (most_bytes + 1) reader.old reader.new result }
 {
     let Front {
         bytes,
         ended,
         opened,
-    } = match open_source(alloc, options, reader) {
+    } = match open_source(alloc, options, keeps, reader) {
         Ok(front) => front,
         Err(fault) => return Err(fault),
     };
@@ -49,40 +51,16 @@ fn judge_source<R: Source + Send, T: Threads + Wait + Sync>(
                 from,
             } = headed;
             let opening = Opening::new(bytes, from, order, 0, ended);
-            judge_records(rt, alloc, options, reader, &filter, opening)
+            match judge_records(rt, alloc, options, reader, &filter, opening) {
+                Ok(judged) => Ok((judged, None)),
+                Err(fault) => Err(fault),
+            }
         }
-        Opened::Digits(marked) => judge_digit_captures(rt, alloc, options, &bytes, marked),
+        Opened::Whole(marked) => match judge_at_hand(rt, alloc, options, bytes, marked) {
+            Ok((judged, kept)) => Ok((judged, Some(kept))),
+            Err(fault) => Err(fault),
+        },
     }
-}
-
-// A run on an input whose bytes are read to the end, and kept, before it is judged: what its packets met.
-fn judge_kept<R: Source + Send, T: Threads + Wait + Sync>(
-    rt: &T,
-    alloc: Global,
-    options: &Options,
-    reader: &mut R,
-    kept: &mut Vec<u8>,
-) -> Result<Judged, Fault>
-    requires sound { R.failures reader.old < 2 ^ 64 - 1 }
-    requires empty { kept.old.items ≡ [] }
-    ensures kept { IfOk result (HasKept options.now (R.bytes reader.old) kept.new.items) }
-    ensures answers { AnswersRead options.now [] (R.bytes reader.old) result }
-    ensures within { HasReadWithin R.bytes R.failures (most_bytes + 1) reader.old reader.new result }
-{
-    match read_behind_front(reader, kept) {
-        Ok(()) => {
-            let mut again = AtHand {
-                left: kept.as_slice(),
-            };
-            judge_source(rt, alloc, options, &mut again)
-        }
-        Err(fault) => Err(fault),
-    }
-}
-
-// Whose threads a run may take beside this one, from end to end: nobody's where the options ask for one worker.
-fn threads_for<'a, T>(rt: &'a T, options: &Options) -> Option<&'a T> {
-    threads_beside(rt, options.workers > 1)
 }
 
 /// Reads an input, filters its captures by its policy, and writes the report.
@@ -118,24 +96,11 @@ pub fn run<R: Source + Send, W: Sink, T: Threads + Wait + Sync>(
     ensures steady { result ≢ Err Fault.Write → W.failures writer.new ≡ W.failures writer.old }
     ensures unwritten { IfErr result (λ fault. fault ≢ Fault.Write → writer.new ≡ writer.old) }
 {
-    if !needs_bytes(options) {
-        return match judge_source(rt, alloc, options, reader) {
-            Ok(judged) => write_plain(threads_for(rt, options), alloc, writer, options, &judged),
-            Err(fault) => Err(fault),
-        };
-    }
-    let mut bytes = Vec::new(alloc);
-    match judge_kept(rt, alloc, options, reader, &mut bytes) {
-        Ok(judged) => write_judged(
-            threads_for(rt, options),
-            alloc,
-            writer,
-            options,
-            &bytes,
-            &judged,
-        ),
-        Err(fault) => Err(fault),
-    }
+    let mut saves: Saves<NoFile> = Saves {
+        drops: None,
+        passes: None,
+    };
+    run_saving(rt, alloc, options, reader, writer, &mut saves)
 }
 
 /// A run from end to end: reads an input, filters its captures by its policy, and writes the report, as `run` does; and
@@ -169,23 +134,17 @@ pub fn run_saving<R: Source + Send, W: Sink, S: Sink, T: Threads + Wait + Sync>(
     ensures ordered { W.failures writer.new ≡ W.failures writer.old + 1 → saves.new ≡ saves.old }
     ensures unwritten { IfErr result (λ fault. fault ≢ Fault.Write → (writer.new ≡ writer.old) × (saves.new ≡ saves.old)) }
 {
-    let mut bytes = Vec::new(alloc);
-    let judged = match judge_kept(rt, alloc, options, reader, &mut bytes) {
-        Ok(judged) => judged,
+    let keeps = keeps_input(options, saves);
+    let (judged, kept) = match judge_source(rt, alloc, options, keeps, reader) {
+        Ok(met) => met,
         Err(fault) => return Err(fault),
     };
-    let totals = match write_judged(
-        threads_for(rt, options),
-        alloc,
-        writer,
-        options,
-        &bytes,
-        &judged,
-    ) {
+    let beside = threads_beside(rt, options.workers > 1);
+    let totals = match write_judged(beside, alloc, writer, options, &kept, &judged) {
         Ok(totals) => totals,
         Err(fault) => return Err(fault),
     };
-    match save_packets(&bytes, &judged.verdicts, saves) {
+    match save_packets(&kept, &judged.verdicts, saves) {
         Ok(()) => Ok(totals),
         Err(fault) => Err(fault),
     }

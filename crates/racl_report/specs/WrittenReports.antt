@@ -1,5 +1,5 @@
 -- What is written of an input whose packets were judged.
-use Rattle.std.specs.Prelude.{◌≡◌, ◌≢◌, ◌+◌, ◌++◌, ◌||◌, ◌⊎◌, ◌↔◌, ℕ, Bool, true, not, List, Option, Result, Err, IfErr}
+use Rattle.std.specs.Prelude.{◌≡◌, ◌≢◌, ◌+◌, ◌++◌, ◌||◌, ◌⊎◌, ◌↔◌, ℕ, Bool, not, List, Option, Result, Err, IfErr}
 use Rattle.std.specs.Io.KnownBytes.{Appends}
 use Rattle.packet_view.specs.Captures.{PacketFacts}
 use Rattle.acl_policy.specs.Policies.{PolicyFacts}
@@ -15,10 +15,6 @@ use Rattle.racl_report.specs.RunReports.{IsReport, JudgedFacts, sessions_behind}
 -- whether what is told of an input needs its bytes
 abbrev pub needs_bytes : Options → Bool
 needs_bytes options = options.hits || not (is_plain options.lines)
-
--- these bytes are those of the input, where they are needed
-abbrev pub MayTell : Options → List ℕ → List ℕ → Type 0
-MayTell options bytes input = needs_bytes options ≡ true → bytes ≡ input
 
 -- memory ran out before anything was written, or a write failed, once
 pub record EndsOnce {W X : Type 0} (failures : W → ℕ) (old new : W) (result : Result X Fault) : Type 0 where

@@ -1,2 +1,3 @@
-pub mod InputsAgain
 pub mod NumberedCaptures
+pub mod SavedCaptures
+pub mod ToldRuns

@@ -3,28 +3,27 @@ ghost use Rattle.std.specs.Prelude.{◌≡◌, ◌<◌, ◌-◌, ◌^◌, ℕ, L
 ghost use Rattle.packet_view.specs.Captures.{PacketFacts};
 ghost use Rattle.packet_view.specs.CheckedCaptures.{remaining};
 ghost use Rattle.acl_policy.specs.Policies.{IsPolicyText, PolicyFacts, policy_facts};
-ghost use Rattle.racl_io.specs.declared.totals_and_truncation.Captured as told;
 ghost use Rattle.racl_io.specs.Reports;
 ghost use Rattle.racl_views.specs.Hits.{AreHits};
 ghost use Rattle.racl_views.specs.Stored.{stored_facts};
 ghost use Rattle.racl_views.specs.RunEntries.{run_facts};
 ghost use Rattle.racl_report.specs.RunReports;
+ghost use Rattle.racl_report.specs.KeptInputs.{IsKeptWhere};
 ghost use Rattle.racl_report.specs.ReadInputs.{IsRead};
 ghost use Rattle.racl_report.specs.RunReports.{sessions_behind, told_facts};
 ghost use Rattle.racl_report.specs.WrittenReports;
-ghost use Rattle.racl_report.specs.WrittenReports.{EndsOnce, HasPlain, HasReport, MayTell};
-ghost use Rattle.racl_report.specs.inner.InputsAgain.{HasLines, IsAgain};
+ghost use Rattle.racl_report.specs.WrittenReports.{EndsOnce, HasPlain, HasReport};
+ghost use Rattle.racl_report.specs.inner.ToldRuns.{HasLines, HasTold};
 
-use crate::input_read_again::{Again, read_again};
 use crate::judged_packets::Judged;
-use acl_policy::Policy;
-use packet_view::Packets;
-use racl_io::{Captured, Fault, Sink, Totals, write_all, write_shown};
+use crate::kept_input::{Kept, KeptCaptures};
+use packet_view::{Packets, check_capture};
+use racl_io::{Fault, Sink, Totals, write_all, write_shown};
 use racl_options::{Lines, Options};
 use racl_views::{
     Run, StoredPairs, View, hits_text, packets_in, sessions_text, write_explained, write_objects,
 };
-use session_state::{Shown, Verdict};
+use session_state::Shown;
 use std::alloc::{AllocError, Global};
 use std::thread::Threads;
 
@@ -57,23 +56,16 @@ fn write_lines<W: Sink, T: Threads>(
 }
 
 // The run of which the report that is asked for tells.
-fn run_of<'a>(
-    policy: &'a Policy,
-    text: &'a [u8],
-    packets: Packets<'a>,
-    verdicts: &'a [Verdict],
-    captures: &'a [Captured],
-    shown: Shown,
-) -> Run<'a>
-    ensures { run_facts result ≡ told_facts (policy_facts policy.entry.now) text.entry.now (remaining packets.entry)
-        (record { verdicts = verdicts.entry.now; captures = captures.entry.now }) shown }
+fn run_of<'a>(kept: &'a Kept, packets: Packets<'a>, judged: &'a Judged, shown: Shown) -> Run<'a>
+    ensures run { run_facts result ≡ told_facts (policy_facts kept.entry.now.policy) kept.entry.now.text.items (remaining packets.entry) (judged.entry.now).outcome shown }
+    ensures counted { Reports.packets_in result.captures.now ≡ length result.verdicts.now }
 {
     Run {
-        policy,
-        text,
+        policy: &kept.policy,
+        text: &kept.text,
         packets,
-        verdicts,
-        captures,
+        verdicts: &judged.verdicts,
+        captures: &judged.captures,
         shown,
     }
 }
@@ -126,8 +118,8 @@ pub fn sessions_of(
     }
 }
 
-/// Writes a report of plain lines, and the sessions behind them where the options ask for these.
-pub fn write_plain<W: Sink, T: Threads>(
+// Writes a report of plain lines, and the sessions behind them where the options ask for these.
+fn write_plain<W: Sink, T: Threads>(
     beside: Option<&T>,
     alloc: Global,
     writer: &mut W,
@@ -153,35 +145,25 @@ pub fn write_plain<W: Sink, T: Threads>(
     Ok(totals)
 }
 
-// Writes the report that the options ask for, on what was judged of an input that was gone over once more.
-fn write_again<W: Sink, T: Threads>(
+// Writes the report that the options ask for, on a run whose sessions stood in the tables at the end.
+fn write_run<W: Sink, T: Threads>(
     beside: Option<&T>,
     alloc: Global,
     writer: &mut W,
     options: &Options,
-    again: &Again,
-    judged: &Judged,
+    run: Run<'_>,
+    stored: &StoredPairs,
 ) -> Result<Totals, Fault>
-    requires { W.failures writer.old < 2 ^ 64 - 1 }
-    ensures told { (input : List ℕ) (policy : PolicyFacts) (packets : List PacketFacts) → IsAgain input policy packets again.now
-        → IfOk result (HasReport options.now input policy packets judged.now (W.bytes writer.old) (W.bytes writer.new)) }
+    requires sound { W.failures writer.old < 2 ^ 64 - 1 }
+    requires counted { Reports.packets_in run.captures.now ≡ length run.verdicts.now }
+    ensures told { IsPolicyText run.entry.text.now (policy_facts run.entry.policy.now)
+        → IfOk result (HasTold options.now (run_facts run.entry) (stored_facts stored.now) (W.bytes writer.old) (W.bytes writer.new)) }
     ensures ends { EndsOnce W.failures writer.old writer.new result }
 {
-    let Ok(listed) = packets_in(alloc, &again.captures) else {
+    let Ok(hits) = hits_of(alloc, options, run, stored) else {
         return Err(Fault::Memory);
     };
-    let run = run_of(
-        &again.policy,
-        &again.text,
-        Packets::Slice(&listed),
-        &judged.verdicts,
-        &judged.captures,
-        options.shown,
-    );
-    let Ok(hits) = hits_of(alloc, options, run, &judged.stored) else {
-        return Err(Fault::Memory);
-    };
-    let Ok(sessions) = sessions_of(alloc, options, &judged.stored) else {
+    let Ok(sessions) = sessions_of(alloc, options, stored) else {
         return Err(Fault::Memory);
     };
     let totals = write_lines(beside, alloc, writer, options.lines, run)?;
@@ -190,27 +172,46 @@ fn write_again<W: Sink, T: Threads>(
     Ok(totals)
 }
 
-/// Writes the report that the options ask for, on what was judged of an input, whose bytes these are where they are
-/// needed.
+/// Writes the report that the options ask for, on what was judged of an input of which this is kept, where it is needed.
 pub fn write_judged<W: Sink, T: Threads>(
     beside: Option<&T>,
     alloc: Global,
     writer: &mut W,
     options: &Options,
-    bytes: &[u8],
+    kept: &Option<Kept>,
     judged: &Judged,
 ) -> Result<Totals, Fault>
     requires { W.failures writer.old < 2 ^ 64 - 1 }
-    ensures told { (input : List ℕ) (policy : PolicyFacts) (packets : List PacketFacts) → MayTell options.now bytes.now input
-        → IsRead input policy packets (judged.now).outcome.captures
+    ensures told { (input : List ℕ) (policy : PolicyFacts) (packets : List PacketFacts) → IsRead input policy packets (judged.now).outcome.captures
+        → IsKeptWhere (WrittenReports.needs_bytes options.now) input policy packets kept.now
         → IfOk result (HasReport options.now input policy packets judged.now (W.bytes writer.old) (W.bytes writer.new)) }
     ensures ends { EndsOnce W.failures writer.old writer.new result }
 {
     if !needs_bytes(options) {
         return write_plain(beside, alloc, writer, options, judged);
     }
-    match read_again(alloc, bytes) {
-        Ok(again) => write_again(beside, alloc, writer, options, &again, judged),
-        Err(_) => Err(Fault::Memory),
+    let Some(kept) = kept else {
+        return Err(Fault::Memory);
+    };
+    match &kept.captures {
+        KeptCaptures::Placed(placed) => {
+            let Ok(checked) = check_capture(placed.capture(), 0) else {
+                return Err(Fault::Memory);
+            };
+            let run = run_of(
+                kept,
+                Packets::Records(checked.records),
+                judged,
+                options.shown,
+            );
+            write_run(beside, alloc, writer, options, run, &judged.stored)
+        }
+        KeptCaptures::Decoded(captures) => {
+            let Ok(listed) = packets_in(alloc, captures) else {
+                return Err(Fault::Memory);
+            };
+            let run = run_of(kept, Packets::Slice(&listed), judged, options.shown);
+            write_run(beside, alloc, writer, options, run, &judged.stored)
+        }
     }
 }

@@ -3,16 +3,17 @@
 #![tactic(auto)]
 
 mod asked_report;
-mod input_read_again;
 mod judged_packets;
+mod kept_input;
 mod message_texts;
 mod program_ending;
 mod saved_packets;
 mod text_behind_totals;
 
-pub use asked_report::{needs_bytes, write_judged, write_plain};
+pub use asked_report::write_judged;
 pub use judged_packets::Judged;
+pub use kept_input::{Kept, KeptCaptures, PlacedCapture};
 pub use message_texts::{Ending, Hint, Message, Remark, Shortage, Unopened, shown_name};
 pub use program_ending::{ending, failure_ending, hint, remark, shortage, status, words_ending};
-pub use saved_packets::{Saves, save_packets};
+pub use saved_packets::{Saves, keeps_input, save_packets};
 pub use text_behind_totals::{Behind, behind_totals, write_behind};

@@ -14,7 +14,6 @@ mod reports;
 mod runs;
 mod saved;
 mod windows;
-mod windows_of_digits;
 
 // What tests of racl's crates answer where what they begin with was refused.
 fn racl_test_refused() -> Result<(), Fail> {

@@ -1,84 +1,44 @@
--- Captures as digits that are taken one after the other.
-use Rattle.std.specs.Prelude.{◌≡◌, ◌≢◌, ◌+◌, ◌≤◌, ◌++◌, ℕ, List, [], ◌∷◌, Some, length}
+-- Captures as digits, which are decoded one after the other.
+use Rattle.std.specs.Prelude.{◌≡◌, ◌++◌, ℕ, Bool, List, [], ◌∷◌, Option, Some}
 use Rattle.packet_view.specs.Captures.{IsCaptureAt, PacketFacts, end_of}
+use Rattle.acl_policy.specs.Policies.{IsAmong}
 use Rattle.racl_io.specs.declared.fault.Fault.{Fault}
-use Rattle.racl_io.specs.declared.marker_line.Numbered as mark
-use Rattle.racl_io.specs.declared.totals_and_truncation.Captured.{Captured}
 use Rattle.racl_io.specs.declared.marker_line.Form.{Form}
-use Rattle.racl_io.specs.declared.marker_line.Form.TheVariants.{Binary, Hexadecimal}
-use Rattle.racl_io.specs.Inputs.{AreCutDigits, IsContent, most_bytes, numbered_facts}
-use Rattle.capture_stream.specs.declared.stream_judging.Streamed.{Streamed}
-use Rattle.racl_cli.specs.declared.digit_captures_in_turn.Walk.{Walk}
-use Rattle.racl_cli.specs.declared.ended_workers.Ended.{Ended}
-use Rattle.racl_cli.specs.declared.sized_tables_and_workers.SizedWorkers.{SizedWorkers}
-use Rattle.racl_cli.specs.declared.workers_as_judges.Crew.{Crew}
-use Rattle.racl_cli.specs.Crews.{AreResting, AreSaidBy, orders_of}
-use Rattle.racl_report.specs.ReadInputs.{HasPackets, IsTaken}
-use Rattle.racl_report.specs.inner.NumberedCaptures.{AreTakenFrom, IsFaultFrom, facts_of, left_at}
+use Rattle.racl_io.specs.declared.marker_line.Form.TheVariants.{Hexadecimal}
+use Rattle.racl_io.specs.declared.marker_line.Numbered as mark
+use Rattle.racl_io.specs.Inputs.{AreCutDigits, IsContent, numbered_facts}
+use Rattle.racl_views.specs.CapturePackets.{HavePackets}
+use Rattle.racl_views.specs.declared.capture_bytes.CaptureBytes.{CaptureBytes}
+use Rattle.racl_report.specs.ReadInputs.{HasPackets, told_of}
+use Rattle.racl_report.specs.inner.NumberedCaptures.{IsFaultFrom, facts_of}
+use Rattle.racl_cli.specs.declared.digit_captures.Decoded.{Decoded}
+use Rattle.racl_cli.specs.declared.digit_captures.Walk.{Walk}
 
 -- the fault that captures have, of which this is the next one
 abbrev pub IsFaultAt : List ℕ → mark.Numbered → Fault → Type 0
 IsFaultAt seen capture fault = IsFaultFrom seen (Some (facts_of capture)) fault
 
--- workers at rest may judge the packets that these digits stand for
-pub record CanJudge {T : Type 0} (workers : SizedWorkers T) (digits : List ℕ) : Type 0 where
+-- the digits are a capture, taken at the interface with this number, which was decoded behind the others
+pub record HasDecoded (old : Decoded) (named : Option ℕ) (interface : ℕ) (digits : List ℕ) (new : Decoded) : Type 0 where
+  pub capture : CaptureBytes
+  pub at : capture.interface ≡ interface
+  pub spelt : IsContent Hexadecimal digits capture.bytes.items
   pub packets : List PacketFacts
-  pub rest : AreResting packets workers
-  pub few : length packets + length digits ≤ most_bytes
+  pub truncated : Bool
+  pub records : IsCaptureAt interface capture.bytes.items packets (end_of truncated)
+  pub captures : new.captures.items ≡ old.captures.items ++ capture ∷ []
+  pub told : new.told.items ≡ old.told.items ++ told_of named packets truncated ∷ []
 
--- the digits are a capture that was taken at the interface with this number, and they judged its packets behind those before
-pub record HaveJudgedDigits {T : Type 0} (old : SizedWorkers T) (interface : ℕ) (digits : List ℕ) (streamed : Streamed (Crew T)) : Type 0 where
-  pub capture : List ℕ
-  pub spelt : IsContent Hexadecimal digits capture
-  pub packets : List PacketFacts
-  pub records : IsCaptureAt interface capture packets (end_of streamed.truncated)
-  pub count : streamed.packets ≡ length packets
-  pub by : orders_of streamed.judges.workers ≡ orders_of old
-  pub rest : (before : List PacketFacts) → AreResting before old → AreResting (before ++ packets) streamed.judges.workers
-
--- workers at rest may judge this capture's packets
-pub record CanTake {T : Type 0} (walk : Walk T) (capture : mark.Numbered) : Type 0 where
-  pub packets : List PacketFacts
-  pub rest : AreResting packets walk.crew.workers
-  pub few : length packets + length capture.content.now ≤ most_bytes
-
--- this capture was taken, and its packets were judged
-pub record HasTaken {T : Type 0} (old : Walk T) (capture : mark.Numbered) (new : Walk T) : Type 0 where
+-- this capture was taken, the first of its interface
+pub record HasTaken (old : Walk) (capture : mark.Numbered) (new : Walk) : Type 0 where
   pub digits : List ℕ
   pub cut : AreCutDigits capture.content.now digits (numbered_facts new.next)
-  pub packets : List PacketFacts
-  pub captured : Captured
-  pub taken : IsTaken old.seen.items (record { interface = capture.interface; digits = digits }) packets captured
-  pub captures : new.captures.items ≡ old.captures.items ++ captured ∷ []
+  pub first : IsAmong capture.interface old.seen.items → ⊥
+  pub decoded : HasDecoded old.decoded (Some capture.interface) capture.interface digits new.decoded
   pub seen : new.seen.items ≡ capture.interface ∷ old.seen.items
-  pub by : orders_of new.crew.workers ≡ orders_of old.crew.workers
-  pub rest : (before : List PacketFacts) → AreResting before old.crew.workers → AreResting (before ++ packets) new.crew.workers
-  pub few : length packets + left_at (numbered_facts new.next) ≤ length capture.content.now
 
--- no capture was taken, and what follows isn't too much
-pub record MayTake {T : Type 0} (begun : Walk T) : Type 0 where
-  pub rest : AreResting [] begun.crew.workers
-  pub captures : begun.captures.items ≡ []
-  pub seen : begun.seen.items ≡ []
-  pub few : left_at (numbered_facts begun.next) ≤ most_bytes + 1
-
--- all captures were taken, and these are the verdicts on their packets, and the callers
-pub record HasTakenAll {T : Type 0} (begun : Walk T) (ended : Ended) : Type 0 where
+-- all captures were decoded that follow a marker line of this form
+pub record AreDecoded (form : Form) (content : List ℕ) (decoded : Decoded) : Type 0 where
   pub packets : List PacketFacts
-  pub taken : AreTakenFrom [] (numbered_facts begun.next) packets ended.captures.items
-  pub said : AreSaidBy (orders_of begun.crew.workers) packets ended.verdicts.items ended.callers
-
-abbrev pub IsFaultOfWalk : {T : Type 0} → Walk T → Fault → Type 0
-IsFaultOfWalk begun fault = IsFaultFrom [] (numbered_facts begun.next) fault
-
--- workers that judged no packet may judge those of captures as digits, which follow a marker line of this form
-pub record MayTakeDigits {T : Type 0} (workers : SizedWorkers T) (form : Form) (content : List ℕ) : Type 0 where
-  pub rest : AreResting [] workers
-  pub digits : form ≢ Binary
-  pub few : length content ≤ most_bytes
-
--- all captures that follow a marker line of this form were taken, and these are the verdicts on their packets, and the callers
-pub record HaveTakenDigits {T : Type 0} (workers : SizedWorkers T) (form : Form) (content : List ℕ) (ended : Ended) : Type 0 where
-  pub packets : List PacketFacts
-  pub taken : HasPackets form content packets ended.captures.items
-  pub said : AreSaidBy (orders_of workers) packets ended.verdicts.items ended.callers
+  pub taken : HasPackets form content packets decoded.told.items
+  pub have : HavePackets decoded.captures.items packets

@@ -1,5 +1,4 @@
 //! Digits of captures: the bytes that they stand for, and which bytes are no digits.
-use capture_stream::are_digits;
 use racl_io::{Fault, decode_digits};
 use std::test::Fail;
 
@@ -12,22 +11,4 @@ fn digits_stand_for_bytes(rt: HostRuntime) -> Result<(), Fail> {
     assert!(rt; decode_digits(alloc, b"d4c").err() == Some(Fault::Hex));
     assert!(rt; decode_digits(alloc, b"0x00").err() == Some(Fault::Hex));
     Ok(())
-}
-
-/// Digits that can be decoded in windows, and bytes that can't.
-#[test]
-fn digits_are_two_for_each_byte_and_blanks(rt: HostRuntime) {
-    for right in [b"".as_slice(), b" \t\r\n", b"d4", b"D 4c\n3", b"\n09aFAf"] {
-        assert!(rt; are_digits(right), "{right:?}");
-    }
-    for wrong in [
-        b"d".as_slice(),
-        b"d4 c",
-        b"d4 g3",
-        b"0x00",
-        b"d4c3:",
-        b"d4\x0bc3",
-    ] {
-        assert!(rt; !are_digits(wrong), "{wrong:?}");
-    }
 }

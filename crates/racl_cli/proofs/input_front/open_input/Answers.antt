@@ -1,10 +1,10 @@
-use Rattle.std.proofs.Common.{arith, refl, sym, subst}
+use Rattle.std.proofs.Common.{arith, refl, rules, sym, subst}
 use Rattle.std.proofs.lemmas.Result.{err_from_is_err_and}
 use Rattle.racl_io.specs.declared.marker_line.Form.{Form}
 use Rattle.racl_io.specs.declared.marker_line.Form.TheVariants.{Binary}
-use Rattle.racl_io.specs.Inputs.{IsContent, IsInput}
+use Rattle.racl_io.specs.Inputs.{IsContent, IsInput, input_facts}
 use Rattle.racl_report.proofs.CaptureLaws.{IsUnnumbered}
-use Rattle.racl_cli.proofs.OpenedLemmas.{capture_stands, content_behind, header_answers, records_behind_header, records_within_input}
+use Rattle.racl_cli.proofs.OpenedLemmas.{capture_stands, content_behind, header_answers, records_behind_header, records_within_input, text_before, text_within}
 use Rattle.racl_cli.proofs.OutcomeLemmas.{no_marker_answers, policy_answers}
 use Rattle.racl_cli.proofs.input_front.open_input.Goals as goal
 
@@ -34,46 +34,36 @@ returns-in_ok-order-in-Binary-clause-ok c =
     let header = c.in_ok-order-in-Binary.ensures in
     let parted : IsInput bytes (record { policy = input.policy.now; form = Binary; content = input.content.now }) =
     subst (λ (form : Form). IsInput bytes (record { policy = input.policy.now; form = form; content = input.content.now })) c.in-Binary.is c.in-Some.ensures.some in
-    let last = capture_stands input.policy.now input.content.now bytes header.ok.whole parted in
-    record {
-      parts = record { policy = input.policy.now; form = Binary; content = input.content.now };
-      parted = parted;
-      policy = record { says = c.in_ok-policy.ensures.ok; one = c.in_ok-policy.ensures.accepts; right = c.in_ok-policy.ensures.refuses };
-      times = refl;
-      form = refl;
-      header = record {
-        right = header.ok;
-        one = λ other right. let e = header.accepts other right in cc;
-        none = λ cause is. let e = header.refuses cause is in cc;
-      };
-      within = records_within_input bytes input.content.now last header.ok.whole;
-      behind = records_behind_header bytes input.content.now last;
-    }
+    let last = capture_stands input.policy.now input.content.now bytes header.ok.whole parted in (
+      search rules,
+      record {
+        parts = record { policy = input.policy.now; form = Binary; content = input.content.now };
+        parted = parted;
+        policy = record { says = c.in_ok-policy.ensures.ok; one = c.in_ok-policy.ensures.accepts; right = c.in_ok-policy.ensures.refuses };
+        times = refl;
+        form = refl;
+        header = record {
+          right = header.ok;
+          one = λ other right. let e = header.accepts other right in cc;
+          none = λ cause is. let e = header.refuses cause is in cc;
+        };
+        within = records_within_input bytes input.content.now last header.ok.whole;
+        behind = records_behind_header bytes input.content.now last;
+      },
+    )
 
-pub returns-in-Hexadecimal-clause-ok : goal.returns-in-Hexadecimal-clause-ok
-returns-in-Hexadecimal-clause-ok c =
+pub returns-in_default-form-clause-ok : goal.returns-in_default-form-clause-ok
+returns-in_default-form-clause-ok c =
     let input = c.in-Some.input in
+    let bytes = c.args.bytes.now in
+    let parts = input_facts input in
     record {
-      parts = record { policy = input.policy.now; form = input.form; content = input.content.now };
+      parts = parts;
       parted = c.in-Some.ensures.some;
       policy = record { says = c.in_ok-policy.ensures.ok; one = c.in_ok-policy.ensures.accepts; right = c.in_ok-policy.ensures.refuses };
       times = refl;
       form = refl;
-      digits = λ binary. let e = c.in-Hexadecimal.is in cc;
-      within = omega arith;
-      content = content_behind c.args.bytes.now _ c.in-Some.ensures.some;
-    }
-
-pub returns-in-Numbered-clause-ok : goal.returns-in-Numbered-clause-ok
-returns-in-Numbered-clause-ok c =
-    let input = c.in-Some.input in
-    record {
-      parts = record { policy = input.policy.now; form = input.form; content = input.content.now };
-      parted = c.in-Some.ensures.some;
-      policy = record { says = c.in_ok-policy.ensures.ok; one = c.in_ok-policy.ensures.accepts; right = c.in_ok-policy.ensures.refuses };
-      times = refl;
-      form = refl;
-      digits = λ binary. let e = c.in-Numbered.is in cc;
-      within = omega arith;
-      content = content_behind c.args.bytes.now _ c.in-Some.ensures.some;
+      text = text_before bytes parts c.in-Some.ensures.some;
+      within = (text_within bytes parts c.in-Some.ensures.some, omega arith);
+      content = content_behind bytes parts c.in-Some.ensures.some;
     }

@@ -1,8 +1,11 @@
-use Rattle.std.proofs.Common.{[], ap, refl, subst}
+use Rattle.std.proofs.Common.{◌≡◌, [], Err, Ok, ap, refl, subst}
+use Rattle.std.proofs.lemmas.Result.{IfErr-weaker, IfOk-weaker}
 use Rattle.capture_stream.specs.declared.stream_judging.Opening.{Opening}
-use Rattle.racl_cli.specs.Reads.{HasHeaded, HasOpened}
+use Rattle.racl_io.specs.Transfers.{failures_after_reads}
+use Rattle.racl_io.proofs.TransferLemmas.{within_of_err}
+use Rattle.racl_cli.specs.Reads.{HasOpened}
 use Rattle.racl_cli.proofs.OpenedLemmas.{stream_answers}
-use Rattle.racl_cli.proofs.ReadLemmas.{answers_more, within_more}
+use Rattle.racl_cli.proofs.ReadLemmas.{all_judged, answers_more, answers_whole, within_more}
 use Rattle.racl_cli.proofs.RunLemmas.{within_unread}
 use Rattle.racl_cli.proofs.runs_end_to_end.judge_source.Goals as goal
 
@@ -10,34 +13,84 @@ pub judge_records-requires-clause-may : goal.judge_records-requires-clause-may
 judge_records-requires-clause-may g c κs lives =
     let front = c.in-Ok.front in
     let has = c.in-Ok.ensures.ok in
-    let opened : HasHeaded c.args.options.now front.bytes.items c.in-Bytes.headed = subst (HasOpened c.args.options.now front.bytes.items) c.in-Bytes.is has.opened in
+    let opened = (subst (HasOpened c.args.options.now c.args.keeps front.bytes.items) c.in-Bytes.is has.opened).1 in
     rw c.new-opening.ensures.opening
     (record { same = opened.times; within = opened.within; few = has.few; ended = has.ended; unnamed = refl; found = c.new-opening.ensures.found })
 
-pub returns-in-Bytes-clause-answers : goal.returns-in-Bytes-clause-answers
-returns-in-Bytes-clause-answers g c =
+pub returns-in-Ok-judge_records-clause-ok : goal.returns-in-Ok-judge_records-clause-ok
+returns-in-Ok-judge_records-clause-ok g c =
+    let options = c.args.options.now in
     let front = c.in-Ok.front in
     let has = c.in-Ok.ensures.ok in
-    let headed = c.in-Bytes.headed in
-    let opened : HasHeaded c.args.options.now front.bytes.items headed = subst (HasOpened c.args.options.now front.bytes.items) c.in-Bytes.is has.opened in
-    answers_more c.args.options.now _ _ [] front.bytes.items c.judge_records.result has.consumed
-    (stream_answers c.args.options.now front.bytes.items headed
-    c.new-opening.result
+    let judged = c.in-Ok-judge_records.judged in
+    let opened = subst (HasOpened options c.args.keeps front.bytes.items) c.in-Bytes.is has.opened in
+    let answers =
+    answers_more options _ _ [] front.bytes.items (Ok judged) has.consumed
+    (stream_answers options front.bytes.items c.in-Bytes.headed c.new-opening.result
     (record {
       bytes = ap (λ (o : Opening). o.bytes.items) c.new-opening.ensures.opening;
       from = ap (λ (o : Opening). o.from) c.new-opening.ensures.opening;
       order = ap (λ (o : Opening). o.order) c.new-opening.ensures.opening;
       few = has.few;
-    }) opened _ _ c.judge_records.result c.judge_records.ensures.ok c.judge_records.ensures.fault)
+    }) opened.1 _ _ (Ok judged) c.in-Ok-judge_records.ensures.ok tt) in
+    record { all = all_judged options _ (Ok judged) answers; kept = opened.0 }
 
-pub returns-in-Bytes-clause-within : goal.returns-in-Bytes-clause-within
-returns-in-Bytes-clause-within g c =
+pub returns-in-Ok-judge_records-clause-within : goal.returns-in-Ok-judge_records-clause-within
+returns-in-Ok-judge_records-clause-within g c =
     let has = c.in-Ok.ensures.ok in
+    let within =
     within_more _ _ c.args.reader.now c.open_source.new.reader _ c.in-Ok.front.bytes.items c.judge_records.result has.consumed has.few
-    c.in-Ok.ensures.within.failed (rw c.new-opening.ensures.opening at c.judge_records.ensures.within)
+    c.in-Ok.ensures.within.failed (rw c.new-opening.ensures.opening at c.judge_records.ensures.within) in
+    let failures = g.R.Source.failures in
+    record {
+      gave = within.gave;
+      failed = subst (λ r. failures c.judge_records.new.reader ≡ failures_after_reads (failures c.args.reader.now) r) c.in-Ok-judge_records.is within.failed;
+    }
 
-pub returns-in-Digits-clause-within : goal.returns-in-Digits-clause-within
-returns-in-Digits-clause-within g c =
+pub returns-in-Err-judge_records-clause-fault : goal.returns-in-Err-judge_records-clause-fault
+returns-in-Err-judge_records-clause-fault g c =
+    let options = c.args.options.now in
+    let front = c.in-Ok.front in
     let has = c.in-Ok.ensures.ok in
-    within_more _ _ c.args.reader.now c.open_source.new.reader _ c.in-Ok.front.bytes.items c.judge_digit_captures.result has.consumed has.few
-    c.in-Ok.ensures.within.failed (within_unread _ _ _ c.open_source.new.reader c.args.options.now _ c.judge_digit_captures.result c.judge_digit_captures.ensures)
+    let fault = c.in-Err-judge_records.fault in
+    let opened = subst (HasOpened options c.args.keeps front.bytes.items) c.in-Bytes.is has.opened in
+    answers_more options _ _ [] front.bytes.items (Err fault) has.consumed
+    (stream_answers options front.bytes.items c.in-Bytes.headed c.new-opening.result
+    (record {
+      bytes = ap (λ (o : Opening). o.bytes.items) c.new-opening.ensures.opening;
+      from = ap (λ (o : Opening). o.from) c.new-opening.ensures.opening;
+      order = ap (λ (o : Opening). o.order) c.new-opening.ensures.opening;
+      few = has.few;
+    }) opened.1 _ _ (Err fault) tt c.in-Err-judge_records.ensures.fault)
+
+pub returns-in-Err-judge_records-clause-within : goal.returns-in-Err-judge_records-clause-within
+returns-in-Err-judge_records-clause-within g c =
+    let has = c.in-Ok.ensures.ok in
+    let within =
+    within_more _ _ c.args.reader.now c.open_source.new.reader _ c.in-Ok.front.bytes.items c.judge_records.result has.consumed has.few
+    c.in-Ok.ensures.within.failed (rw c.new-opening.ensures.opening at c.judge_records.ensures.within) in
+    within_of_err _ _ _ c.args.reader.now c.args.reader.now _ c.judge_records.result (Err c.in-Err-judge_records.fault) c.in-Err-judge_records.fault within.gave refl
+    c.in-Err-judge_records.is refl within.failed
+
+pub returns-in-Whole-clause-ok : goal.returns-in-Whole-clause-ok
+returns-in-Whole-clause-ok g c =
+    let options = c.args.options.now in
+    let has = c.in-Ok.ensures.ok in
+    let ended = has.ended (has.whole c.in-Whole.marked c.in-Whole.is) in
+    IfOk-weaker c.judge_at_hand.result _ _
+    (λ met is. record { all = all_judged options _ (Ok met.0) (answers_whole options _ _ c.in-Ok.front.bytes.items (Ok met.0) has.consumed ended has.few is.0); kept = is.1 })
+    c.judge_at_hand.ensures.ok
+
+pub returns-in-Whole-clause-fault : goal.returns-in-Whole-clause-fault
+returns-in-Whole-clause-fault g c =
+    let options = c.args.options.now in
+    let has = c.in-Ok.ensures.ok in
+    let ended = has.ended (has.whole c.in-Whole.marked c.in-Whole.is) in
+    IfErr-weaker c.judge_at_hand.result _ _ (λ fault answers. answers_whole options _ _ c.in-Ok.front.bytes.items (Err fault) has.consumed ended has.few answers)
+    c.judge_at_hand.ensures.fault
+
+pub returns-in-Whole-clause-within : goal.returns-in-Whole-clause-within
+returns-in-Whole-clause-within g c =
+    let has = c.in-Ok.ensures.ok in
+    within_more _ _ c.args.reader.now c.open_source.new.reader _ c.in-Ok.front.bytes.items c.judge_at_hand.result has.consumed has.few
+    c.in-Ok.ensures.within.failed (within_unread _ _ _ c.open_source.new.reader c.args.options.now _ c.judge_at_hand.result c.judge_at_hand.ensures.fault)
