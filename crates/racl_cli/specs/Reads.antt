@@ -1,6 +1,7 @@
 -- What is answered of an input that is read, and what stands before the records of its captures.
 use Rattle.std.specs.Prelude.{◌≡◌, ◌≢◌, ◌+◌, ◌<◌, ◌≤◌, ◌⊎◌, ◌++◌, ℕ, Bool, true, false, List, [], ◌∷◌, Option, None, IfSome, IfOk, IfErr, MatchResult, Result, Ok, Err, drop, length, take}
 use Rattle.std.specs.Io.KnownBytes.{Consumes, IsAtEnd}
+use Rattle.packet_view.specs.Bytes.{AreBytes}
 use Rattle.packet_view.specs.Captures.{AreRecords, HasFileHeader, IsEnd, IsHeaderFault, PacketFacts, RecordFacts, end_of, packets_at}
 use Rattle.packet_view.specs.declared.capture.CaptureFault.{CaptureFault}
 use Rattle.packet_view.specs.declared.capture.Order.{Order}
@@ -131,6 +132,7 @@ pub record HasMarked (options : Options) (bytes : List ℕ) (marked : Marked) : 
   pub text : take marked.text bytes ≡ parts.policy
   pub within : (marked.text ≤ length bytes) × (marked.from ≤ length bytes)
   pub content : drop marked.from bytes ≡ parts.content
+  pub fit : AreBytes bytes
 
 abbrev pub HasOpened : Options → Bool → List ℕ → Opened → Type 0
 HasOpened options keeps bytes (Bytes headed) = (keeps ≡ false) × HasHeaded options bytes headed

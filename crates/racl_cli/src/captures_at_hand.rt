@@ -43,7 +43,7 @@ fn judge_in_manner<T: Threads + Wait + Sync>(
     requires plan { IsPlanFor options.now manner }
     requires fits { length (remaining packets) < 2 ^ 64 }
     requires told { Reports.packets_in told.items ≡ length (remaining packets) }
-    ensures ok { IfOk result (IsReached options.now (policy_facts manner.entry.filter.now.policy.now) (remaining packets.entry) told.entry.items) }
+    ensures ok { IfOk result (IsReached options.now (policy_facts manner.entry.filter.now.policy.now) (remaining packets.entry) told.items) }
     ensures fault { IfErr result (λ fault. fault ≡ Memory) }
 {
     let Ok((tables, callers)) = create_sized(alloc, options.tables, options.ages) else {
@@ -79,7 +79,7 @@ fn judge_packets<T: Threads + Wait + Sync>(
 ) -> Result<Judged, Fault>
     requires times { filter.now.times ≡ options.now.times }
     requires told { Reports.packets_in told.items ≡ length (remaining packets) }
-    ensures ok { IfOk result (IsReached options.now (policy_facts filter.now.policy) (remaining packets.entry) told.entry.items) }
+    ensures ok { IfOk result (IsReached options.now (policy_facts filter.now.policy) (remaining packets.entry) told.items) }
     ensures fault { IfErr result (λ fault. fault ≡ Memory) }
 {
     let (expected, workers) = plan_for(options, true, packets.count());
@@ -134,7 +134,7 @@ fn judge_decoded<T: Threads + Wait + Sync>(
     requires times { filter.now.times ≡ options.now.times }
     requires told { (packets : List PacketFacts) × HavePackets captures.now packets × (Reports.packets_in told.items ≡ length packets) }
     ensures ok { IfOk result (λ judged. (packets : List PacketFacts) → HavePackets captures.now packets
-        → IsReached options.now (policy_facts filter.now.policy) packets told.entry.items judged) }
+        → IsReached options.now (policy_facts filter.now.policy) packets told.items judged) }
     ensures fault { IfErr result (λ fault. fault ≡ Memory) }
 {
     let Ok(listed) = packets_in(alloc, captures) else {

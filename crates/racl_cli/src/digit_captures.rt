@@ -50,7 +50,7 @@ fn decode_behind(
     interface: u8,
     digits: &[u8],
 ) -> Result<Decoded, Fault>
-    ensures ok { IfOk result (HasDecoded decoded.entry named.entry interface digits.now) }
+    ensures ok { IfOk result (HasDecoded decoded named interface digits.now) }
     ensures fault { IfErr result (λ fault. (fault ≡ Memory) ⊎ IsFaultOfOne Hexadecimal digits.now fault) }
 {
     let Decoded {
@@ -116,7 +116,10 @@ fn decode_each(alloc: Global, first: Numbered<'_>) -> Result<Decoded, Fault>
         next: Some(first),
     };
     'captures: while let Some(capture) = walk.next {
-        walk = decode_next(alloc, walk, capture)?;
+        walk = match decode_next(alloc, walk, capture) {
+            Ok(walk) => walk,
+            Err(fault) => return Err(fault),
+        };
     }
     let Walk { decoded, .. } = walk;
     Ok(decoded)

@@ -1,12 +1,12 @@
 //! A file for saved packets, of which there is none.
-ghost use Rattle.std.specs.Prelude.{◌≡◌};
+ghost use Rattle.std.specs.Prelude.{◌<◌};
 
 use racl_io::{DeviceFault, Sink};
 
 /// What stands for the files of a run that saves no packet: there is none.
 #[derive(Drop)]
 pub struct NoFile {
-    pub ghost never: { 0 ≡ 1 },
+    pub ghost never: { 1 < 0 },
 }
 
 impl Sink for NoFile {

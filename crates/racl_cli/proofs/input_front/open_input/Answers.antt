@@ -66,4 +66,5 @@ returns-in_default-form-clause-ok c =
       text = text_before bytes parts c.in-Some.ensures.some;
       within = (text_within bytes parts c.in-Some.ensures.some, omega arith);
       content = content_behind bytes parts c.in-Some.ensures.some;
+      fit = λ place. omega (arith, c.type_inv.bytes place);
     }

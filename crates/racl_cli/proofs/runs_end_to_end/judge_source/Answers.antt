@@ -1,11 +1,10 @@
-use Rattle.std.proofs.Common.{◌≡◌, [], Err, Ok, ap, refl, subst}
-use Rattle.std.proofs.lemmas.Result.{IfErr-weaker, IfOk-weaker}
+use Rattle.std.proofs.Common.{◌≡◌, [], Err, Ok, Some, ap, refl, subst}
 use Rattle.capture_stream.specs.declared.stream_judging.Opening.{Opening}
 use Rattle.racl_io.specs.Transfers.{failures_after_reads}
 use Rattle.racl_io.proofs.TransferLemmas.{within_of_err}
 use Rattle.racl_cli.specs.Reads.{HasOpened}
 use Rattle.racl_cli.proofs.OpenedLemmas.{stream_answers}
-use Rattle.racl_cli.proofs.ReadLemmas.{all_judged, answers_more, answers_whole, within_more}
+use Rattle.racl_cli.proofs.ReadLemmas.{all_judged, all_known, answers_more, within_more}
 use Rattle.racl_cli.proofs.RunLemmas.{within_unread}
 use Rattle.racl_cli.proofs.runs_end_to_end.judge_source.Goals as goal
 
@@ -47,8 +46,8 @@ returns-in-Ok-judge_records-clause-within g c =
       failed = subst (λ r. failures c.judge_records.new.reader ≡ failures_after_reads (failures c.args.reader.now) r) c.in-Ok-judge_records.is within.failed;
     }
 
-pub returns-in-Err-judge_records-clause-fault : goal.returns-in-Err-judge_records-clause-fault
-returns-in-Err-judge_records-clause-fault g c =
+pub returns-in-Bytes-clause-fault : goal.returns-in-Bytes-clause-fault
+returns-in-Bytes-clause-fault g c =
     let options = c.args.options.now in
     let front = c.in-Ok.front in
     let has = c.in-Ok.ensures.ok in
@@ -63,8 +62,8 @@ returns-in-Err-judge_records-clause-fault g c =
       few = has.few;
     }) opened.1 _ _ (Err fault) tt c.in-Err-judge_records.ensures.fault)
 
-pub returns-in-Err-judge_records-clause-within : goal.returns-in-Err-judge_records-clause-within
-returns-in-Err-judge_records-clause-within g c =
+pub returns-in-Bytes-clause-within : goal.returns-in-Bytes-clause-within
+returns-in-Bytes-clause-within g c =
     let has = c.in-Ok.ensures.ok in
     let within =
     within_more _ _ c.args.reader.now c.open_source.new.reader _ c.in-Ok.front.bytes.items c.judge_records.result has.consumed has.few
@@ -72,25 +71,21 @@ returns-in-Err-judge_records-clause-within g c =
     within_of_err _ _ _ c.args.reader.now c.args.reader.now _ c.judge_records.result (Err c.in-Err-judge_records.fault) c.in-Err-judge_records.fault within.gave refl
     c.in-Err-judge_records.is refl within.failed
 
-pub returns-in-Whole-clause-ok : goal.returns-in-Whole-clause-ok
-returns-in-Whole-clause-ok g c =
-    let options = c.args.options.now in
+pub returns-in-Ok-judge_at_hand-clause-ok : goal.returns-in-Ok-judge_at_hand-clause-ok
+returns-in-Ok-judge_at_hand-clause-ok g c =
     let has = c.in-Ok.ensures.ok in
     let ended = has.ended (has.whole c.in-Whole.marked c.in-Whole.is) in
-    IfOk-weaker c.judge_at_hand.result _ _
-    (λ met is. record { all = all_judged options _ (Ok met.0) (answers_whole options _ _ c.in-Ok.front.bytes.items (Ok met.0) has.consumed ended has.few is.0); kept = is.1 })
-    c.judge_at_hand.ensures.ok
+    let met = c.in-Ok-judge_at_hand.ensures.ok in
+    record { all = record { bytes = c.in-Ok.front.bytes.items; known = all_known _ _ _ has.consumed ended; few = has.few; answers = met.0 }; kept = met.1 }
 
-pub returns-in-Whole-clause-fault : goal.returns-in-Whole-clause-fault
-returns-in-Whole-clause-fault g c =
-    let options = c.args.options.now in
+pub returns-in-Ok-judge_at_hand-clause-within : goal.returns-in-Ok-judge_at_hand-clause-within
+returns-in-Ok-judge_at_hand-clause-within g c =
     let has = c.in-Ok.ensures.ok in
-    let ended = has.ended (has.whole c.in-Whole.marked c.in-Whole.is) in
-    IfErr-weaker c.judge_at_hand.result _ _ (λ fault answers. answers_whole options _ _ c.in-Ok.front.bytes.items (Err fault) has.consumed ended has.few answers)
-    c.judge_at_hand.ensures.fault
+    within_more _ _ c.args.reader.now c.open_source.new.reader _ c.in-Ok.front.bytes.items (Ok (c.in-Ok-judge_at_hand.judged, Some c.in-Ok-judge_at_hand.kept)) has.consumed has.few
+    c.in-Ok.ensures.within.failed (within_unread _ _ _ c.open_source.new.reader c.args.options.now c.in-Ok.front.bytes.items _ tt)
 
-pub returns-in-Whole-clause-within : goal.returns-in-Whole-clause-within
-returns-in-Whole-clause-within g c =
+pub returns-clause-within : goal.returns-clause-within
+returns-clause-within g c =
     let has = c.in-Ok.ensures.ok in
-    within_more _ _ c.args.reader.now c.open_source.new.reader _ c.in-Ok.front.bytes.items c.judge_at_hand.result has.consumed has.few
-    c.in-Ok.ensures.within.failed (within_unread _ _ _ c.open_source.new.reader c.args.options.now _ c.judge_at_hand.result c.judge_at_hand.ensures.fault)
+    within_more _ _ c.args.reader.now c.open_source.new.reader _ c.in-Ok.front.bytes.items (Err c.in-Err-judge_at_hand.fault) has.consumed has.few
+    c.in-Ok.ensures.within.failed (within_unread _ _ _ c.open_source.new.reader c.args.options.now c.in-Ok.front.bytes.items (Err c.in-Err-judge_at_hand.fault) c.in-Err-judge_at_hand.ensures.fault)
