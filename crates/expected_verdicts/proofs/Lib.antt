@@ -1,0 +1,3 @@
+pub mod FileLemmas
+pub mod MeetingLemmas
+pub mod NumberLemmas

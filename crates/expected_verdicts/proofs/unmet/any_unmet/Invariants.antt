@@ -1,0 +1,13 @@
+use Rattle.std.proofs.Common.{◌≡◌, ◌+◌, length}
+use Rattle.expected_verdicts.specs.Meeting.{unmet_from}
+use Rattle.expected_verdicts.proofs.unmet.any_unmet.Given as goal
+
+-- the verdicts so far are as expected
+abbrev pub invariant-verdicts : goal.invariant-verdicts
+invariant-verdicts l = record {
+  counted : l.number + length l.rest ≡ l.fn.first + length l.fn.verdicts;
+  same : unmet_from l.fn.expectations l.number l.rest ≡ unmet_from l.fn.expectations l.fn.first l.fn.verdicts;
+}
+
+abbrev pub decreases-verdicts : goal.decreases-verdicts
+decreases-verdicts l = length l.rest

@@ -1,0 +1,4 @@
+pub mod Expectations
+pub mod Files
+pub mod Meeting
+pub mod inner
