@@ -1,12 +1,12 @@
 -- What is told of expectations one after the other.
-use Rattle.std.proofs.Common.{◌≡◌, ◌∙◌, ◌<◌, ◌+◌, ◌++◌, ℕ, true, false, List, [], ◌∷◌, ap, append_assoc, arith, length, refl, subst, sym}
+use Rattle.std.proofs.Common.{◌≡◌, ◌∙◌, ◌<◌, ◌+◌, ◌++◌, ℕ, Bool, true, false, ◌||◌, List, [], ◌∷◌, ap, append_assoc, arith, length, refl, subst, sym}
 use Rattle.std.specs.Prelude.{◌==◌}
 use Rattle.std.proofs.lemmas.Bool.{lt-ltb}
 use Rattle.packet_view.specs.Captures.{PacketFacts}
 use Rattle.session_state.specs.declared.verdict.Verdict.{Verdict}
 use Rattle.racl_io.specs.Tellings.{lines_in}
 use Rattle.racl_io.specs.declared.totals_and_truncation.Totals.{Totals}
-use Rattle.expected_verdicts.specs.Meeting.{is_unmet, missing_line, told_as, told_at, told_from, told_in, told_open, total_line, total_of, unmet_line, unmet_wording}
+use Rattle.expected_verdicts.specs.Meeting.{is_unmet, missing_line, told_as, told_at, told_from, told_in, told_open, total_line, total_of, unmet_at, unmet_from, unmet_line, unmet_wording}
 use Rattle.expected_verdicts.specs.declared.expectation.Expectation.{Expectation}
 use Rattle.expected_verdicts.specs.declared.expectation.Expected.{Expected}
 use Rattle.expected_verdicts.specs.declared.expectation.Expected.TheVariants.{InAll, Verdicts}
@@ -45,6 +45,17 @@ lines_told expectations n [] (v ∷ vs) each = absurd (omega (arith, each))
 lines_told expectations n (p ∷ ps) [] each = absurd (omega (arith, each))
 lines_told expectations n (p ∷ ps) (v ∷ vs) each =
     ap (λ l. told_at expectations n v ++ l) (lines_told expectations (n + 1) ps vs (omega (arith, each)))
+
+-- what isn't as expected among some packets and those behind them
+pub unmet_both : (expectations : List Expectation) (n m : ℕ) (said more : List Verdict) → m ≡ n + length said
+    → unmet_from expectations n (said ++ more) ≡ (unmet_from expectations n said || unmet_from expectations m more)
+unmet_both expectations n m [] more next = let same : m ≡ n = omega (arith, next) in rw same refl
+unmet_both expectations n m (v ∷ vs) more next = go (unmet_at expectations n v) (unmet_both expectations (n + 1) m vs more (omega (arith, next)))
+  where
+    go : (b : Bool) → unmet_from expectations (n + 1) (vs ++ more) ≡ (unmet_from expectations (n + 1) vs || unmet_from expectations m more)
+        → (b || unmet_from expectations (n + 1) (vs ++ more)) ≡ ((b || unmet_from expectations (n + 1) vs) || unmet_from expectations m more)
+    go true later = refl
+    go false later = later
 
 -- what the next expectation tells of a packet, behind those before
 pub at_further : (front all : List ℕ) (rest others : List Expectation) (e : Expectation) (n : ℕ) (verdict : Verdict) → front ++ told_at rest n verdict ≡ all → rest ≡ e ∷ others

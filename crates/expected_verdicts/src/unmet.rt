@@ -90,19 +90,19 @@ fn is_unmet_at(expectations: &[Expectation], number: u64, verdict: Verdict) -> b
         .any(|e| is_unmet(e.expected, number, verdict))
 }
 
-/// Whether packets, of which the first has this number, have a verdict that isn't as one of these expects.
-pub fn any_unmet(expectations: &[Expectation], first: u64, verdicts: &[Verdict]) -> bool
-    requires { first + length verdicts.now < 2 ^ 64 }
-    ensures { result ≡ unmet_from expectations.now first verdicts.now }
+/// Whether packets, before which there were so many others, have a verdict that isn't as one of these expects.
+pub fn any_unmet(expectations: &[Expectation], others: u64, verdicts: &[Verdict]) -> bool
+    requires { others + length verdicts.now < 2 ^ 64 }
+    ensures { result ≡ unmet_from expectations.now (others + 1) verdicts.now }
 {
-    let mut number = first;
+    let mut number = others;
     let mut rest = verdicts;
-    'verdicts: while let Some((verdict, others)) = rest.split_first() {
+    'verdicts: while let Some((verdict, behind)) = rest.split_first() {
+        number += 1;
         if is_unmet_at(expectations, number, *verdict) {
             return true;
         }
-        number += 1;
-        rest = others;
+        rest = behind;
     }
     false
 }
