@@ -7,14 +7,19 @@ ghost use Rattle.std.specs.Prelude.{◌<◌, ◌-◌, ◌^◌};
 mod ask;
 mod compare;
 
-use racl_cli::{DiffFault, LiveAsked, LiveSaves, PolicyTexts, run, run_diff, run_live, run_saving};
+use expected_verdicts::{read_expectations, status_behind as status_of_compared};
+use racl_cli::{
+    DiffFault, ExpectingAsked, LiveAsked, LiveSaves, PolicyTexts, run, run_diff, run_expecting,
+    run_live, run_saving,
+};
 use racl_io::{Device, Fault, FrontKept, Joined, Source};
 use racl_options::{Asked, DiffFiles, Files, Origin, diff_options};
 use racl_system::{
-    DiffInput, LiveFiles, LiveInput, Output, Parts, Ran, Watched, asked_or_status, diff_or_status,
-    expansion_status, failure_status, opened_diff, opened_input, opened_live, saves_to,
-    say_capture_fault, say_end_of_live, say_end_of_run, say_policy_fault, say_unsaved,
-    say_used_twice, settled, texts_of, watched_where, words_of,
+    DiffInput, ExpectingInput, LiveFiles, LiveInput, Output, Parts, Ran, Watched, asked_or_status,
+    diff_or_status, expansion_status, failure_status, opened_diff, opened_expecting, opened_input,
+    opened_live, saves_to, say_capture_fault, say_end_of_live, say_end_of_run, say_policy_fault,
+    say_unsaved, say_used_twice, say_wrong_expectations, settled, texts_of, watched_where,
+    words_of,
 };
 use std::alloc::Global;
 use std::io;
@@ -59,11 +64,14 @@ fn status_of_main<T: Threads + Wait + Sync>(
         Err(status) => return Ok(status),
     }
     match asked_or_status(rt, alloc, texts.as_slice()) {
-        Ok(Ok(asked)) => match &asked.origin {
-            Origin::Files(files) if asked.options.live || asked.options.any_length => {
+        Ok(Ok(asked)) => match (&asked.origin, asked.expected) {
+            (Origin::Files(files), Some(name)) => {
+                status_of_expecting(rt, threads, alloc, &asked, files, name)
+            }
+            (Origin::Files(files), None) if asked.options.live || asked.options.any_length => {
                 status_of_live(rt, threads, alloc, &asked, files)
             }
-            _ => status_of_run(rt, threads, alloc, &asked),
+            (_, _) => status_of_run(rt, threads, alloc, &asked),
         },
         Ok(Err(status)) => Ok(status),
         Err(error) => Err(error),
@@ -173,6 +181,50 @@ fn status_of_live<T: Threads + Wait + Sync>(
         front: reader.source.inner.front(),
     };
     say_end_of_live(rt, alloc, &asked.options, input, &outcome)
+}
+
+// Compares the verdicts on the packets of a capture with those that the file of this name expects, tells how that ended, and
+// answers the exit status.
+fn status_of_expecting<T: Threads + Wait + Sync>(
+    rt: &HostRuntime,
+    threads: &T,
+    alloc: Global,
+    asked: &Asked<'_>,
+    files: &Files<'_>,
+    name: &str,
+) -> io::Result<u8> {
+    let ExpectingInput {
+        text,
+        expected,
+        capture,
+    } = match opened_expecting(rt, alloc, files, name) {
+        Ok(Ok(opened)) => opened,
+        Ok(Err(status)) => return Ok(status),
+        Err(error) => return Err(error),
+    };
+    let expectations = match read_expectations(alloc, expected.as_slice()) {
+        Ok(expectations) => expectations,
+        Err(fault) => return say_wrong_expectations(rt, name, fault),
+    };
+    let text = text.as_slice();
+    let mut reader = Device::new(FrontKept::new(capture));
+    let mut writer = Device::new(rt.stdout());
+    let compared = ExpectingAsked {
+        options: &asked.options,
+        text,
+        expectations: expectations.as_slice(),
+    };
+    match run_expecting(threads, alloc, compared, &mut reader, &mut writer) {
+        Ok(compared) => Ok(status_of_compared(compared.met, compared.truncated)),
+        Err(fault) => {
+            let input = LiveInput {
+                files: *files,
+                text,
+                front: reader.inner.front(),
+            };
+            say_end_of_live(rt, alloc, &asked.options, input, &Err(fault))
+        }
+    }
 }
 
 // Compares the verdicts by two policies on the packets of a capture while it comes, tells how that ended, and answers the exit

@@ -1,7 +1,9 @@
 pub mod AtHandLemmas
+pub mod ComparedLemmas
 pub mod CountedLemmas
 pub mod DiffLemmas
 pub mod DigitCaptureLemmas
+pub mod ExpectingLemmas
 pub mod InputLaws
 pub mod LiveEndLemmas
 pub mod LiveLemmas

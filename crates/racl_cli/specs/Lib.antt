@@ -1,5 +1,6 @@
 pub mod Crews
 pub mod DiffRuns
+pub mod ExpectingRuns
 pub mod LiveRuns
 pub mod LiveSaves
 pub mod Reads

@@ -1,4 +1,5 @@
 pub mod Captures
+pub mod Comparings
 pub mod Heads
 pub mod Kept
 pub mod LiveEnds

@@ -4,11 +4,14 @@
 
 mod capture_header_reading;
 mod captures_at_hand;
+mod compared_judging;
 mod counted_judging;
 mod diff_input;
 mod diff_run;
 mod digit_captures;
 mod ended_workers;
+mod expecting_run;
+mod expecting_run_parts;
 mod input_front;
 mod judge_by_plan;
 mod live_run;
@@ -20,10 +23,13 @@ mod run_plan;
 mod runs_end_to_end;
 mod sized_tables_and_workers;
 mod stored_sessions;
+mod unsaved_packets;
 mod workers_as_judges;
 
 pub use diff_input::{DiffFault, PolicyTexts};
 pub use diff_run::run_diff;
+pub use expecting_run::run_expecting;
+pub use expecting_run_parts::{Compared, ExpectingAsked};
 pub use live_run::{LiveAsked, run_live};
 pub use live_saves::LiveSaves;
 pub use racl_io::{Device, DeviceFault, Fault, Sink, Source, Totals};
