@@ -1,4 +1,4 @@
-use Rattle.std.proofs.Common.{◌∙◌, List, ℕ, [], arith, refl, rules, subst, sym}
+use Rattle.std.proofs.Common.{◌∙◌, [], arith, refl, rules, subst, sym}
 use Rattle.std.proofs.lemmas.Result.{IfOk-weaker}
 use Rattle.packet_view.specs.CheckedCaptures.{remaining}
 use Rattle.racl_cli.specs.Crews.{AreIdleOf, AreSaidBy, Orders, orders_of}

@@ -1,6 +1,5 @@
-use Rattle.std.proofs.Common.{◌≡◌, ◌+◌, ℕ, Option, None, Some, arith}
+use Rattle.std.proofs.Common.{arith}
 use Rattle.std.proofs.lemmas.Result.{IfErr-weaker, IfOk-weaker}
-use Rattle.racl_report.specs.Saves.{failures_of}
 use Rattle.racl_cli.proofs.SavingLemmas.{none_failed}
 use Rattle.racl_cli.proofs.runs_end_to_end.run.Goals as goal
 
