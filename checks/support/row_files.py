@@ -1,6 +1,9 @@
 """The rows of checks/rows: each paragraph says what it shows, an input or several, and what comes of them.
 
-docs/DEVELOPING.md says how a row is written.
+A row has what it shows (`row:`), the policy's lines or its `file:`, and packets with their verdicts, or a fault that each of several
+policies or inputs has, or what `racl check` tells (`told:`). `N * LINE` is a line N times. A packet is its second, its way, perhaps
+how many bytes are kept (`cut 34-37`: a packet for each count), its numbers much as `tcpdump` writes them, or digits, and behind a
+colon its verdict.
 """
 import ipaddress
 import os

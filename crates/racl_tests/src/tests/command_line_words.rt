@@ -29,6 +29,7 @@ fn words_set_the_options(rt: HostRuntime) {
         hits: false,
         sessions: false,
         live: false,
+        any_length: false,
         ages: false,
     };
     const MOST: Options = Options {
@@ -40,6 +41,7 @@ fn words_set_the_options(rt: HostRuntime) {
         hits: false,
         sessions: false,
         live: false,
+        any_length: false,
         ages: true,
     };
     const CASES: [(&[&str], Options); 3] = [

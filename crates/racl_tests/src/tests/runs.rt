@@ -51,5 +51,6 @@ const DEFAULTS: Options = Options {
     hits: false,
     sessions: false,
     live: false,
+    any_length: false,
     ages: false,
 };
