@@ -39,3 +39,6 @@ returns-clause-follows g c begun packets said (sync, has) =
           (c.either-self.ensures ∙ ap (λ b. c.args.self.now.unmet || b)
           (c.any_unmet-unmet.ensures ∙ ap (unmet_from c.args.self.now.expectations.now (c.args.self.now.judged + 1)) c.deref.ensures.value)),
     )
+
+pub returns-clause-right : goal.returns-clause-right
+returns-clause-right g c begun packets said (sync, has) = c.in_ok-said.ensures.right begun.crew packets said (sync, has.after)
