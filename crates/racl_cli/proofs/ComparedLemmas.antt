@@ -1,5 +1,5 @@
 -- Workers whose verdicts are compared with expected ones.
-use Rattle.std.proofs.Common.{◌≡◌, ◌∙◌, ◌<◌, ◌+◌, ◌++◌, ◌||◌, ◌^◌, ℕ, List, ap, ap₂, arith, length, refl, subst, sym}
+use Rattle.std.proofs.Common.{◌≡◌, ◌∙◌, ◌<◌, ◌+◌, ◌++◌, ◌||◌, ◌^◌, List, ap, ap₂, arith, length, sym}
 use Rattle.std.proofs.lemmas.List.{length-append}
 use Rattle.packet_view.specs.Captures.{PacketFacts}
 use Rattle.session_state.specs.declared.verdict.Verdict.{Verdict}

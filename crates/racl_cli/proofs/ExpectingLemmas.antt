@@ -1,6 +1,6 @@
 -- A run over a capture whose verdicts are compared with expected ones.
 use Rattle.std.proofs.KnownBytes.{Appends-trans, Consumes-all, Consumes-trans}
-use Rattle.std.proofs.Common.{◌≡◌, ◌∙◌, ◌≤◌, ◌++◌, ℕ, Bool, List, [], Option, Result, Ok, Err, MatchResult, ap, ap₂, arith, drop, inl, inr, length, refl, subst, sym}
+use Rattle.std.proofs.Common.{◌≡◌, ◌∙◌, ◌≤◌, ◌++◌, ℕ, Bool, List, [], Option, Result, Ok, Err, ap, ap₂, arith, drop, inl, inr, length, refl, subst, sym}
 use Rattle.std.specs.Prelude.{◌⊎◌}
 use Rattle.std.proofs.lemmas.List.{drop_all, length-map}
 use Rattle.std.specs.Io.KnownBytes.{Appends}
@@ -23,7 +23,7 @@ use Rattle.expected_verdicts.specs.Meeting.{are_met, end_of, met_told, told_of, 
 use Rattle.expected_verdicts.specs.declared.expectation.Expectation.{Expectation}
 use Rattle.expected_verdicts.proofs.MeetingLemmas.{lines_told}
 use Rattle.racl_cli.specs.Crews.{AreSaidSoFar, Orders, cuts_four, orders_for, size_of}
-use Rattle.racl_cli.specs.ExpectingRuns.{ByLoneWorker, ComparesAll, EndsExpecting, HasComparedAll, HasCutEnd, HasJudgedCapture, IsExpectingFault, manner_by, output, totals_in}
+use Rattle.racl_cli.specs.ExpectingRuns.{ByLoneWorker, ComparesAll, EndsExpecting, HasComparedAll, HasCutEnd, HasJudgedCapture, manner_by, output}
 use Rattle.racl_cli.specs.inner.Heads.{HasReadHeader}
 use Rattle.racl_cli.specs.declared.expecting_run_parts.Compared.{Compared}
 use Rattle.racl_cli.specs.declared.sized_tables_and_workers.SizedTables.{SizedTables}

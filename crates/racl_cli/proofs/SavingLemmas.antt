@@ -1,5 +1,5 @@
 -- Packets that are saved behind the report of a run.
-use Rattle.std.proofs.Common.{◌≡◌, ◌∙◌, ℕ, List, Option, None, Some, ap, refl, subst, sym}
+use Rattle.std.proofs.Common.{◌≡◌, ◌∙◌, ℕ, List, Option, ap, subst, sym}
 use Rattle.packet_view.specs.Captures.{PacketFacts}
 use Rattle.acl_policy.specs.Policies.{PolicyFacts}
 use Rattle.session_state.specs.declared.verdict.Verdict.{Verdict}
@@ -10,7 +10,7 @@ use Rattle.racl_options.specs.declared.settings.Options.{Options}
 use Rattle.racl_report.specs.KeptInputs.{IsKeptWhere}
 use Rattle.racl_report.specs.ReadInputs.{IsRead}
 use Rattle.racl_report.specs.RunReports.{Outcome}
-use Rattle.racl_report.specs.Saves.{failures_of, is_saving}
+use Rattle.racl_report.specs.Saves.{is_saving}
 use Rattle.racl_report.specs.declared.kept_input.Kept.{Kept}
 use Rattle.racl_report.specs.declared.saved_packets.Saves.{Saves}
 use Rattle.racl_report.proofs.SaveLemmas.{Saved}
@@ -27,8 +27,3 @@ has_saved sink options given old new before after totals outcome bytes kept verd
     let mine = subst (λ (vs : List Verdict). Saved sink kept vs before after) (judged ∙ ap (λ (o : Outcome). o.verdicts) (sym met)) saved in
     let parts = mine bytes run.policy run.packets run.outcome.captures here (keeps run.policy run.packets run.outcome.captures here) in
     record { run = run; parts = parts.0; parted = subst (λ (b : List ℕ). IsInput b parts.0) (sym read) parts.1; drops = parts.2; passes = parts.3 }
-
--- there is no file that failed
-pub none_failed : {S : Type 0} (file : Option S) → failures_of (λ f. 0) file ≡ 0
-none_failed None = refl
-none_failed (Some file) = refl

@@ -16,7 +16,6 @@ mod input_front;
 mod judge_by_plan;
 mod live_run;
 mod live_saves;
-mod no_file;
 mod open_gate;
 mod run_laws;
 mod run_plan;

@@ -12,7 +12,6 @@ ghost use Rattle.racl_cli.specs.SavingRuns.{HasRunSaving, failures_in_all};
 use crate::captures_at_hand::judge_at_hand;
 use crate::input_front::{Front, Headed, Opened, open_source};
 use crate::judge_by_plan::judge_records;
-use crate::no_file::NoFile;
 use crate::run_plan::threads_beside;
 use capture_stream::Opening;
 use racl_io::{Fault, Sink, Source, Totals};
@@ -21,6 +20,12 @@ use racl_report::{Judged, Kept, Saves, keeps_input, save_packets, write_judged};
 use std::alloc::Global;
 use std::sync::Wait;
 use std::thread::Threads;
+
+/// Where a run saves that has no file for packets.
+const NO_FILES: Saves<()> = Saves {
+    drops: None,
+    passes: None,
+};
 
 // What the packets met of an input that a run reads from its front to its end, and what is kept of it, where that is asked for.
 fn judge_source<R: Source + Send, T: Threads + Wait + Sync>(
@@ -96,11 +101,13 @@ pub fn run<R: Source + Send, W: Sink, T: Threads + Wait + Sync>(
     ensures steady { result ≢ Err Fault.Write → W.failures writer.new ≡ W.failures writer.old }
     ensures unwritten { IfErr result (λ fault. fault ≢ Fault.Write → writer.new ≡ writer.old) }
 {
-    let mut saves: Saves<NoFile> = Saves {
-        drops: None,
-        passes: None,
+    let keeps = keeps_input(options, &NO_FILES);
+    let (judged, kept) = match judge_source(rt, alloc, options, keeps, reader) {
+        Ok(met) => met,
+        Err(fault) => return Err(fault),
     };
-    run_saving(rt, alloc, options, reader, writer, &mut saves)
+    let beside = threads_beside(rt, options.workers > 1);
+    write_judged(beside, alloc, writer, options, &kept, &judged)
 }
 
 /// A run from end to end: reads an input, filters its captures by its policy, and writes the report, as `run` does; and

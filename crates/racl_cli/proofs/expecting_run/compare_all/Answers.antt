@@ -1,4 +1,4 @@
-use Rattle.std.proofs.Common.{◌∙◌, ◌≡◌, ◌||◌, List, ap, ap₂, inl, not, subst, ℕ}
+use Rattle.std.proofs.Common.{◌∙◌, ◌≡◌, ◌||◌, List, ap, ap₂, inl, not, subst}
 use Rattle.std.specs.Io.KnownBytes.{Appends}
 use Rattle.std.specs.Prelude.{⊤}
 use Rattle.acl_policy.specs.Policies.{policy_facts}
