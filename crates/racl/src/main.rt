@@ -206,12 +206,11 @@ fn status_of_expecting<T: Threads + Wait + Sync>(
         Ok(expectations) => expectations,
         Err(fault) => return say_wrong_expectations(rt, name, fault),
     };
-    let text = text.as_slice();
     let mut reader = Device::new(FrontKept::new(capture));
     let mut writer = Device::new(rt.stdout());
     let compared = ExpectingAsked {
         options: &asked.options,
-        text,
+        text: text.as_slice(),
         expectations: expectations.as_slice(),
     };
     match run_expecting(threads, alloc, compared, &mut reader, &mut writer) {
@@ -219,7 +218,7 @@ fn status_of_expecting<T: Threads + Wait + Sync>(
         Err(fault) => {
             let input = LiveInput {
                 files: *files,
-                text,
+                text: text.as_slice(),
                 front: reader.inner.front(),
             };
             say_end_of_live(rt, alloc, &asked.options, input, &Err(fault))
