@@ -56,8 +56,7 @@ class Page(Case):
     def test_hostile_text(self):
         policy = self.hold("policy", NAMES + f"in deny ipv4 any any # {HOSTILE}\n".encode())
         report = self.program.run(["--json", "--hits", policy, self.hold("capture", CAPTURE)])["stdout"]
-        lines = NAMES.decode().rstrip() + HOSTILE + "\n"
-        got = page_of(["--policy", self.hold("shown", lines.encode()), "--title", HOSTILE], report)
+        got = page_of(["--policy", policy, "--title", HOSTILE], report)
         self.compare(got, {"stderr": "", "status": 0})
         markup = got["stdout"]
         self.compare({"script": "<script" in markup, "image": "<img" in markup, "named": html.escape(HOSTILE, quote=True) in markup},
@@ -84,6 +83,12 @@ class Page(Case):
         wrong = self.hold("wrong", b"1 pass session\n")
         self.compare(page_of(["--changes", wrong, "-"], report),
                      {"stdout": "", "stderr": f"racl-page: {wrong}: line 1 is none of racl diff\n", "status": 1})
+
+    def test_another_policy(self):
+        report = self.program.run(["--json", "--hits", self.hold("policy", NAMES), self.hold("capture", CAPTURE)])["stdout"]
+        other = self.hold("other", b"\n" + NAMES)
+        said = f"racl-page: -: the report has a rule `out` at line 2 of its policy, and {other} has none there\n"
+        self.compare(page_of(["--policy", other, "-"], report), {"stdout": "", "stderr": said, "status": 1})
 
     @each([("no object", b'{"packets":0,"pass":0,"drop":0}\n1\n', "line 2 is no object of racl --json"),
            ("plain lines", b"1 pass session\n", "line 1 is no object of racl --json"),
