@@ -1,7 +1,7 @@
 -- What a parse of the words `diff OLD NEW CAPTURE` leaves.
 use Rattle.std.proofs.Common.{◌≡◌, ◌∙◌, ap, ap₂, refl, subst, sym, true, drop, Option}
 use Rattle.std.specs.Prelude.{Result}
-use Rattle.clap.specs.Words.{App, FailsBy, HasMatchesOf, Text, app_of, fault_of, first_of, first_value, found_of, is_simple, is_simple_and_free, matches_of}
+use Rattle.clap.specs.Words.{FailsBy, HasMatchesOf, Text, app_of, fault_of, first_of, first_value, found_of, is_simple, is_simple_and_free, matches_of}
 use Rattle.std.proofs.Common.{List}
 use Rattle.clap.specs.declared.builder.command.Command.{Command}
 use Rattle.clap.specs.declared.error.Error.{Error}

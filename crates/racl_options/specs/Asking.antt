@@ -1,5 +1,5 @@
 -- What the words ask for in all, and what of it doesn't go together (this project's profile).
-use Rattle.std.specs.Prelude.{◌≡◌, ◌&&◌, ◌||◌, ◌==◌, Bool, true, false, not, is_some, List, [], Option, None, Some, option_map, codes}
+use Rattle.std.specs.Prelude.{◌≡◌, ◌&&◌, ◌||◌, Bool, true, false, not, is_some, List, [], Option, None, Some, option_map, codes}
 use Rattle.std.specs.Str.{bytes_eq}
 use Rattle.clap.specs.Words.{Text, fault_of}
 use Rattle.racl_options.specs.CommandLine.{OptionFacts, SetOptions, Values, option_facts, racl, values_at}
@@ -44,15 +44,10 @@ is_plain Plain = true
 is_plain Explained = false
 is_plain Json = false
 
--- verdicts can be written as packets come: of the capture in a file, by one worker
-abbrev pub can_be_live : AskedFacts → Bool
-can_be_live asked = are_files asked.origin && (asked.options.workers == 1)
-
--- Packets are saved of the capture in a file, and in two files. `--live` is asked for only where verdicts can be written as
--- packets come.
+-- Packets are saved of the capture in a file, and in two files. Verdicts are written as packets come of the capture in a file.
 abbrev pub fit_together : AskedFacts → Bool
 fit_together asked = (not (is_saved asked) || are_files asked.origin)
-    && (not (is_shared asked.drops asked.passes) && (not asked.options.live || can_be_live asked))
+    && (not (is_shared asked.drops asked.passes) && (not asked.options.live || are_files asked.origin))
 
 -- what a parse holds asks for this
 pub record AskBy (values : Values) (asked : AskedFacts) : Type 0 where

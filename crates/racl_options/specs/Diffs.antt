@@ -1,5 +1,5 @@
 -- The words `diff OLD NEW CAPTURE` (this project's profile).
-use Rattle.std.specs.Prelude.{◌≡◌, ◌⊎◌, ◌+◌, ℕ, List, [], ◌∷◌, drop, fold, if◌then◌else◌, nat_lt, Option, None, Some, codes, slice_get}
+use Rattle.std.specs.Prelude.{◌≡◌, ◌⊎◌, ◌+◌, ℕ, List, [], drop, if◌then◌else◌, nat_lt, Option, None, Some, codes, slice_get}
 use Rattle.std.specs.Str.{bytes_eq}
 use Rattle.clap.specs.Words.{App, HasKind, Text, fault_of, first_of, kind_of, matches_of, new_app, with_rule}
 use Rattle.clap.specs.declared.error.Error.{Error}

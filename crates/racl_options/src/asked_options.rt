@@ -26,7 +26,7 @@ const NOT_SAVED: &str = "--drops and --passes are of one capture: they need POLI
 
 const ONE_FILE: &str = "--drops and --passes need a file each";
 
-const NOT_LIVE: &str = "--live needs POLICY CAPTURE, and no --workers";
+const NOT_LIVE: &str = "--live needs POLICY CAPTURE";
 
 /// What the matches ask for.
 pub fn asked_by<'a>(alloc: Global, matches: &ArgMatches<'a>) -> Result<Asked<'a>, Refusal>
@@ -78,13 +78,6 @@ fn is_shared_file_asked(drops: Option<&str>, passes: Option<&str>) -> bool
     }
 }
 
-// Whether `--live` goes with all else that is asked for: verdicts can be written as packets come.
-fn can_be_live(asked: &Asked<'_>) -> bool
-    ensures { result ≡ asking.can_be_live (asked_facts asked.now) }
-{
-    are_files_asked(&asked.origin) && asked.options.workers == 1
-}
-
 // Why what is asked for doesn't go together.
 fn misfit(asked: &Asked<'_>) -> Option<&'static str>
     ensures { is_none result ≡ fit_together (asked_facts asked.now) }
@@ -95,7 +88,7 @@ fn misfit(asked: &Asked<'_>) -> Option<&'static str>
     if is_shared_file_asked(asked.saved.drops, asked.saved.passes) {
         return Some(ONE_FILE);
     }
-    if asked.options.live && !can_be_live(asked) {
+    if asked.options.live && !are_files_asked(&asked.origin) {
         return Some(NOT_LIVE);
     }
     None

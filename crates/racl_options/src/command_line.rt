@@ -79,7 +79,7 @@ fn after_help() -> &'static str {
     "INPUT is a policy, a line `pcap` or `hex`, and the capture in that form; POLICY and CAPTURE are such \
     a policy and a capture's bytes. Except with --live they have at most 67108864 bytes in all, in which a byte \
     of a capture after --interface counts twice. The report goes to standard output. --drops, --passes and \
-    --live need POLICY CAPTURE; --live doesn't go with --workers.
+    --live need POLICY CAPTURE.
 
 Examples:
   racl check host.policy

@@ -3,7 +3,7 @@ use Rattle.std.specs.Prelude.{Err, None, Ok, codes, option_map}
 use Rattle.clap.specs.Walk.{texts}
 use Rattle.clap.specs.declared.parser.matches.ArgMatches.{ArgMatches}
 use Rattle.racl_options.specs.Checks.{text_behind}
-use Rattle.racl_options.specs.Diffs.{named, named_in, names_of}
+use Rattle.racl_options.specs.Diffs.{named_in, names_of}
 use Rattle.racl_options.proofs.CheckLemmas.{later_words}
 use Rattle.racl_options.proofs.DiffLemmas.{fails_by_diff, held_by_diff}
 use Rattle.racl_options.proofs.diff_command.diff_files.Goals as goal
