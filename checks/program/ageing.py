@@ -5,7 +5,7 @@ from support.cases import Case, each, wanted
 from support.slow_captures import POLICY, capture_of, slow, verdicts_on
 
 RATES = 0.1, 1, 5
-AGEING = ["--age"], ["--age", "--workers", "4"], ["--age", "--tables", "large"], ["--live"], ["--live", "--age"]
+AGEING = ["--age"], ["--age", "--workers", "4"], ["--age", "--tables", "large"], ["--live"], ["--live", "--age", "--workers", "4"]
 
 # A flow, another one so long after it that all buckets are gone over, and an answer of the first that comes late. What ended less
 # than a minute before is kept.

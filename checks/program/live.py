@@ -67,8 +67,10 @@ class Live(Case):
             held = self.hold("capture", capture)
             for words in FORMS:
                 whole = self.program.run(["--age", *words, policy, held])
-                self.compare(self.program.run(["--live", *words, policy, held]), whole, *words)
-                self.compare(self.program.run(["--live", *words, policy, "-"], capture), whole, *words)
+                for workers in "1", "4", "16":
+                    live = ["--live", "--workers", workers, *words, policy]
+                    self.compare(self.program.run([*live, held]), whole, workers, *words)
+                    self.compare(self.program.run([*live, "-"], capture), whole, workers, *words)
 
     def test_forms_as_packets_come(self):
         policy, held = self.hold("policy", NAMES), self.hold("capture", CAPTURE)
@@ -122,12 +124,14 @@ class Live(Case):
         capture = header() + b"".join(udp(100 + at // 50, at % 3 != 0, (1, 1000 + at % 70), (2, 53)) for at in range(5_000))
         policy, held = self.hold("policy", NAMES), self.hold("capture", capture)
         ways = {}
-        for way in "--age", "--live":
+        for way in ["--age"], ["--live"], ["--live", "--workers=4"]:
             drops, passes = f"{self.folder}/drops", f"{self.folder}/passes"
-            got = self.program.run([way, "--drops", drops, "--passes", passes, policy, held])
-            ways[way] = {**got, "drops": bytes_of_file(drops), "passes": bytes_of_file(passes)}
-        self.assertGreater(len(ways["--age"]["drops"]), 24)
-        self.compare(ways["--live"], ways["--age"])
+            got = self.program.run([*way, "--drops", drops, "--passes", passes, policy, held])
+            ways[" ".join(way)] = {**got, "drops": bytes_of_file(drops), "passes": bytes_of_file(passes)}
+        whole = ways.pop("--age")
+        self.assertGreater(len(whole["drops"]), 24)
+        for way, got in ways.items():
+            self.compare(got, whole, way)
 
     def test_file_that_fails(self):
         """A file that can't be written ends the run, and is named."""
@@ -147,7 +151,8 @@ class Live(Case):
         policy, held, words = self.hold("policy", NAMES), self.hold("capture", capture), ["--hits", "--sessions", "--summary", "--udp", "60"]
         whole = self.program.run(["--age", *words, policy, held])
         self.assertIn(b"\ndefault packets %d\n" % count, whole["stdout"])
-        self.compare(self.program.run(["--live", *words, policy, "-"], capture), whole)
+        for workers in "1", "4", "16":
+            self.compare(self.program.run(["--live", "--workers", workers, *words, policy, "-"], capture), whole, workers)
 
     @each(LARGE)
     def large(self, made):

@@ -53,8 +53,6 @@ WRONG_WORDS = [
     (["--passes", "saved"], None),
     (["--live"], None),
     (["--live", "--interface", "1=capture", "policy"], None),
-    *((["--live", *words, "policy", "-"], None)
-      for words in (["--workers=2"], ["--hits", "--workers=2"], ["--drops=saved", "--workers=2"], ["--explain", "--workers=4"])),
 ]
 
 

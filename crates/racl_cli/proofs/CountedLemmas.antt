@@ -1,4 +1,4 @@
--- The only worker, which counts the packets that it judged, and what stands behind the totals over these.
+-- Workers that count the packets that they judged, and what stands behind the totals over these.
 use Rattle.std.proofs.Common.{◌≡◌, ◌∙◌, ◌<◌, ◌+◌, ◌++◌, ◌^◌, ℕ, Bool, true, List, [], ◌∷◌, Option, Result, ap, append-nil, arith, length, refl, subst, sym}
 use Rattle.std.specs.Io.KnownBytes.{Appends}
 use Rattle.std.specs.Prelude.{⊤}
@@ -17,7 +17,7 @@ use Rattle.racl_views.specs.declared.hit_counts.HitCounts.{HitCounts}
 use Rattle.racl_report.specs.BehindTotals.{IsBehind}
 use Rattle.racl_report.specs.RunReports.{told_facts}
 use Rattle.racl_report.specs.declared.text_behind_totals.Behind.{Behind}
-use Rattle.racl_cli.specs.Crews.{AreAsAsked, AreIdleOf, AreSaid, AreSaidBy, HasCountedAfter, HasEndedCounting, HaveEndedOn, IsAloneAfter, Orders, cuts_four, orders_for, size_of, views_with}
+use Rattle.racl_cli.specs.Crews.{AreAsAsked, AreIdleOf, AreSaid, AreSaidBy, AreSaidSoFar, HaveCountedAfter, HaveEndedCounting, HaveEndedOn, HaveSaidAfter, Orders, cuts_four, orders_for, size_of, views_with}
 use Rattle.racl_cli.specs.LiveRuns.{IsToldBehind}
 use Rattle.racl_cli.specs.Runs.{AreStoredOf, keeps_stored, layout_for}
 use Rattle.racl_cli.specs.inner.LiveEnds.{MayTellBehind}
@@ -25,7 +25,7 @@ use Rattle.racl_cli.specs.declared.counted_judging.Counted.{Counted}
 use Rattle.racl_cli.specs.declared.live_run.LiveHead.{LiveHead}
 use Rattle.racl_cli.specs.declared.sized_tables_and_workers.SizedCallers.{SizedCallers}
 use Rattle.racl_cli.specs.declared.sized_tables_and_workers.SizedTables.{SizedTables}
-use Rattle.racl_cli.proofs.LiveLemmas.{by_one_worker}
+use Rattle.racl_cli.proofs.LiveLemmas.{by_ageing_workers}
 use Rattle.racl_cli.proofs.OutcomeLemmas.{judged_count}
 
 -- what was said of all packets is as much as there are
@@ -34,10 +34,10 @@ said_count orders packets said are = judged_count orders.deal orders.times order
 
 -- so much is counted of it
 pub may_count : {T : Type 0} (orders : Orders) (asked : Bool) (packets more : List PacketFacts) (said verdicts : List Verdict) (counted : Counted T)
-    → HasCountedAfter orders asked packets said counted → counted.asked ≡ true → AreSaid orders (packets ++ more) (said ++ verdicts)
+    → HaveCountedAfter orders asked packets said counted → counted.asked ≡ true → AreSaidSoFar T orders (packets ++ more) (said ++ verdicts)
     → length packets + length more < 2 ^ 64 → MayCount counted.counts (length verdicts)
 may_count orders asked packets more said verdicts counted has is are fits =
-    let all = said_count orders (packets ++ more) (said ++ verdicts) are in
+    let all = are.count in
     let packets_all = length-append packets more in
     let said_all = length-append said verdicts in
     let each = has.each in
@@ -50,15 +50,15 @@ may_count orders asked packets more said verdicts counted has is are fits =
       fits = omega arith;
     }
 
--- the worker judged more packets, which are counted too
+-- the workers judged more packets, which are counted too
 pub counted_more : {T : Type 0} (orders : Orders) (asked : Bool) (packets more : List PacketFacts) (said verdicts : List Verdict) (old new : Counted T)
-    → HasCountedAfter orders asked packets said old → IsAloneAfter orders (packets ++ more) (said ++ verdicts) new.lone.workers
-    → AreSaid orders (packets ++ more) (said ++ verdicts) → new.policy ≡ old.policy → new.asked ≡ old.asked
+    → HaveCountedAfter orders asked packets said old → HaveSaidAfter orders (packets ++ more) (said ++ verdicts) new.crew.workers
+    → AreSaidSoFar T orders (packets ++ more) (said ++ verdicts) → new.policy ≡ old.policy → new.asked ≡ old.asked
     → (old.asked ≡ true → HaveCountedOn (policy_facts old.policy.now) old.counts more verdicts new.counts)
-    → HasCountedAfter orders asked (packets ++ more) (said ++ verdicts) new
-counted_more orders asked packets more said verdicts old new has alone are policy same counts = record {
-  alone = alone;
-  each = said_count orders (packets ++ more) (said ++ verdicts) are;
+    → HaveCountedAfter orders asked (packets ++ more) (said ++ verdicts) new
+counted_more orders asked packets more said verdicts old new has after are policy same counts = record {
+  after = after;
+  each = are.count;
   policy = ap (λ p. policy_facts p.now) policy ∙ has.policy;
   same = same ∙ has.same;
   counts = λ is. subst (λ (p : PolicyFacts). HaveCounted p (packets ++ more) (said ++ verdicts) new.counts) has.policy
@@ -69,11 +69,11 @@ none_kept : (kept : List Verdict) → length kept ≡ 0 → kept ≡ []
 none_kept [] none = refl
 none_kept (x ∷ xs) none = absurd (omega arith)
 
--- the worker ended
+-- the workers ended
 pub counted_end : {T : Type 0} (orders : Orders) (asked : Bool) (packets : List PacketFacts) (said kept : List Verdict) (counted : Counted T) (callers : SizedCallers)
-    → HasCountedAfter orders asked packets said counted → HaveEndedOn counted.lone.workers kept callers → HasEndedCounting orders asked packets said counted.counts callers
+    → HaveCountedAfter orders asked packets said counted → HaveEndedOn counted.crew.workers kept callers → HaveEndedCounting orders asked packets said counted.counts callers
 counted_end orders asked packets said kept counted callers has ended =
-    let by = subst (λ (o : Orders). AreSaidBy o packets (said ++ kept) callers) has.alone.given (ended said packets has.alone.rest) in
+    let by = subst (λ (o : Orders). AreSaidBy o packets (said ++ kept) callers) has.after.given (ended said packets has.after.rest) in
     let all = said_count orders packets (said ++ kept) (views_with callers, by.said) in
     let both = length-append said kept in
     let each = has.each in
@@ -86,8 +86,8 @@ counted_end orders asked packets said kept counted callers has ended =
 -- what stands behind the totals may be told
 pub may_tell_behind : (head : LiveHead) (tables : SizedTables) (packets : List PacketFacts) (said : List Verdict) (counts : HitCounts) (callers : SizedCallers) (orders : Orders)
     → IsPolicyText head.text.now (policy_facts head.filter.now.policy.now) → head.filter.now.times ≡ head.options.now.times
-    → AreAsAsked head.options.now.tables true tables → orders ≡ orders_for tables head.filter.now 1 (cuts_four tables)
-    → HasEndedCounting orders head.options.now.hits packets said counts callers → MayTellBehind head tables packets said counts callers
+    → AreAsAsked head.options.now.tables true tables → orders ≡ orders_for tables head.filter.now head.options.now.workers (cuts_four tables)
+    → HaveEndedCounting orders head.options.now.hits packets said counts callers → MayTellBehind head tables packets said counts callers
 may_tell_behind head tables packets said counts callers orders says times asked given ended =
     record { says = says; times = times; asked = asked; orders = orders; given = given; ended = ended }
 
@@ -105,9 +105,10 @@ pub told_behind : (head : LiveHead) (tables : SizedTables) (packets : List Packe
 told_behind head tables packets said counts callers stored behind may kept is =
     let options = head.options.now in
     let ready = head.filter.now in
-    let one = by_one_worker options ready tables may.orders packets said may.given may.asked.four may.asked.size may.times options.few.0 (views_with callers, may.ended.by.said) in
+    let one = by_ageing_workers options ready tables may.orders options.workers packets said may.given may.asked.four may.asked.size may.times options.few.0 (omega arith)
+    (views_with callers, may.ended.by.said) in
     record {
-      by_one_worker = one.0;
+      by_ageing = one.0;
       stored = stored;
       kept = λ asked. subst (λ v. AreStoredOf (layout_for options.tables) v stored) (sym one.1)
           (subst (λ s. AreStoredOf (layout_for s) (views_with callers) stored) may.asked.size (kept asked));

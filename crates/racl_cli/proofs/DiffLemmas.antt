@@ -1,6 +1,6 @@
 -- A run over a capture whose packets are judged by two policies while it comes.
 use Rattle.std.proofs.KnownBytes.{Consumes-all, Consumes-trans}
-use Rattle.std.proofs.Common.{◌≡◌, ◌≢◌, ◌∙◌, ◌++◌, ℕ, List, [], Option, ap, arith, drop, inl, inr, length, refl, subst, sym}
+use Rattle.std.proofs.Common.{◌≡◌, ◌≢◌, ◌∙◌, ◌++◌, ℕ, List, [], Option, ap, arith, drop, inl, inr, refl, subst, sym}
 use Rattle.std.proofs.lemmas.List.{drop_all, length-map}
 use Rattle.std.specs.Io.KnownBytes.{Appends}
 use Rattle.packet_view.specs.Captures.{AreRecords, packet_at, packets_at}
@@ -10,7 +10,7 @@ use Rattle.acl_policy.specs.Policies.{IsPolicyFault}
 use Rattle.acl_policy.specs.declared.policy.PolicyFault.{PolicyFault}
 use Rattle.acl_policy.specs.declared.policy.PolicyFault.TheVariants as policy
 use Rattle.racl_options.specs.declared.settings.Options.{Options}
-use Rattle.verdict_changes.specs.Changes.{PairFacts, changes_from}
+use Rattle.verdict_changes.specs.Changes.{PairFacts}
 use Rattle.verdict_changes.specs.ChangeReports.{report_of, totals_of}
 use Rattle.verdict_changes.specs.Comparing.{HasToldAll, IsComparingFault, changes_in}
 use Rattle.verdict_changes.specs.declared.totals.ChangeTotals.{ChangeTotals}

@@ -18,41 +18,25 @@ use Rattle.racl_io.proofs.TellingLemmas.{front_on}
 use Rattle.racl_options.specs.declared.settings.Options.{Options}
 use Rattle.capture_stream.specs.Lives.{HasJudgedAll, HasToldSome, IsLiveFault}
 use Rattle.capture_stream.specs.Savings.{manner_of, outputs}
-use Rattle.racl_cli.specs.LiveRuns.{ByOneWorker, HasCutReport, HasToldBehind, IsReportBehind, IsToldBehind}
+use Rattle.racl_cli.specs.LiveRuns.{AreFirstVerdicts, ByAgeingWorkers, HasCutReport, HasToldBehind, IsReportBehind, IsToldBehind}
 
-module _ {J : Type 0} {Judged : J → List PacketFacts → List Verdict → Type 0} {begun : J} (options : Options) (text : List ℕ) (wording : Wording) (policy : PolicyFacts)
+module _ {J : Type 0} {Judged : J → List PacketFacts → List Verdict → Type 0} {begun : J} (T : Type 0) (options : Options) (text : List ℕ) (wording : Wording) (policy : PolicyFacts)
     (order : Order) (before after old mid : Option (List ℕ)) (totals : Totals) (all : HasJudgedAll Judged begun order before after totals)
-    (by : ByOneWorker options policy (packets_at 0 all.packets) all.verdicts) (wrote : Appends old mid (lines_in wording 1 (packets_at 0 all.packets) all.verdicts))
+    (first_said : AreFirstVerdicts T options policy (packets_at 0 all.packets) all.verdicts) (wrote : Appends old mid (lines_in wording 1 (packets_at 0 all.packets) all.verdicts))
     {K : Type 0} (Saved : K → Order → List ℕ → List Verdict → K → Type 0) (first last : K) (whole : List ℕ) (spelt : all.read ≡ whole ++ all.rest)
     (kept : Saved first order whole all.verdicts last) where
   abbrev lines : List ℕ
   lines = lines_in wording 1 (packets_at 0 all.packets) all.verdicts
 
-  abbrev judged : HasJudgedAll (ByOneWorker options) policy order before after totals
-  judged = record {
-    read = all.read;
-    consumed = all.consumed;
-    ended = all.ended;
-    packets = all.packets;
-    rest = all.rest;
-    records = all.records;
-    truncated = all.truncated;
-    end = all.end;
-    verdicts = all.verdicts;
-    judged = by;
-    count = all.count;
-    counted = all.counted;
-  }
-
   -- of all packets their lines were written, and no more
-  some_told : (new : Option (List ℕ)) → new ≡ mid → HasToldSome (ByOneWorker options) (manner_of wording Saved) policy order before after (outputs old first) (outputs new last) all.rest
+  some_told : (new : Option (List ℕ)) → new ≡ mid → HasToldSome (AreFirstVerdicts T options) (manner_of wording Saved) policy order before after (outputs old first) (outputs new last) all.rest
   some_told new same = record {
     read = all.read;
     consumed = all.consumed;
     packets = all.packets;
     records = all.records;
     verdicts = all.verdicts;
-    judged = λ some. by;
+    judged = λ some. first_said;
     count = all.count;
     text = subst (λ b. Appends old b lines) (sym same) wrote;
     whole = whole;
@@ -61,12 +45,28 @@ module _ {J : Type 0} {Judged : J → List PacketFacts → List Verdict → Type
   }
 
   -- memory ran out
-  pub end_unwritten : IsLiveFault (ByOneWorker options) (manner_of wording Saved) policy order before after (outputs old first) (outputs mid last) fault.Memory
+  pub end_unwritten : IsLiveFault (AreFirstVerdicts T options) (manner_of wording Saved) policy order before after (outputs old first) (outputs mid last) fault.Memory
   end_unwritten = (all.rest, some_told mid refl)
 
   module _ (behind : List ℕ) (told : IsToldBehind options text policy (packets_at 0 all.packets) all.verdicts behind) where
     abbrev report : List ℕ
     report = report_in wording (packets_at 0 all.packets) all.verdicts all.truncated ++ behind
+
+    abbrev judged : HasJudgedAll (ByAgeingWorkers options) policy order before after totals
+    judged = record {
+      read = all.read;
+      consumed = all.consumed;
+      ended = all.ended;
+      packets = all.packets;
+      rest = all.rest;
+      records = all.records;
+      truncated = all.truncated;
+      end = all.end;
+      verdicts = all.verdicts;
+      judged = told.by_ageing;
+      count = all.count;
+      counted = all.counted;
+    }
 
     abbrev is_report : IsReportBehind options text wording policy order before after totals report
     is_report = record { judged = judged; behind = behind; told = told; all = refl }
@@ -92,7 +92,7 @@ module _ {J : Type 0} {Judged : J → List PacketFacts → List Verdict → Type
     }
 
     fault_at_end : (new : Option (List ℕ)) (found : Fault) → IsTellingFault mid new (wording.end totals ++ behind) found
-        → IsLiveFault (ByOneWorker options) (manner_of wording Saved) policy order before after (outputs old first) (outputs new last) found ⊎ HasCutReport options text wording policy order before after old new found
+        → IsLiveFault (AreFirstVerdicts T options) (manner_of wording Saved) policy order before after (outputs old first) (outputs new last) found ⊎ HasCutReport options text wording policy order before after old new found
     fault_at_end new fault.Memory same = inl (all.rest, some_told new same)
     fault_at_end new fault.Write front = inr (record {
       failed = refl;
@@ -104,5 +104,5 @@ module _ {J : Type 0} {Judged : J → List PacketFacts → List Verdict → Type
     fault_at_end new found wrong = absurd wrong
 
     pub end_fault : (new : Option (List ℕ)) (found : Fault) (at : Wording) → at ≡ wording → IsTellingFault mid new (at.end totals ++ behind) found
-        → IsLiveFault (ByOneWorker options) (manner_of wording Saved) policy order before after (outputs old first) (outputs new last) found ⊎ HasCutReport options text wording policy order before after old new found
+        → IsLiveFault (AreFirstVerdicts T options) (manner_of wording Saved) policy order before after (outputs old first) (outputs new last) found ⊎ HasCutReport options text wording policy order before after old new found
     end_fault new found at same why = fault_at_end new found (subst (λ (w : Wording). IsTellingFault mid new (w.end totals ++ behind) found) same why)

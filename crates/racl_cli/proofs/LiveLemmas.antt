@@ -6,6 +6,10 @@ use Rattle.packet_view.specs.Captures.{AreRecords, PacketFacts, end_of, packet_a
 use Rattle.packet_view.specs.declared.capture.Order.{Order}
 use Rattle.packet_view.proofs.FrontLemmas.{behind_header_appended, header_appended}
 use Rattle.acl_policy.specs.Policies.{IsPolicyText, PolicyFacts, policy_facts}
+use Rattle.bihash_words.specs.declared.shape.Shape.{Ghosts}
+use Rattle.flow_filter.specs.OneThread.{layout_of}
+use Rattle.flow_workers.specs.declared.worker_setup.Setup.{Setup}
+use Rattle.flow_workers.specs.declared.workers.Workers.{Workers}
 use Rattle.flow_filter.specs.declared.interface_filters.InterfaceFilters.{InterfaceFilters}
 use Rattle.session_state.specs.declared.verdict.Verdict.{Verdict}
 use Rattle.racl_options.specs.declared.settings.Lines.{Lines}
@@ -30,9 +34,10 @@ use Rattle.racl_report.specs.declared.saved_packets.Saves.{Saves}
 use Rattle.capture_stream.specs.Lives.{HaveFailed, IsLiveFault}
 use Rattle.capture_stream.specs.Savings.{manner_of, outputs}
 use Rattle.capture_stream.proofs.TellLemmas.{failed_since, fault_as}
-use Rattle.racl_cli.specs.Crews.{AreRestingWith, AreSaid, IsAloneAfter, Orders, cuts_four, orders_for, orders_of, size_of}
-use Rattle.racl_cli.specs.LiveRuns.{AreFirstLines, ByOneWorker, HasHead, HasRunLive, IsEarlyFault, IsLiveReport, IsLiveRunFault, IsReportBehind, TellsAsAsked, TellsBehind}
+use Rattle.racl_cli.specs.Crews.{AreRestingWith, AreSaid, AreSaidSoFar, HaveSaidAfter, Orders, cuts_four, orders_for, orders_in, orders_of, size_of}
+use Rattle.racl_cli.specs.LiveRuns.{AreFirstLines, AreFirstVerdicts, ByAgeingWorkers, ByOneWorker, HasHead, HasRunLive, IsEarlyFault, IsLiveReport, IsLiveRunFault, IsOrderFor, IsReportBehind, TellsAsAsked, TellsBehind}
 use Rattle.racl_cli.specs.LiveSaves.{HaveSaved}
+use Rattle.racl_cli.specs.Runs.{bucket_deal}
 use Rattle.racl_cli.specs.inner.Heads.{HasReadHeader, IsHeadless}
 use Rattle.racl_cli.specs.inner.Kept.{HaveGot}
 use Rattle.racl_cli.specs.declared.live_saves.LiveSaves.{LiveSaves}
@@ -41,25 +46,72 @@ use Rattle.racl_cli.specs.declared.sized_tables_and_workers.SizedWorkers.{SizedW
 use Rattle.racl_cli.proofs.LiveSaveLemmas.{Keeps, SavesBehind, first_saved, have_saved}
 use Rattle.racl_cli.proofs.OutcomeLemmas.{by_one, given_by_workers, judged_as}
 
--- what the only worker says, whose orders are these, is right
-pub alone_said : {T : Type 0} (orders : Orders) (packets more : List PacketFacts) (said verdicts : List Verdict) (old : SizedWorkers T)
-    → IsAloneAfter orders packets said old
-    → ((orders_of old).deal.workers ≡ 1 → AreRestingWith packets said old → AreSaid (orders_of old) (packets ++ more) (said ++ verdicts))
-    → AreSaid orders (packets ++ more) (said ++ verdicts)
-alone_said orders packets more said verdicts old alone judged =
-    subst (λ o. AreSaid o (packets ++ more) (said ++ verdicts)) alone.given
-    (judged (ap (λ (o : Orders). o.deal.workers) alone.given ∙ alone.one) alone.rest)
+-- workers of one setup have one order
+pub same_orders : {A B R G K L : Type 0} {ga : Ghosts A K} {gb : Ghosts B L} (tables : Setup A B R G K L → SizedTables) (old new : Workers A B R G K L ga gb)
+    → new.setup ≡ old.setup → orders_in (tables new.setup) new ≡ orders_in (tables old.setup) old
+same_orders {ga = ga} {gb = gb} tables old new same =
+    ap (λ s. record {
+      tables = tables s;
+      deal = record { layout = layout_of ga gb; dealing = s.dealing; workers = s.workers };
+      times = s.filter.now.times;
+      ages = s.ages;
+      policy = policy_facts s.filter.now.policy.now;
+    }) same
 
--- what one worker said over tables that cut blocks, and what it knew then
-pub by_one_worker : (options : Options) (ready : InterfaceFilters) (tables : SizedTables) (orders : Orders) (packets : List PacketFacts)
-    (verdicts : List Verdict) → orders ≡ orders_for tables ready 1 (cuts_four tables) → cuts_four tables ≡ true → size_of tables ≡ options.tables
-    → ready.times ≡ options.times → 1 ≤ options.workers → (said : AreSaid orders packets verdicts)
-    → (by : ByOneWorker options (policy_facts ready.policy.now) packets verdicts) × (by.by_workers.views ≡ said.0)
-by_one_worker options ready tables orders packets verdicts given cut sized same some said =
+-- what workers hand over, whose orders are these
+pub said_so_far : {T : Type 0} (orders : Orders) (packets more : List PacketFacts) (said verdicts : List Verdict) (old new : SizedWorkers T)
+    → HaveSaidAfter orders packets said old → orders_of new ≡ orders_of old
+    → (AreRestingWith packets said old → AreRestingWith (packets ++ more) (said ++ verdicts) new)
+    → (AreRestingWith packets said old → length (said ++ verdicts) ≡ length (packets ++ more))
+    → ((orders_of old).deal.workers ≡ 1 → AreRestingWith packets said old → AreSaid (orders_of old) (packets ++ more) (said ++ verdicts))
+    → AreSaidSoFar T orders (packets ++ more) (said ++ verdicts)
+said_so_far {T} orders packets more said verdicts old new after same rest count judged =
+    subst (λ o. AreSaidSoFar T o (packets ++ more) (said ++ verdicts)) after.given
+    (record {
+      workers = new;
+      after = record { given = same; rest = rest after.rest };
+      count = count after.rest;
+      one = λ one. judged one after.rest;
+    })
+
+-- what workers said over tables that cut blocks, and what they knew then
+pub by_ageing_workers : (options : Options) (ready : InterfaceFilters) (tables : SizedTables) (orders : Orders) (workers : ℕ) (packets : List PacketFacts)
+    (verdicts : List Verdict) → orders ≡ orders_for tables ready workers (cuts_four tables) → cuts_four tables ≡ true → size_of tables ≡ options.tables
+    → ready.times ≡ options.times → 1 ≤ workers → workers ≤ options.workers → (said : AreSaid orders packets verdicts)
+    → (by : ByAgeingWorkers options (policy_facts ready.policy.now) packets verdicts) × (by.by_workers.views ≡ said.0) × (by.by_workers.workers ≡ workers)
+by_ageing_workers options ready tables orders workers packets verdicts given cut sized same some few said =
     let policy = policy_facts ready.policy.now in
-    let judged = judged_as packets verdicts said.0 orders tables options.tables ready 1 true (given ∙ ap (orders_for tables ready 1) cut) sized said.1 in
-    let by = given_by_workers options ready.times true policy packets verdicts said.0 1 same (omega arith) some judged in
-    (record { by_workers = by.0; one = by.2; by_one_thread = by_one options true policy packets verdicts by.0 }, by.1)
+    let judged = judged_as packets verdicts said.0 orders tables options.tables ready workers true (given ∙ ap (orders_for tables ready workers) cut) sized said.1 in
+    let by = given_by_workers options ready.times true policy packets verdicts said.0 workers same some few judged in
+    (record { by_workers = by.0; by_one_thread = by_one options true policy packets verdicts by.0 }, by.1, by.2)
+
+-- and one worker
+pub by_one_worker : {T : Type 0} (options : Options) (ready : InterfaceFilters) (tables : SizedTables) (orders : Orders) (packets : List PacketFacts)
+    (verdicts : List Verdict) → orders ≡ orders_for tables ready 1 (cuts_four tables) → cuts_four tables ≡ true → size_of tables ≡ options.tables
+    → ready.times ≡ options.times → 1 ≤ options.workers → AreSaidSoFar T orders packets verdicts
+    → ByOneWorker options (policy_facts ready.policy.now) packets verdicts
+by_one_worker options ready tables orders packets verdicts given cut sized same some said =
+    let by = by_ageing_workers options ready tables orders 1 packets verdicts given cut sized same (omega arith) some (said.one (ap (λ (o : Orders). o.deal.workers) given)) in
+    record { by_workers = by.0.by_workers; one = by.2; by_one_thread = by.0.by_one_thread }
+
+-- what workers said of the first packets
+pub first_verdicts : {T : Type 0} (options : Options) (ready : InterfaceFilters) (tables : SizedTables) (orders : Orders) (packets : List PacketFacts)
+    (verdicts : List Verdict) → orders ≡ orders_for tables ready options.workers (cuts_four tables) → cuts_four tables ≡ true → size_of tables ≡ options.tables
+    → ready.times ≡ options.times → 1 ≤ options.workers → AreSaidSoFar T orders packets verdicts
+    → AreFirstVerdicts T options (policy_facts ready.policy.now) packets verdicts
+first_verdicts options ready tables orders packets verdicts given cut sized same some said = record {
+  workers = said.workers;
+  by = subst (IsOrderFor options (policy_facts ready.policy.now)) (sym (said.after.given ∙ given)) (record {
+    deal = ap (λ z. bucket_deal z options.workers) sized;
+    times = same;
+    ages = cut;
+    policy_is = refl;
+  });
+  rest = said.after.rest;
+  count = said.count;
+  one = λ one. (by_ageing_workers options ready tables orders options.workers packets verdicts given cut sized same some (omega arith)
+      (said.one (ap (λ (o : Orders). o.deal.workers) given ∙ one))).0;
+}
 
 -- the header has the fault, or couldn't be read
 pub early_fault : (text : List ℕ) (before after : Option (List ℕ)) (fault : Fault) (policy : PolicyFacts) → IsPolicyText text policy → IsHeadless before after fault
@@ -147,7 +199,7 @@ live_report options text before left after policy order wording totals report sa
         refl,
       );
       verdicts = judged.verdicts;
-      by_one_worker = is.told.by_one_worker;
+      by_ageing = is.told.by_ageing;
       stored = is.told.stored;
       kept = is.told.kept;
       told = record {
@@ -161,12 +213,12 @@ live_report options text before left after policy order wording totals report sa
     }
 
 -- the report was written and packets saved, or why they weren't
-module _ {S : Type 0} (sink : S → Option (List ℕ)) (failures : S → ℕ) (options : Options) (text : List ℕ) (before left after old new : Option (List ℕ)) (first : Saves S)
+module _ {S : Type 0} (T : Type 0) (sink : S → Option (List ℕ)) (failures : S → ℕ) (options : Options) (text : List ℕ) (before left after old new : Option (List ℕ)) (first : Saves S)
     (mid last : LiveSaves S) (head : HasHead text before) (header : HasReadHeader before left head.order) (got : HaveGot sink header.header first mid.files) where
   pub live_ends : (wording : Wording) (result : Result Totals Fault) → TellsAsAsked options text head.policy wording → head.left ≡ left → head.header ≡ header.header
-      → TellsBehind options text (manner_of wording (Keeps sink failures)) head.policy head.order left after (outputs old mid) (outputs new last) result
+      → TellsBehind T options text (manner_of wording (Keeps sink failures)) head.policy head.order left after (outputs old mid) (outputs new last) result
       → MatchResult result (HasRunLive sink options text before (outputs old first) (outputs new last.files))
-      (IsLiveRunFault sink options text before after (outputs old first) (outputs new last.files))
+      (IsLiveRunFault T sink options text before after (outputs old first) (outputs new last.files))
   unfolding live_report
   live_ends wording (Ok totals) tells same kept told = record {
     report = told.report;
@@ -179,9 +231,9 @@ module _ {S : Type 0} (sink : S → Option (List ℕ)) (failures : S → ℕ) (o
     head,
     wording,
     tells,
-    subst (λ l. IsLiveFault (ByOneWorker options) (manner_of wording (SavesBehind sink head.header)) head.policy head.order l after (outputs old first) (outputs new last.files) fault)
+    subst (λ l. IsLiveFault (AreFirstVerdicts T options) (manner_of wording (SavesBehind sink head.header)) head.policy head.order l after (outputs old first) (outputs new last.files) fault)
         (sym same)
-        (fault_as (ByOneWorker options) (ByOneWorker options) wording (Keeps sink failures) (SavesBehind sink head.header) head.policy head.policy (λ packets verdicts by. by)
+        (fault_as (AreFirstVerdicts T options) (AreFirstVerdicts T options) wording (Keeps sink failures) (SavesBehind sink head.header) head.policy head.policy (λ packets verdicts by. by)
         head.order left after old new mid last first last.files
         (λ whole verdicts saved. subst (λ (h : List ℕ). HaveSaved sink (h ++ whole) verdicts first last.files) (sym kept)
         (first_saved sink failures head.order header.header whole verdicts first mid.files last.files header.headed header.whole got saved)) fault why),
@@ -203,8 +255,8 @@ write_since written writing saved saving first second (Ok totals) same kept (one
 write_since written writing saved saving first second (Err fault) same kept failed = failed_since written saved first second writing saving fault same kept failed
 
 -- the header couldn't be saved
-pub header_fault : {S : Type 0} (sink : S → Option (List ℕ)) (options : Options) (text : List ℕ) (before left old : Option (List ℕ)) (first last : Saves S) (order : Order)
+pub header_fault : {S : Type 0} (T : Type 0) (sink : S → Option (List ℕ)) (options : Options) (text : List ℕ) (before left old : Option (List ℕ)) (first last : Saves S) (order : Order)
     (header : HasReadHeader before left order) (fault : Fault) → fault ≡ Write
-    → IsLiveRunFault sink options text before left (outputs old first) (outputs old last) fault
-header_fault sink options text before left old first last order header fault is =
+    → IsLiveRunFault T sink options text before left (outputs old first) (outputs old last) fault
+header_fault T sink options text before left old first last order header fault is =
     inl (((header.header, header.consumed, let whole = header.whole in omega arith), inr (inr (inl is))), refl, λ other. absurd (other is))

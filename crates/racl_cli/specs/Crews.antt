@@ -99,7 +99,7 @@ orders_for tables filter workers ages = record {
 }
 
 -- those of workers whatever the size of their tables
-abbrev orders_in : {A B R G K L : Type 0} {ga : Ghosts A K} {gb : Ghosts B L} → SizedTables → Workers A B R G K L ga gb → Orders
+abbrev pub orders_in : {A B R G K L : Type 0} {ga : Ghosts A K} {gb : Ghosts B L} → SizedTables → Workers A B R G K L ga gb → Orders
 orders_in {ga = ga} {gb = gb} tables workers = record {
   tables = tables;
   deal = record { layout = layout_of ga gb; dealing = workers.setup.dealing; workers = workers.setup.workers };
@@ -148,23 +148,30 @@ abbrev pub HaveEndedOn : {T : Type 0} → SizedWorkers T → List Verdict → Si
 HaveEndedOn workers verdicts callers = (said : List Verdict) (packets : List PacketFacts) → AreRestingWith packets said workers
     → AreSaidBy (orders_of workers) packets (said ++ verdicts) callers
 
--- ---- one worker that hands over its verdicts
+-- ---- workers that hand over their verdicts
 
--- the only worker, with these orders, after these packets, of which it handed over this
-pub record IsAloneAfter {T : Type 0} (orders : Orders) (packets : List PacketFacts) (said : List Verdict) (workers : SizedWorkers T) : Type 0 where
+-- workers with these orders after these packets, of which they handed over this
+pub record HaveSaidAfter {T : Type 0} (orders : Orders) (packets : List PacketFacts) (said : List Verdict) (workers : SizedWorkers T) : Type 0 where
   pub given : orders_of workers ≡ orders
-  pub one : orders.deal.workers ≡ 1
   pub rest : AreRestingWith packets said workers
 
--- and it counted the packets where that is asked for
-pub record HasCountedAfter {T : Type 0} (orders : Orders) (asked : Bool) (packets : List PacketFacts) (said : List Verdict) (counted : Counted T) : Type 0 where
-  pub alone : IsAloneAfter orders packets said counted.lone.workers
+-- Workers that go on handed over this so far: a verdict on each packet. What the only one said are the verdicts by these orders
+-- already; what several said is known to be that when they have ended.
+pub record AreSaidSoFar (T : Type 0) (orders : Orders) (packets : List PacketFacts) (verdicts : List Verdict) : Type 0 where
+  pub workers : SizedWorkers T
+  pub after : HaveSaidAfter orders packets verdicts workers
+  pub count : length verdicts ≡ length packets
+  pub one : orders.deal.workers ≡ 1 → AreSaid orders packets verdicts
+
+-- and the packets were counted where that is asked for
+pub record HaveCountedAfter {T : Type 0} (orders : Orders) (asked : Bool) (packets : List PacketFacts) (said : List Verdict) (counted : Counted T) : Type 0 where
+  pub after : HaveSaidAfter orders packets said counted.crew.workers
   pub each : length said ≡ length packets
   pub policy : policy_facts counted.policy.now ≡ orders.policy
   pub same : counted.asked ≡ asked
   pub counts : asked ≡ true → HaveCounted orders.policy packets said counted.counts
 
--- it has ended
-pub record HasEndedCounting (orders : Orders) (asked : Bool) (packets : List PacketFacts) (said : List Verdict) (counts : HitCounts) (callers : SizedCallers) : Type 0 where
+-- they have ended
+pub record HaveEndedCounting (orders : Orders) (asked : Bool) (packets : List PacketFacts) (said : List Verdict) (counts : HitCounts) (callers : SizedCallers) : Type 0 where
   pub by : AreSaidBy orders packets said callers
   pub counted : asked ≡ true → HaveCounted orders.policy packets said counts

@@ -27,14 +27,37 @@ use Rattle.racl_views.specs.PartTellings.{AreExplainedLines, AreObjectLines, Tel
 use Rattle.racl_views.specs.RunEntries.{RunFacts}
 use Rattle.capture_stream.specs.Lives.{HasJudgedAll, IsLiveFault}
 use Rattle.capture_stream.specs.Savings.{Manner, Outputs}
+use Rattle.racl_cli.specs.Crews.{AreRestingWith, Orders, orders_of}
+use Rattle.racl_cli.specs.declared.sized_tables_and_workers.SizedWorkers.{SizedWorkers}
 use Rattle.racl_cli.specs.LiveSaves.{HaveSaved}
-use Rattle.racl_cli.specs.Runs.{AgeInTime, AreStoredOf, ByOneThread, ByWorkers, keeps_stored, layout_for}
+use Rattle.racl_cli.specs.Runs.{AgeInTime, AreStoredOf, ByOneThread, ByWorkers, bucket_deal, keeps_stored, layout_for}
 use Rattle.racl_report.specs.ReadInputs.{told_of}
 use Rattle.racl_report.specs.RunReports.{AreLines, IsReportOn, sessions_behind, told_facts, view_behind}
 use Rattle.racl_report.specs.declared.saved_packets.Saves.{Saves}
 
--- One worker that ages gave these verdicts. They are those of the one-thread filter, which forgets nothing, where none of them
--- says no-pages, and ageing is in time.
+-- Workers that age gave these verdicts, no more of them than the words ask for. They are those of the one-thread filter, which
+-- forgets nothing, where none of them says no-pages, and ageing is in time.
+pub record ByAgeingWorkers (options : Options) (policy : PolicyFacts) (packets : List PacketFacts) (verdicts : List Verdict) : Type 0 where
+  pub by_workers : ByWorkers options true policy packets verdicts
+  pub by_one_thread : HavePages verdicts → AgeInTime by_workers → ByOneThread options.tables options.times policy packets verdicts
+
+-- as many workers as the words ask for judge so: over tables of the size, with the timeouts, and by this policy; and they age
+pub record IsOrderFor (options : Options) (policy : PolicyFacts) (orders : Orders) : Type 0 where
+  pub deal : orders.deal ≡ bucket_deal options.tables options.workers
+  pub times : orders.times ≡ options.times
+  pub ages : orders.ages ≡ true
+  pub policy_is : orders.policy ≡ policy
+
+-- What such workers handed over, as many as the words ask for, who go on: a verdict on each of these packets. Of one worker these
+-- are its verdicts; of several they are known to be that when these have ended.
+pub record AreFirstVerdicts (T : Type 0) (options : Options) (policy : PolicyFacts) (packets : List PacketFacts) (verdicts : List Verdict) : Type 0 where
+  pub workers : SizedWorkers T
+  pub by : IsOrderFor options policy (orders_of workers)
+  pub rest : AreRestingWith packets verdicts workers
+  pub count : length verdicts ≡ length packets
+  pub one : options.workers ≡ 1 → ByAgeingWorkers options policy packets verdicts
+
+-- so did one worker
 pub record ByOneWorker (options : Options) (policy : PolicyFacts) (packets : List PacketFacts) (verdicts : List Verdict) : Type 0 where
   pub by_workers : ByWorkers options true policy packets verdicts
   pub one : by_workers.workers ≡ 1
@@ -64,9 +87,9 @@ TellsAsAsked options text policy wording =
 
 -- what stands behind the totals of packets with these verdicts: hits, and the sessions that stood in the tables then
 pub record IsToldBehind (options : Options) (text : List ℕ) (policy : PolicyFacts) (packets : List PacketFacts) (verdicts : List Verdict) (behind : List ℕ) : Type 0 where
-  pub by_one_worker : ByOneWorker options policy packets verdicts
+  pub by_ageing : ByAgeingWorkers options policy packets verdicts
   pub stored : StoredFacts
-  pub kept : keeps_stored options ≡ true → AreStoredOf (layout_for options.tables) by_one_worker.by_workers.views stored
+  pub kept : keeps_stored options ≡ true → AreStoredOf (layout_for options.tables) by_ageing.by_workers.views stored
   pub hits : List ℕ
   pub told : (captures : List Captured)
       → AreHits options.hits (view_behind options.lines) options.times (told_facts policy text packets (record { verdicts = verdicts; captures = captures }) options.shown) stored hits
@@ -75,7 +98,7 @@ pub record IsToldBehind (options : Options) (text : List ℕ) (policy : PolicyFa
 -- all of a capture behind its header was judged, and this is the report on it
 pub record IsReportBehind (options : Options) (text : List ℕ) (wording : Wording) (policy : PolicyFacts) (order : Order) (before after : Option (List ℕ))
     (totals : Totals) (report : List ℕ) : Type 0 where
-  pub judged : HasJudgedAll (ByOneWorker options) policy order before after totals
+  pub judged : HasJudgedAll (ByAgeingWorkers options) policy order before after totals
   pub behind : List ℕ
   pub told : IsToldBehind options text policy (packets_at 0 judged.packets) judged.verdicts behind
   pub all : report ≡ report_in wording (packets_at 0 judged.packets) judged.verdicts judged.truncated ++ behind
@@ -100,11 +123,11 @@ pub record HasToldBehind {K : Type 0} (options : Options) (text : List ℕ) (man
   pub saved : manner.saved old.saver order whole is.judged.verdicts new.saver
 
 -- so, or why it wasn't
-abbrev pub TellsBehind : {K : Type 0} → Options → List ℕ → Manner K → PolicyFacts → Order → Option (List ℕ) → Option (List ℕ) → Outputs K → Outputs K
+abbrev pub TellsBehind : {K : Type 0} → Type 0 → Options → List ℕ → Manner K → PolicyFacts → Order → Option (List ℕ) → Option (List ℕ) → Outputs K → Outputs K
     → Result Totals Fault → Type 0
-TellsBehind options text manner policy order before after old new result =
+TellsBehind T options text manner policy order before after old new result =
     MatchResult result (HasToldBehind options text manner policy order before after old new)
-    (λ fault. IsLiveFault (ByOneWorker options) manner policy order before after old new fault
+    (λ fault. IsLiveFault (AreFirstVerdicts T options) manner policy order before after old new fault
     ⊎ HasCutReport options text manner.wording policy order before after old.report new.report fault)
 
 -- The source's bytes are a capture, and this is the report on it.
@@ -117,9 +140,9 @@ pub record IsLiveReport (options : Options) (text : List ℕ) (given : Option (L
   pub truncated : Bool
   pub records : IsCaptureAt 0 bytes packets (end_of truncated)
   pub verdicts : List Verdict
-  pub by_one_worker : ByOneWorker options policy packets verdicts
+  pub by_ageing : ByAgeingWorkers options policy packets verdicts
   pub stored : StoredFacts
-  pub kept : keeps_stored options ≡ true → AreStoredOf (layout_for options.tables) by_one_worker.by_workers.views stored
+  pub kept : keeps_stored options ≡ true → AreStoredOf (layout_for options.tables) by_ageing.by_workers.views stored
   pub told : IsReportOn options text policy packets
       (record { outcome = record { verdicts = verdicts; captures = told_of None packets truncated ∷ [] }; stored = stored }) report
   pub counted : totals ≡ totals_of verdicts (told_of None packets truncated ∷ [])
@@ -152,11 +175,11 @@ IsEarlyFault text before after fault = GaveAtMost before after 24
 -- Why the report isn't whole: nothing was written, nor saved unless a write failed; or the first lines were, and so were the
 -- packets that they tell, as a capture that ends there; or a front of the report. What is written after each read is a front of
 -- the report on what was read.
-abbrev pub IsLiveRunFault : {S : Type 0} → (S → Option (List ℕ)) → Options → List ℕ → Option (List ℕ) → Option (List ℕ) → Outputs (Saves S) → Outputs (Saves S)
+abbrev pub IsLiveRunFault : {S : Type 0} → Type 0 → (S → Option (List ℕ)) → Options → List ℕ → Option (List ℕ) → Option (List ℕ) → Outputs (Saves S) → Outputs (Saves S)
     → Fault → Type 0
-IsLiveRunFault sink options text before after old new fault =
+IsLiveRunFault T sink options text before after old new fault =
     (IsEarlyFault text before after fault × (new.report ≡ old.report) × (fault ≢ Write → new.saver ≡ old.saver))
     ⊎ ((head : HasHead text before) × (wording : Wording) × TellsAsAsked options text head.policy wording
-    × IsLiveFault (ByOneWorker options)
+    × IsLiveFault (AreFirstVerdicts T options)
     (record { wording = wording; saved = λ before order records verdicts after. HaveSaved sink (head.header ++ records) verdicts before after }) head.policy head.order head.left after old new fault)
     ⊎ HasCutLive options text before after old.report new.report fault

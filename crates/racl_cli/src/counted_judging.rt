@@ -1,7 +1,7 @@
-//! One worker who hands its verdicts over, and counts the packets where hits are asked for.
+//! Workers who hand their verdicts over, and whose packets are counted where hits are asked for.
 
 use crate::sized_tables_and_workers::SizedCallers;
-use crate::workers_as_judges::Lone;
+use crate::workers_as_judges::HandingCrew;
 use acl_policy::Policy;
 use capture_stream::Judge;
 use flow_workers::Verdict;
@@ -11,10 +11,10 @@ use std::alloc::{AllocError, Global};
 use std::sync::Wait;
 use std::thread::Threads;
 
-/// One worker, the policy that it goes by, and the counts of the packets that it judged.
+/// Workers, the policy that they go by, and the counts of the packets that they judged.
 #[derive(Drop)]
 pub struct Counted<'t, 'f, T: Wait> {
-    pub lone: Lone<'t, 'f, T>,
+    pub crew: HandingCrew<'t, 'f, T>,
     pub policy: &'f Policy,
     /// Whether packets are counted.
     pub asked: bool,
@@ -23,15 +23,15 @@ pub struct Counted<'t, 'f, T: Wait> {
 
 impl<'t, 'f, T: Threads + Wait + Sync> Judge for Counted<'t, 'f, T> {
     ghost use Rattle.std.specs.Thread.{IsSync};
-    ghost use Rattle.racl_cli.specs.Crews.{AreSaid, HasCountedAfter, orders_of};
+    ghost use Rattle.racl_cli.specs.Crews.{AreSaidSoFar, HaveCountedAfter, orders_of};
 
-    ghost became = { λ begun packets said counted. IsSync T.row × HasCountedAfter (orders_of begun.lone.workers) begun.asked packets said counted };
+    ghost became = { λ begun packets said counted. IsSync T.row × HaveCountedAfter (orders_of begun.crew.workers) begun.asked packets said counted };
 
-    ghost judged = { λ begun packets said. AreSaid (orders_of begun.lone.workers) packets said };
+    ghost judged = { λ begun packets said. AreSaidSoFar T (orders_of begun.crew.workers) packets said };
 
-    // The worker judges these packets, and counts them by its verdicts.
+    // The workers judge these packets, which are counted by their verdicts.
     fn judge(&mut self, packets: Packets<'_>) -> Result<Vec<Verdict>, AllocError> {
-        let said = self.lone.judge(packets)?;
+        let said = self.crew.judge(packets)?;
         if !self.asked {
             return Ok(said);
         }
@@ -44,16 +44,16 @@ impl<'t, 'f, T: Wait> Counted<'t, 'f, T> {
     ghost use Rattle.std.specs.Prelude.{Bool, IfOk, List};
     ghost use Rattle.packet_view.specs.Captures.{PacketFacts};
     ghost use Rattle.session_state.specs.declared.verdict.Verdict.{Verdict};
-    ghost use Rattle.racl_cli.specs.Crews.{HasCountedAfter, HasEndedCounting, Orders};
+    ghost use Rattle.racl_cli.specs.Crews.{HaveCountedAfter, HaveEndedCounting, Orders};
 
-    /// The worker ends: the counts, and all callers of each table as one. An error says that memory was refused.
+    /// The workers end: the counts, and all callers of each table as one. An error says that memory was refused.
     pub fn end(self, alloc: Global) -> Result<(HitCounts, SizedCallers), AllocError>
-        requires { (orders : Orders) × (asked : Bool) × (packets : List PacketFacts) × (said : List Verdict) × HasCountedAfter orders asked packets said self }
+        requires { (orders : Orders) × (asked : Bool) × (packets : List PacketFacts) × (said : List Verdict) × HaveCountedAfter orders asked packets said self }
         ensures { IfOk result (λ r. (orders : Orders) (asked : Bool) (packets : List PacketFacts) (said : List Verdict)
-            → HasCountedAfter orders asked packets said self.entry → HasEndedCounting orders asked packets said r.0 r.1) }
+            → HaveCountedAfter orders asked packets said self.entry → HaveEndedCounting orders asked packets said r.0 r.1) }
     {
-        let Counted { lone, counts, .. } = self;
-        let Lone { workers, .. } = lone;
+        let Counted { crew, counts, .. } = self;
+        let HandingCrew { workers, .. } = crew;
         match workers.end(alloc) {
             Ok((_, callers)) => Ok((counts, callers)),
             Err(_) => Err(AllocError),

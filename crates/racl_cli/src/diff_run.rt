@@ -5,7 +5,7 @@ ghost use Rattle.racl_cli.specs.DiffRuns.{AreTimesOf, ComparesWith, EndsDiff, Ha
 use crate::capture_header_reading::read_header;
 use crate::diff_input::{DiffFault, PolicyTexts};
 use crate::sized_tables_and_workers::{Manner, SizedWorkers, create_sized};
-use crate::workers_as_judges::Lone;
+use crate::workers_as_judges::HandingCrew;
 use acl_policy::read_policy;
 use flow_filter::InterfaceFilters;
 use flow_workers::Filter;
@@ -64,8 +64,8 @@ fn compare_capture<R: Source, W: Sink, T: Threads + Wait + Sync>(
         return Err(Fault::Memory);
     };
     let judges = (
-        Lone { alloc, workers },
-        Lone {
+        HandingCrew { alloc, workers },
+        HandingCrew {
             alloc,
             workers: other_workers,
         },

@@ -18,7 +18,7 @@ use crate::sized_tables_and_workers::{
     Manner, SizedCallers, SizedTables, SizedWorkers, create_sized,
 };
 use crate::stored_sessions::{keeps_stored, stored_of};
-use crate::workers_as_judges::Lone;
+use crate::workers_as_judges::HandingCrew;
 use acl_policy::read_policy;
 use capture_stream::{Headed, Saver, ToldCapture, tell_live};
 use flow_filter::InterfaceFilters;
@@ -53,7 +53,7 @@ pub struct LiveHead<'t, 'f> {
     pub order: Order,
 }
 
-// What stands behind the totals of a live run whose worker has ended: with these counts, and these tables, which end.
+// What stands behind the totals of a live run whose workers have ended: with these counts, and these tables, which end.
 fn told_behind_live(
     alloc: Global,
     head: LiveHead<'_, '_>,
@@ -85,8 +85,8 @@ fn tell_end_behind<L: Teller, W: Sink>(
     }
 }
 
-// In a live run one worker judges the packets of the capture behind its header, and they are told and saved, while they come.
-// Its tables cut blocks, and it removes sessions that have ended, as the run may never end.
+// In a live run workers judge the packets of the capture behind its header, and they are told and saved, while they come. The
+// tables cut blocks, and sessions that have ended are removed, as the run may never end.
 fn tell_capture<L: Teller, K: Saver, R: Source, W: Sink, T: Threads + Wait + Sync>(
     rt: &T,
     head: LiveHead<'_, '_>,
@@ -98,7 +98,7 @@ fn tell_capture<L: Teller, K: Saver, R: Source, W: Sink, T: Threads + Wait + Syn
     requires says { IsPolicyText head.text.now (policy_facts head.filter.now.policy.now) }
     requires sound { (head.filter.now.times ≡ head.options.now.times) × (R.failures reader.old < 2 ^ 64 - 1) × (W.failures writer.old < 2 ^ 64 - 1) }
     requires saves { K.saved saver.old head.order [] [] saver.old }
-    ensures told { TellsBehind head.entry.options.now head.entry.text.now (manner_of (L.wording teller.old) K.saved) (policy_facts head.entry.filter.now.policy.now) head.entry.order
+    ensures told { TellsBehind T head.entry.options.now head.entry.text.now (manner_of (L.wording teller.old) K.saved) (policy_facts head.entry.filter.now.policy.now) head.entry.order
         (R.bytes reader.old) (R.bytes reader.new) (outputs (W.bytes writer.old) saver.old) (outputs (W.bytes writer.new) saver.new) result }
     ensures read { MatchResult result (λ _. R.failures reader.new ≡ R.failures reader.old) (λ fault. R.failures reader.new ≡ with_read (R.failures reader.old) fault) }
     ensures write { MatchResult result (λ _. (W.failures writer.new ≡ W.failures writer.old) × (K.failures saver.new ≡ K.failures saver.old))
@@ -110,14 +110,14 @@ fn tell_capture<L: Teller, K: Saver, R: Source, W: Sink, T: Threads + Wait + Syn
     };
     let manner = Manner {
         filter: head.filter,
-        workers: 1,
+        workers: head.options.workers,
     };
     let Ok(workers) = SizedWorkers::new(rt, alloc, manner, &tables, callers) else {
         return Err(Fault::Memory);
     };
     let counts = HitCounts::new(alloc);
     let judges = Counted {
-        lone: Lone { alloc, workers },
+        crew: HandingCrew { alloc, workers },
         policy: head.filter.policy,
         asked: head.options.hits,
         counts,
@@ -156,7 +156,7 @@ fn tell_as_asked<K: Saver, R: Source, W: Sink, T: Threads + Wait + Sync>(
     requires sound { (R.failures reader.old < 2 ^ 64 - 1) × (W.failures writer.old < 2 ^ 64 - 1) }
     requires saves { K.saved saver.old head.order [] [] saver.old }
     ensures told { let options = head.entry.options.now in let text = head.entry.text.now in let policy = policy_facts head.entry.filter.now.policy.now in (wording : Wording) × TellsAsAsked options text policy wording
-        × TellsBehind options text (manner_of wording K.saved) policy head.entry.order (R.bytes reader.old) (R.bytes reader.new) (outputs (W.bytes writer.old) saver.old) (outputs (W.bytes writer.new) saver.new) result }
+        × TellsBehind T options text (manner_of wording K.saved) policy head.entry.order (R.bytes reader.old) (R.bytes reader.new) (outputs (W.bytes writer.old) saver.old) (outputs (W.bytes writer.new) saver.new) result }
     ensures read { MatchResult result (λ _. R.failures reader.new ≡ R.failures reader.old) (λ fault. R.failures reader.new ≡ with_read (R.failures reader.old) fault) }
     ensures write { MatchResult result (λ _. (W.failures writer.new ≡ W.failures writer.old) × (K.failures saver.new ≡ K.failures saver.old))
         (λ fault. HaveFailed (W.failures writer.old) (W.failures writer.new) (K.failures saver.old) (K.failures saver.new) fault) }
@@ -184,8 +184,8 @@ fn tell_as_asked<K: Saver, R: Source, W: Sink, T: Threads + Wait + Sync>(
 /// Filters a capture by a policy with this text while it comes, and writes the report that the options ask for: after each read
 /// what is told of all packets whose records were read whole, and at its end what stands behind them: the totals, and the hits
 /// and sessions that are asked for. Where files are given for packets that are dropped or pass, each gets them as a capture,
-/// after each read too. One worker judges, which keeps no verdict, but counts, and removes sessions that have ended, so that a
-/// capture may be of any length. A fault leaves what was written and saved; but for Write neither totals nor hits stand behind
+/// after each read too. As many workers as are asked for judge, who keep no verdict, but count, and remove sessions that have
+/// ended, so that a capture may be of any length. A fault leaves what was written and saved; but for Write neither totals nor hits stand behind
 /// it.
 pub fn run_live<R: Source, W: Sink, S: Sink, T: Threads + Wait + Sync>(
     rt: &T,
@@ -200,7 +200,7 @@ pub fn run_live<R: Source, W: Sink, S: Sink, T: Threads + Wait + Sync>(
     requires files { IfSome saves.old.files.drops (λ file. S.failures file < 2 ^ 64 - 1) × IfSome saves.old.files.passes (λ file. S.failures file < 2 ^ 64 - 1) }
     ensures told { let old : Outputs (Saves S) = record { report = W.bytes writer.old; saver = saves.old.files } in let new : Outputs (Saves S) = record { report = W.bytes writer.new; saver = saves.new.files } in
         MatchResult result (HasRunLive S.bytes asked.entry.options.now asked.entry.text.now (R.bytes reader.old) old new)
-        (IsLiveRunFault S.bytes asked.entry.options.now asked.entry.text.now (R.bytes reader.old) (R.bytes reader.new) old new) }
+        (IsLiveRunFault T S.bytes asked.entry.options.now asked.entry.text.now (R.bytes reader.old) (R.bytes reader.new) old new) }
 
     // A device's fault is answered where it failed, and it failed once.
     ensures read { MatchResult result (λ _. R.failures reader.new ≡ R.failures reader.old) (λ fault. R.failures reader.new ≡ with_read (R.failures reader.old) fault) }

@@ -37,22 +37,22 @@ impl<'t, 'f, T: Threads + Wait + Sync> Judge for Crew<'t, 'f, T> {
     }
 }
 
-/// One worker that hands over its verdicts, and where it gets memory.
+/// Workers that hand over their verdicts, and where they get memory.
 #[derive(Drop)]
-pub struct Lone<'t, 'f, T: Wait> {
+pub struct HandingCrew<'t, 'f, T: Wait> {
     pub alloc: Global,
     pub workers: SizedWorkers<'t, 'f, T>,
 }
 
-impl<'t, 'f, T: Threads + Wait + Sync> Judge for Lone<'t, 'f, T> {
+impl<'t, 'f, T: Threads + Wait + Sync> Judge for HandingCrew<'t, 'f, T> {
     ghost use Rattle.std.specs.Thread.{IsSync};
-    ghost use Rattle.racl_cli.specs.Crews.{AreSaid, IsAloneAfter, orders_of};
+    ghost use Rattle.racl_cli.specs.Crews.{AreSaidSoFar, HaveSaidAfter, orders_of};
 
-    ghost became = { λ begun packets said lone. IsSync T.row × IsAloneAfter (orders_of begun.workers) packets said lone.workers };
+    ghost became = { λ begun packets said crew. IsSync T.row × HaveSaidAfter (orders_of begun.workers) packets said crew.workers };
 
-    ghost judged = { λ begun packets said. AreSaid (orders_of begun.workers) packets said };
+    ghost judged = { λ begun packets said. AreSaidSoFar T (orders_of begun.workers) packets said };
 
-    // The only worker judges these packets, as the judge of a capture, and hands over the verdicts.
+    // The workers judge these packets, as judges of a capture, and hand over the verdicts.
     fn judge(&mut self, packets: Packets<'_>) -> Result<Vec<Verdict>, AllocError> {
         let said = match &mut self.workers {
             SizedWorkers::Standard(workers) => workers.judge_on(self.alloc, packets),

@@ -1,11 +1,9 @@
-use Rattle.std.proofs.Common.{ap, refl, rules}
+use Rattle.std.proofs.Common.{refl, rules}
 use Rattle.std.proofs.lemmas.Result.{MatchResult-weaker}
-use Rattle.acl_policy.specs.Policies.{policy_facts}
 use Rattle.verdict_changes.proofs.CompareLemmas.{all_as, fault_as, none_compared}
-use Rattle.racl_cli.specs.Crews.{Orders, orders_of}
+use Rattle.racl_cli.specs.Crews.{orders_of}
 use Rattle.racl_cli.specs.DiffRuns.{policies_in}
 use Rattle.racl_cli.specs.LiveRuns.{ByOneWorker}
-use Rattle.racl_cli.proofs.CountedLemmas.{said_count}
 use Rattle.racl_cli.proofs.LiveLemmas.{by_one_worker}
 use Rattle.racl_cli.proofs.diff_run.compare_capture.Goals as goal
 
@@ -31,14 +29,14 @@ returns-in_default-new-2-clause-told g c =
 
 pub tell_changes-requires-clause-begun : goal.tell_changes-requires-clause-begun
 tell_changes-requires-clause-begun g c = (
-  (search rules, record { given = refl; one = ap (λ (o : Orders). o.deal.workers) c.in-Ok-new.ensures.given; rest = c.in-Ok-new.ensures.rest }),
-  (search rules, record { given = refl; one = ap (λ (o : Orders). o.deal.workers) c.in-Ok-new-2.ensures.given; rest = c.in-Ok-new-2.ensures.rest }),
+  (search rules, record { given = refl; rest = c.in-Ok-new.ensures.rest }),
+  (search rules, record { given = refl; rest = c.in-Ok-new-2.ensures.rest }),
 )
 
 pub tell_changes-requires-clause-counts : goal.tell_changes-requires-clause-counts
 tell_changes-requires-clause-counts g c = (
-  λ begun packets said are. said_count (orders_of begun.workers) packets said are,
-  λ begun packets said are. said_count (orders_of begun.workers) packets said are,
+  λ begun packets said are. are.count,
+  λ begun packets said are. are.count,
 )
 
 pub returns-clause-told : goal.returns-clause-told
@@ -49,10 +47,10 @@ returns-clause-told g c =
     let also = by_one_worker options c.args.head.after.now _ (orders_of c.in-Ok-new-2.other_workers) in
     MatchResult-weaker c.tell_changes.result c.tell_changes.ensures.told
     (λ totals told. all_as policies _ _ (ByOneWorker options policies.before) (ByOneWorker options policies.after)
-    (λ packets verdicts judged. (tells packets verdicts c.in-Ok-new.ensures.given c.in-Ok.ensures.asked.four c.in-Ok.ensures.asked.size c.requires.sound.0.0 options.few.0 judged).0)
-    (λ packets verdicts judged. (also packets verdicts c.in-Ok-new-2.ensures.given c.in-Ok-create_sized.ensures.asked.four c.in-Ok-create_sized.ensures.asked.size c.requires.sound.0.1 options.few.0 judged).0)
+    (λ packets verdicts judged. (tells packets verdicts c.in-Ok-new.ensures.given c.in-Ok.ensures.asked.four c.in-Ok.ensures.asked.size c.requires.sound.0.0 options.few.0 judged))
+    (λ packets verdicts judged. (also packets verdicts c.in-Ok-new-2.ensures.given c.in-Ok-create_sized.ensures.asked.four c.in-Ok-create_sized.ensures.asked.size c.requires.sound.0.1 options.few.0 judged))
     _ _ _ _ _ totals told)
     (λ found told. fault_as policies _ _ (ByOneWorker options policies.before) (ByOneWorker options policies.after)
-    (λ packets verdicts judged. (tells packets verdicts c.in-Ok-new.ensures.given c.in-Ok.ensures.asked.four c.in-Ok.ensures.asked.size c.requires.sound.0.0 options.few.0 judged).0)
-    (λ packets verdicts judged. (also packets verdicts c.in-Ok-new-2.ensures.given c.in-Ok-create_sized.ensures.asked.four c.in-Ok-create_sized.ensures.asked.size c.requires.sound.0.1 options.few.0 judged).0)
+    (λ packets verdicts judged. (tells packets verdicts c.in-Ok-new.ensures.given c.in-Ok.ensures.asked.four c.in-Ok.ensures.asked.size c.requires.sound.0.0 options.few.0 judged))
+    (λ packets verdicts judged. (also packets verdicts c.in-Ok-new-2.ensures.given c.in-Ok-create_sized.ensures.asked.four c.in-Ok-create_sized.ensures.asked.size c.requires.sound.0.1 options.few.0 judged))
     _ _ _ _ _ found told)

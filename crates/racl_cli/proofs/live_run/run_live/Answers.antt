@@ -17,7 +17,7 @@ returns-in-Err-keep_header-clause-told g c =
 
 pub returns-in-Err-begin-clause-told : goal.returns-in-Err-begin-clause-told
 returns-in-Err-begin-clause-told g c =
-    header_fault g.S.Sink.bytes c.args.asked.options.now c.args.asked.text.now _ _ _ _ _ c.in-Ok-keep_header.order c.in-Ok-keep_header.ensures.header.0 c.in-Err-begin.fault
+    header_fault _ g.S.Sink.bytes c.args.asked.options.now c.args.asked.text.now _ _ _ _ _ c.in-Ok-keep_header.order c.in-Ok-keep_header.ensures.header.0 c.in-Err-begin.fault
     c.in-Err-begin.ensures.failed.2
 
 pub tell_as_asked-requires-clause-says : goal.tell_as_asked-requires-clause-says
@@ -34,7 +34,7 @@ returns-clause-told g c =
     let says = subst (λ (p : Policy). IsPolicyText c.args.asked.text.now (policy_facts p)) (sym c.in-Ok-ready_with.ensures.policy) c.in-Ok.ensures.ok in
     let (header, kept) = c.in-Ok-keep_header.ensures.header in
     let (wording, tells, told) = c.tell_as_asked.ensures.told in
-    live_ends g.S.Sink.bytes g.S.Sink.failures c.args.asked.options.now c.args.asked.text.now _ (g.R.Source.bytes c.keep_header.new.reader) _ _ _ c.args.saves.now.files
+    live_ends _ g.S.Sink.bytes g.S.Sink.failures c.args.asked.options.now c.args.asked.text.now _ (g.R.Source.bytes c.keep_header.new.reader) _ _ _ c.args.saves.now.files
     c.begin.new.self c.tell_as_asked.new.saver
     (record {
       policy = policy;

@@ -3,7 +3,7 @@ use Rattle.acl_policy.specs.Policies.{policy_facts}
 use Rattle.racl_options.specs.declared.settings.Lines.TheVariants.{Explained, Json, Plain}
 use Rattle.capture_stream.specs.Savings.{manner_of, outputs}
 use Rattle.capture_stream.proofs.TellLemmas.{none_told}
-use Rattle.racl_cli.specs.LiveRuns.{ByOneWorker}
+use Rattle.racl_cli.specs.LiveRuns.{AreFirstVerdicts}
 use Rattle.racl_cli.proofs.LiveLemmas.{explained_as_asked, objects_as_asked, plain_as_asked, some_way}
 use Rattle.racl_cli.proofs.live_run.tell_as_asked.Goals as goal
 
@@ -18,7 +18,7 @@ returns-in-Err-clause-told g c =
     let (wording, tells) = some_way c.args.head.options.now c.args.head.text.now policy Plain c.in-Plain.is c.requires.says in (
       wording,
       tells,
-      inl (none_told (ByOneWorker c.args.head.options.now) (manner_of wording g.K.Saver.saved) policy c.args.head.order (g.R.Source.bytes c.args.reader.now)
+      inl (none_told (AreFirstVerdicts _ c.args.head.options.now) (manner_of wording g.K.Saver.saved) policy c.args.head.order (g.R.Source.bytes c.args.reader.now)
           (outputs (g.W.Sink.bytes c.args.writer.now) c.args.saver.now) c.requires.saves),
     )
 
@@ -37,7 +37,7 @@ returns-in-Err-new-clause-told g c =
     let (wording, tells) = some_way c.args.head.options.now c.args.head.text.now policy Explained c.in-Explained.is c.requires.says in (
       wording,
       tells,
-      inl (none_told (ByOneWorker c.args.head.options.now) (manner_of wording g.K.Saver.saved) policy c.args.head.order (g.R.Source.bytes c.args.reader.now)
+      inl (none_told (AreFirstVerdicts _ c.args.head.options.now) (manner_of wording g.K.Saver.saved) policy c.args.head.order (g.R.Source.bytes c.args.reader.now)
           (outputs (g.W.Sink.bytes c.args.writer.now) c.args.saver.now) c.requires.saves),
     )
 
@@ -56,6 +56,6 @@ returns-in-Err-new-2-clause-told g c =
     let (wording, tells) = some_way c.args.head.options.now c.args.head.text.now policy Json c.in-Json.is c.requires.says in (
       wording,
       tells,
-      inl (none_told (ByOneWorker c.args.head.options.now) (manner_of wording g.K.Saver.saved) policy c.args.head.order (g.R.Source.bytes c.args.reader.now)
+      inl (none_told (AreFirstVerdicts _ c.args.head.options.now) (manner_of wording g.K.Saver.saved) policy c.args.head.order (g.R.Source.bytes c.args.reader.now)
           (outputs (g.W.Sink.bytes c.args.writer.now) c.args.saver.now) c.requires.saves),
     )

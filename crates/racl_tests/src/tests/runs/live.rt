@@ -78,36 +78,48 @@ fn unsaved<T: Threads + Wait + Sync>(
     run_live(rt, alloc, asked, reader, writer, &mut saves)
 }
 
-/// Live runs on a capture of which a read fails, or which ends, within a record or behind one.
+// For tests of live runs: these options where words ask for four workers.
+fn by_four(mut options: Options) -> Options {
+    options.workers = 4;
+    options
+}
+
+/// Live runs by one worker and by four on a capture of which a read fails, or which ends, within a record or behind one.
 #[test]
 fn lines_are_written_as_soon_as_their_records_are_there(rt: HostRuntime) -> Result<(), Fail> {
     let alloc = rt.alloc();
     let bytes = decode_digits(alloc, CAPTURE)?;
-    for (count, lines, end) in CUTS {
-        let rest = &bytes[..count.min(bytes.len())];
-        let mut reader = Drip {
-            rest,
-            reads: count,
-            failures: 0,
-        };
-        let mut writer = trickling(alloc, usize::MAX);
-        let outcome = unsaved(&rt, alloc, &DEFAULTS, &mut reader, &mut writer);
-        assert!(rt; outcome == Err(Fault::Read), "after {count} bytes");
-        assert!(rt;
-            writer.taken.as_slice() == lines.as_bytes(),
-            "after {count} bytes"
-        );
-        let mut reader = Drip {
-            rest,
-            reads: usize::MAX,
-            failures: 0,
-        };
-        let mut writer = trickling(alloc, usize::MAX);
-        let outcome = unsaved(&rt, alloc, &DEFAULTS, &mut reader, &mut writer);
-        assert!(rt; outcome.is_ok() == true, "of {count} bytes");
-        let (told, behind) = writer.taken.split_at(lines.len().min(writer.taken.len()));
-        assert!(rt; told == lines.as_bytes(), "of {count} bytes");
-        assert!(rt; behind == end.as_bytes(), "of {count} bytes");
+    for options in [DEFAULTS, by_four(DEFAULTS)] {
+        let workers = options.workers;
+        for (count, lines, end) in CUTS {
+            let rest = &bytes[..count.min(bytes.len())];
+            let mut reader = Drip {
+                rest,
+                reads: count,
+                failures: 0,
+            };
+            let mut writer = trickling(alloc, usize::MAX);
+            let outcome = unsaved(&rt, alloc, &options, &mut reader, &mut writer);
+            assert!(rt;
+                outcome == Err(Fault::Read),
+                "{workers} after {count} bytes"
+            );
+            assert!(rt;
+                writer.taken.as_slice() == lines.as_bytes(),
+                "{workers} after {count} bytes"
+            );
+            let mut reader = Drip {
+                rest,
+                reads: usize::MAX,
+                failures: 0,
+            };
+            let mut writer = trickling(alloc, usize::MAX);
+            let outcome = unsaved(&rt, alloc, &options, &mut reader, &mut writer);
+            assert!(rt; outcome.is_ok() == true, "{workers} of {count} bytes");
+            let (told, behind) = writer.taken.split_at(lines.len().min(writer.taken.len()));
+            assert!(rt; told == lines.as_bytes(), "{workers} of {count} bytes");
+            assert!(rt; behind == end.as_bytes(), "{workers} of {count} bytes");
+        }
     }
     Ok(())
 }
@@ -215,7 +227,7 @@ session interface 0 udp 10.0.0.1 port 1000 and 10.0.0.2 port 53 last 105 until 7
     ),
 ];
 
-/// Live runs on a capture behind whose totals hits and sessions are told, a few bytes at a time.
+/// Live runs by four workers on a capture behind whose totals hits and sessions are told, a few bytes at a time.
 #[test]
 fn live_runs_count_while_packets_come(rt: HostRuntime) -> Result<(), Fail> {
     let alloc = rt.alloc();
@@ -227,7 +239,7 @@ fn live_runs_count_while_packets_come(rt: HostRuntime) -> Result<(), Fail> {
             failures: 0,
         };
         let mut writer = trickling(alloc, usize::MAX);
-        let mut options = asked_form(lines, Shown::Nothing);
+        let mut options = by_four(asked_form(lines, Shown::Nothing));
         options.hits = true;
         options.sessions = true;
         let outcome = unsaved(&rt, alloc, &options, &mut reader, &mut writer);
