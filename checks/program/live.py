@@ -198,4 +198,7 @@ class Live(Case):
         count = 1_250_000
         got = self.run_on(NAMES, header() + ONE * count)
         lines = b"1 pass rule 1 reflect\n" + b"".join(b"%d pass session\n" % it for it in range(2, count + 1))
-        self.compare(got, wanted(lines + b"packets %d pass %d drop 0\n" % (count, count)))
+        report = wanted(lines + b"packets %d pass %d drop 0\n" % (count, count))
+        self.compare(got, report)
+        held = self.hold("capture", header() + ONE * count)
+        self.compare(self.program.run(["--live", "--workers", "4", self.policy, held]), report)

@@ -5,6 +5,7 @@ mod engine;
 mod hex_digits;
 mod judge;
 mod live_telling;
+mod read_sizes;
 mod saver;
 mod stream_judging;
 mod windows_of_records;

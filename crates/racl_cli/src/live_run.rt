@@ -125,6 +125,7 @@ fn tell_capture<L: Teller, K: Saver, R: Source, W: Sink, T: Threads + Wait + Syn
     let headed = Headed {
         judges,
         order: head.order,
+        grows: head.options.workers > 1,
     };
     let told = match tell_live(alloc, reader, writer, teller, saver, headed) {
         Ok(told) => told,
