@@ -4,7 +4,8 @@
 
    N is the interface where a capture was taken, 0 where none is named. Captures are pcap files of Ethernet frames. A thread
    is dealt whole flows, and hands over -b frames a call (32). -l: large tables. -q writes the last line of the report, and to
-   standard error how long a frame took. -s writes what `racl --hits --sessions` does behind the report.
+   standard error how long a frame took. -s writes what `racl --hits --sessions` does after the report,
+   without the text of the rules.
 
    cc -O2 -Iinclude -o gateway examples/c/gateway.c crates/racl_c/out/libracl_c.a KIT/c/liblibc_c.a -lpthread */
 #include "racl.h"
