@@ -10,16 +10,16 @@ LIBRARIES = out/library
 .PHONY: build library check check-bridge prove bench install install-program install-libraries uninstall help
 
 build:
-	@checks/build
+	@tools/build
 
 library:
-	@checks/library
+	@tools/library
 
 check:
-	@checks/quick
+	@tests/quick
 
 check-bridge:
-	@checks/bridge
+	@tests/bridge
 
 prove:
 	@.ci/run
@@ -29,7 +29,7 @@ bench: build
 
 # What is built is installed, and what isn't is told.
 install:
-	@top=. && . checks/built.sh && some= && \
+	@top=. && . tools/built.sh && some= && \
 	if is_built; then $(MAKE) install-program && some=1; \
 	else echo "make install: no program is built of these sources; make proves and builds it" >&2; fi && \
 	if are_libraries_built; then $(MAKE) install-libraries && some=1; \

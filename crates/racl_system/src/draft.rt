@@ -130,7 +130,7 @@ fn draft_of(rt: &HostRuntime, alloc: Global, name: &str) -> io::Result<Option<Dr
 }
 
 /// The file of a name to be written: a draft; or the file itself, which is created or emptied, where there can be no draft
-/// or memory runs out. No clause says what becomes of files, since that is the system's: `checks/run` looks at it.
+/// or memory runs out. No clause says what becomes of files, since that is the system's: `tests/run` looks at it.
 pub fn created_draft(rt: &HostRuntime, alloc: Global, name: &str) -> io::Result<Draft> {
     match draft_of(rt, alloc, name) {
         Ok(Some(draft)) => return Ok(draft),

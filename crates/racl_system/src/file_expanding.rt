@@ -151,7 +151,7 @@ fn expand_file<S: SystemFiles + Eprint>(system: &S, alloc: Global, name: &str) -
 }
 
 /// The status of the expansion that words ask for, once it is done. None: they ask for none. No clause says what standard
-/// output gets: `checks/run` looks at it.
+/// output gets: `tests/run` looks at it.
 pub fn expansion_status<S: SystemFiles + Print + Eprint>(
     system: &S,
     alloc: Global,

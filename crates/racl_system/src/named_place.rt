@@ -97,7 +97,7 @@ fn unmade_place(rt: &HostRuntime, alloc: Global, name: &str) -> io::Result<Place
     Ok(Place::Unknown)
 }
 
-/// Where this name leads. No clause says that, since it is the system's: `checks/run` looks at it.
+/// Where this name leads. No clause says that, since it is the system's: `tests/run` looks at it.
 pub fn place_of(rt: &HostRuntime, alloc: Global, name: &str) -> io::Result<Place> {
     match metadata(rt, name) {
         Ok(found) if found.is_file() => Ok(Place::Standing(number_of(&found))),

@@ -156,7 +156,7 @@ fn settled_file<'a, S: SystemFiles>(
 }
 
 /// The files of a run that saved packets, synced as far as they were written: what fails then is a reason to be told. What
-/// failed before is given up, or left as it stands. No clause says what the system does: `checks/run` looks at it.
+/// failed before is given up, or left as it stands. No clause says what the system does: `tests/run` looks at it.
 pub fn settled<'a, S: SystemFiles>(
     saves: Saves<Device<SaveFile<'a, S, S::Save>>>,
     leaves_failed: bool,

@@ -22,7 +22,7 @@ fn policy_for_remarks(alloc: Global, text: &[u8]) -> Option<Checked<'_>> {
 
 /// Says a remark on each section of the policy of this file whose `out` rules aren't looked at, and on each interface of a
 /// capture for which it has no rule. Nothing is said of a text that is no policy, where memory runs out, or where standard
-/// error fails: the report stands. No clause can say what standard error gets: `checks/run` looks at it.
+/// error fails: the report stands. No clause can say what standard error gets: `tests/run` looks at it.
 pub fn say_unlooked(rt: &impl Eprint, alloc: Global, name: &str, text: &[u8], seen: &[Seen<'_>]) {
     let Some(checked) = policy_for_remarks(alloc, text) else {
         return;

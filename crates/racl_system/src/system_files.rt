@@ -11,7 +11,7 @@ use std::io::{IsTerminal, Read, Stdin, Stdout, Write};
 const IS_A_DIRECTORY: i32 = 21;
 
 /// What the program asks of a system that has files by names. Where these tell their bytes, so does all that stands on
-/// them. The operating system's don't: `checks/run` looks at what a name opens there.
+/// them. The operating system's don't: `tests/run` looks at what a name opens there.
 pub trait SystemFiles {
     type Input: Read + IsTerminal + Drop;
 

@@ -1,4 +1,4 @@
-//! Captures byte by byte, with the packets that the format gives them, of which `checks/rows/captures.txt` has more.
+//! Captures byte by byte, with the packets that the format gives them, of which `tests/rows/captures.txt` has more.
 use super::filter_test_refused;
 use super::frames::UDP;
 use packet_view::{Order, Packet, Packets, Piece, Stop, front_records, next_record, read_capture};

@@ -1,4 +1,4 @@
-//! Frames byte by byte, with the views that the standards give them, of which `checks/rows/frames.txt` has more.
+//! Frames byte by byte, with the views that the standards give them, of which `tests/rows/frames.txt` has more.
 use packet_view::{Direction, Family, Fields, Frame, Mac, PlainPacket, Tuple, plain, view};
 
 const OWN: Option<Mac> = Some(Mac([2, 0, 0, 0, 0, 1]));

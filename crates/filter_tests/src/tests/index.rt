@@ -1,4 +1,4 @@
-//! Prepared rules, and which of equal ones decides. `checks/run` has what many rules come to.
+//! Prepared rules, and which of equal ones decides. `tests/run` has what many rules come to.
 use super::matching::{later_fragment, rule};
 use super::{EVERY, filter_test_refused};
 use acl_policy::Action;

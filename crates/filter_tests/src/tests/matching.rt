@@ -1,4 +1,4 @@
-//! Rules against packets, of which `checks/rows/matching.txt` has more.
+//! Rules against packets, of which `tests/rows/matching.txt` has more.
 use super::EVERY;
 use acl_policy::{Action, Rule, first_match};
 use packet_view::{Family, Fields, Tuple};

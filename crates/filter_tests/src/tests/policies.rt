@@ -1,4 +1,4 @@
-//! A policy's text with what it says, and the texts of faults. `checks/rows/policies.txt` has the lines that are refused,
+//! A policy's text with what it says, and the texts of faults. `tests/rows/policies.txt` has the lines that are refused,
 //! and which packets a line takes.
 use super::{EVERY, filter_test_refused};
 use acl_policy::{Action, PolicyFault, Rule, empty_draft, read_policy, read_policy_line};

@@ -1,4 +1,4 @@
-//! Keys, session words and decisions whose values were worked out by hand; `checks/rows/sessions.txt` has what packets
+//! Keys, session words and decisions whose values were worked out by hand; `tests/rows/sessions.txt` has what packets
 //! show of sessions.
 //!
 //! In comments `.n` stands for the address 10.0.0.n.

@@ -1,4 +1,4 @@
-//! What a check finds in a policy's text. `checks/rows/checks.txt` has what is told of each reason and remark.
+//! What a check finds in a policy's text. `tests/rows/checks.txt` has what is told of each reason and remark.
 use packet_view::Direction;
 use policy_check::{Remark, check_policy, remarks_on};
 use std::test::Fail;

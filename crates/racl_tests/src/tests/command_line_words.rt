@@ -1,5 +1,5 @@
-//! Words of the command line that show in few reports. `checks/run` has what the others do, and
-//! `checks/rows/sessions.txt` what timeouts do.
+//! Words of the command line that show in few reports. `tests/run` has what the others do, and
+//! `tests/rows/sessions.txt` what timeouts do.
 use racl_options::{Lines, Options, TableSize, options};
 use session_state::{Shown, Timeouts};
 use std::alloc::Global;

@@ -1,4 +1,4 @@
-//! What two policies decide differently. `checks/program/compare.py` compares more of them, and takes the packets to `racl ask`.
+//! What two policies decide differently. `tests/program/compare.py` compares more of them, and takes the packets to `racl ask`.
 use super::racl_test_refused;
 use acl_policy::{Action, read_policy};
 use packet_view::{Direction, Family, Fields, Tuple};

@@ -1,4 +1,4 @@
-//! What is told of a run's rules and sessions. `checks/run` has what the program writes of them.
+//! What is told of a run's rules and sessions. `tests/run` has what the program writes of them.
 use acl_policy::{Policy, read_policy};
 use packet_view::{Direction, Packets};
 use racl_views::{

@@ -5,7 +5,7 @@ from support.cases import TOP, WORKERS, Case, bytes_of_file, each, names_in, wan
 
 
 class Stored(Case):
-    @each((f"{folder}/{name}", f"{TOP}/{folder}/{name}") for folder in ("examples", "checks/corpus")
+    @each((f"{folder}/{name}", f"{TOP}/{folder}/{name}") for folder in ("examples", "tests/corpus")
           for name in names_in(folder, ".racl"))
     def stored(self, path):
         data = bytes_of_file(f"{path}.racl")

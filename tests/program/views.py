@@ -73,7 +73,7 @@ def lines_of(told, policy, is_named):
 
 
 class Views(Case):
-    @each((f"{folder}/{name}", f"{TOP}/{folder}/{name}.racl") for folder in ("examples", "checks/corpus")
+    @each((f"{folder}/{name}", f"{TOP}/{folder}/{name}.racl") for folder in ("examples", "tests/corpus")
           for name in names_in(folder, ".racl"))
     def stored(self, path):
         data = bytes_of_file(path)

@@ -83,7 +83,7 @@ def each(table):
 
 
 class Case(unittest.TestCase):
-    """The cases of a subject, which run the program that checks/run gives them."""
+    """The cases of a subject, which run the program that tests/run gives them."""
 
     program = None
 
@@ -115,7 +115,7 @@ class Case(unittest.TestCase):
     def interrupting(self):
         """The environment in which a library is loaded before the C library that interrupts, shortens and fails reads and writes."""
         library = f"{self.folder}/interrupt.so"
-        subprocess.run(["cc", "-O1", "-shared", "-fPIC", "-o", library, f"{TOP}/checks/interrupt.c", "-ldl"], check=True)
+        subprocess.run(["cc", "-O1", "-shared", "-fPIC", "-o", library, f"{TOP}/tests/c/interrupt.c", "-ldl"], check=True)
         # (only the program itself is interrupted, and no command of a launcher)
         return {**os.environ, "LD_PRELOAD": library, "INTERRUPTED": os.path.basename(self.program.path)}
 

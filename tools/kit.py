@@ -1,4 +1,4 @@
-"""The toolchain's own command as a module, the crates as it sees them, and what checks/built.sh says of the sources."""
+"""The toolchain's own command as a module, the crates as it sees them, and what tools/built.sh says of the sources."""
 import importlib.machinery
 import importlib.util
 import os
@@ -22,7 +22,7 @@ def crates(rt):
 
 
 def of_sources(words, *given):
-    """What words of checks/built.sh print."""
-    ran = subprocess.run(["sh", "-c", f'top=$0 && . "$top/checks/built.sh" && {words}', TOP, *given], check=True, text=True,
+    """What words of tools/built.sh print."""
+    ran = subprocess.run(["sh", "-c", f'top=$0 && . "$top/tools/built.sh" && {words}', TOP, *given], check=True, text=True,
                          stdout=subprocess.PIPE)
     return ran.stdout.strip()

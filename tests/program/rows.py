@@ -1,4 +1,4 @@
-"""The rows of checks/rows: each is a case, by the name of its file and what it shows."""
+"""The rows of tests/rows: each is a case, by the name of its file and what it shows."""
 from support.cases import WORKERS, Case, each, shown
 from support.row_files import all_rows
 

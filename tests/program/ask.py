@@ -1,4 +1,4 @@
-"""Packets in words: the rows of checks/rows whose packets can be written so, and words that write none."""
+"""Packets in words: the rows of tests/rows whose packets can be written so, and words that write none."""
 import re
 
 from support.captures import report_of

@@ -1,4 +1,4 @@
-"""The rows of checks/rows: each paragraph says what it shows, an input or several, and what comes of them.
+"""The rows of tests/rows: each paragraph says what it shows, an input or several, and what comes of them.
 
 A row has what it shows (`row:`), the policy's lines or its `file:`, and packets with their verdicts, or a fault that each of several
 policies or inputs has, or what `racl check` tells (`told:`). `N * LINE` is a line N times. A packet is its second, its way, perhaps
@@ -125,8 +125,8 @@ class Row:
 
 
 def all_rows():
-    for name in sorted(os.listdir(f"{TOP}/checks/rows")):
-        with open(f"{TOP}/checks/rows/{name}") as file:
+    for name in sorted(os.listdir(f"{TOP}/tests/rows")):
+        with open(f"{TOP}/tests/rows/{name}") as file:
             paragraphs = re.split(r"\n{2,}", file.read().strip("\n"))
         rows = [Row(name[:-len(".txt")], it) for it in paragraphs]
         yield from (it for it in rows if it.name)

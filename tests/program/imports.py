@@ -402,10 +402,10 @@ class Imports(Case):
         self.compare({"lines": [it for it in got["stdout"].splitlines() if not it.startswith("#")]},
                      {"lines": ["in permit ipv4 10.0.0.1 any # line 5: \\x1b[31m \\x0d in permit ipv4 any any # \\xc3\\xbc"]})
 
-    @each((f"{name}{ending}", f"{TOP}/{folder}/{name}{ending}", f"{TOP}/checks/imports/{name}.policy", FORMS[ending])
-          for folder in ("examples", "checks/imports") for ending in FORMS for name in names_in(folder, ending))
+    @each((f"{name}{ending}", f"{TOP}/{folder}/{name}{ending}", f"{TOP}/tests/imports/{name}.policy", FORMS[ending])
+          for folder in ("examples", "tests/imports") for ending in FORMS for name in names_in(folder, ending))
     def stored(self, path, policy, words):
-        """A sample, whose policy in checks/imports/ was written from what its rules mean."""
+        """A sample, whose policy in tests/imports/ was written from what its rules mean."""
         got = imported([*words, "--mac", MAC, path])
         want = [it for it in bytes_of_file(policy).decode().splitlines() if it and not it.startswith("#")]
         lines = [it.partition(" # ")[0].rstrip() for it in got["stdout"].splitlines() if not it.startswith("#")]

@@ -59,7 +59,7 @@ WRONG_WORDS = [
 
 class Words(Case):
     def test_help(self):
-        self.compare(self.program.run(["--help"]), wanted(bytes_of_file(f"{TOP}/checks/help.txt")))
+        self.compare(self.program.run(["--help"]), wanted(bytes_of_file(f"{TOP}/tests/help.txt")))
 
     def test_version(self):
         for words in (["--version"], ["-V"], ["--udp", "5", "--version"]):
