@@ -3,17 +3,18 @@ import os
 
 from support.captures import CAPTURE, MOST_BYTES, NAMES, header, udp
 from support.cases import TOP, Case, bytes_of_file, each, names_in, wanted
+from support.large_inputs import flows_that_end
 
 # Words that ask for each form of lines, and for what stands behind them.
 FORMS = ([], ["--explain"], ["--json", "--only=drop"], ["--summary", "--hits"], ["--hits", "--sessions", "--json"], ["--age", "--explain"],
          ["--tables", "large", "--udp", "60"])
 
-# A request and its answer, 1000 times over, and how often these stand in a capture of over 64 MiB.
+# A request and its answer, 1000 times over, and how often these stand in a capture of 96 MiB, which is over the limit.
 PART = b"".join(udp(100, way, *ends) for way, ends in ((True, ((1, 1000), (2, 53))), (False, ((2, 53), (1, 1000))))) * 1000
-TIMES = MOST_BYTES // len(PART) + 2
+TIMES = 3 * MOST_BYTES // (2 * len(PART))
 
-# The addresses that a run on it may take, in bytes: less than the capture has, beside what any run maps.
-MEMORY = 64_000_000
+# The addresses that a run on it may take, in bytes: less than the capture has, beside what any run maps, as stacks of threads.
+MEMORY = 90_000_000
 
 
 class AnyLength(Case):
@@ -32,6 +33,16 @@ class AnyLength(Case):
                 given = ["--any-length", "--workers", workers, *words, held]
                 self.compare(self.program.run([*given, at]), whole, workers, *words)
                 self.compare(self.program.run([*given, "-"], capture), whole, workers, *words)
+
+    def test_reads_that_grow(self):
+        """The report of the default run, where reads of a file come to so many packets that threads judge them."""
+        held, at = self.hold("policy", NAMES), self.hold("capture", flows_that_end())
+        for words in [], ["--summary", "--hits", "--sessions"]:
+            whole = self.program.run([*words, held, at])
+            for workers in "1", "4", "16":
+                given = ["--any-length", "--workers", workers, *words, held]
+                self.compare(self.program.run([*given, at]), whole, workers, *words)
+                self.compare(self.program.run([*given, "-"], flows_that_end()), whole, workers, *words)
 
     def test_sessions_stay(self):
         """A session that ended long ago stays in its table, as in a default run and other than in a live one."""

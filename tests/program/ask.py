@@ -55,6 +55,18 @@ WRONG = [
 ]
 
 
+# What is expected of three packets, and the lines on what isn't so.
+THREE = "out udp 10.0.0.1 1000 10.0.0.2 53", "in udp 10.0.0.2 53 10.0.0.1 1000", "601 in udp 10.0.0.2 53 10.0.0.1 1000"
+EXPECTED = [
+    ("all verdicts", "1 pass rule 1 reflect\n2 pass session\n3 drop\npass 2\n", ["met 4"]),
+    ("nothing", "# nothing\n", ["met 0"]),
+    ("others", "1-3 pass\n\n2 drop default\ndrop 0\n",
+     ["line 1: packet 3: expected pass, was drop default", "line 3: packet 2: expected drop default, was pass session",
+      "line 4: drop: expected 0, was 1"]),
+    ("a fourth", "4 drop\n", ["line 1: packet 4: expected drop, was not in the capture"]),
+]
+
+
 class Asked(Case):
     @each((name, policy, packets) for name, policy, packets in rows())
     def rows(self, policy, packets):
@@ -91,3 +103,25 @@ class Asked(Case):
     def test_wrong_policy(self):
         got = self.program.run(["ask", "-", "in udp 10.0.0.1 1 10.0.0.2 2"], b"in\n")
         self.compare(got, wanted(stderr="racl: policy line 1 is wrong\n", status=1))
+
+    @each(EXPECTED)
+    def expected(self, expected, lines):
+        """The lines that `--expect` of a run tells, in their order by packets; the status is 5 where there are any."""
+        held = self.hold("expected", expected.encode())
+        got = self.program.run(["ask", "--expect", held, "-", *THREE], POLICY)
+        ordered = sorted(lines, key=lambda it: (int(re.search(r"packet (\d+)|$", it)[1] or 9), it))
+        self.compare(got, wanted("".join(f"{it}\n" for it in ordered), status=0 if lines[0].startswith("met") else 5))
+
+    def test_wrong_expectations(self):
+        held = self.hold("expected", b"1 pass\n2 maybe\n")
+        got = self.program.run(["ask", "--expect", held, "-", *THREE], POLICY)
+        self.compare(got, wanted(stderr="racl: line 2 of the expectations is wrong: behind its numbers stand no words of a verdict, "
+                                 f"as pass, drop default or pass rule 3\nracl: that is {held}\n", status=1))
+        missing = f"{held} too"
+        got = self.program.run(["ask", "--expect", missing, "-", *THREE], POLICY)
+        self.compare(got, wanted(stderr=f"racl: {missing}: No such file or directory\n", status=4))
+
+    def test_wrong_packets_beside_expectations(self):
+        held = self.hold("expected", b"1 pass\n")
+        got = self.program.run(["ask", "--expect", held, "-", "in udp"], POLICY)
+        self.compare(got, wanted(stderr="racl: packet 1 is wrong: udp ADDRESS PORT ADDRESS PORT\n", status=2))

@@ -36,6 +36,7 @@ PAIRS = [
     ("later fragments alike", "in deny ipv4 any any udp dport 0-65534\nin permit ipv4 any any udp\n", "in deny ipv4 any any udp sport 1-65535\nin permit ipv4 any any udp\n",
      ["in pass rule 2 -> drop rule 1", "in drop rule 1 -> pass rule 2"]),
     ("another protocol", "in permit ipv4 any any 47\n", "", ["in pass rule 1 -> drop default"]),
+    ("IPv4 within IPv6", "in permit ipv6 ::ffff:a00:1 any\n", "", ["in pass rule 1 -> drop default"]),
     ("both directions and sections", OWN + "out permit ipv4 any any\ninterface 255\nin permit ipv4 any any udp\ninterface 7\n" + OWN,
      OWN + "interface 255\nin permit+reflect ipv4 any any udp\ninterface 7\n" + OWN + "out permit ipv6 any any\n",
      ["out pass rule 1 -> drop default", "out if 7 drop default -> pass rule 1", "in if 255 pass rule 1 -> pass rule 1 reflect"]),
@@ -155,6 +156,11 @@ class Compared(Case):
             said = verdicts_in(self.ask(policy, packets))
             other = [(one, it[place]) for one, it in zip(said, examples) if it[place] not in (one, f"{one} reflect")]
             self.compare({"asked": len(said), "other": other}, {"asked": len(packets), "other": []})
+
+    def test_short_addresses(self):
+        """Runs of zeros in an address of IPv6 are left out, as elsewhere."""
+        got = self.compared("in permit ipv6 2001:db8::1 ::ffff:a00:1 udp dport 53\n", "")
+        self.compare(got, wanted(b"in udp 2001:db8::1 0 ::ffff:a00:1 53: pass rule 1 -> drop default\npairs that differ 1 unknown 0\n", status=5))
 
     @each((f"policies {seed}", seed) for seed in range(60))
     def by_random(self, seed):

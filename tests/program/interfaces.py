@@ -12,8 +12,13 @@ CAPTURES = [
     ("a wrong capture last", [*TWO, (0, CAPTURE[:20] + bytes(4) + CAPTURE[24:])], 2),
     ("a long record", [*TWO, (9, header() + LONG), (3, header() + LONG)], 2), ("of one interface", [(1, b"")], 0),
     ("many bytes", [(0, CAPTURE + record(1, bytes(200_000)) * 50), (1, CAPTURE)]),
-    ("too many bytes", [(0, header() + bytes(MOST_BYTES // 2)), (1, CAPTURE)]),
 ]
+
+
+def filled(size):
+    """A capture of so many bytes."""
+    whole, rest = divmod(size - len(header()), len(record(1, bytes(MOST_KEPT))))
+    return header() + record(1, bytes(MOST_KEPT)) * whole + record(1, bytes(rest - len(record(1, b""))))
 
 
 def glued(first, captures):
@@ -74,9 +79,25 @@ class Interfaces(Case):
 
     def test_long_record_far_behind(self):
         words = self.words_of([*TWO, (9, CAPTURE + record(1, bytes(5000)) + LONG), (3, header() + LONG)])
-        for of_one, named in ([], self.that_is(2, 9)), (["--interface", "1=-"], ""):
+        for of_one in [], ["--interface", "1=-"]:
             got = self.program.run([*of_one, *words[len(of_one):], self.policy], CAPTURE)
-            self.compare(got, wanted(stderr=f"racl: record 4 is too long\n{named}{PUT_TOGETHER}", status=1), *of_one)
+            self.compare(got, wanted(stderr=f"racl: record 4 is too long\n{self.that_is(2, 9)}{PUT_TOGETHER}", status=1), *of_one)
+
+    def test_faulty_standard_input(self):
+        words = [*self.words_of(TWO), "--interface", "9=-", self.policy]
+        self.compare(self.program.run(words, CAPTURE + LONG),
+                     wanted(stderr=f"racl: record 3 is too long\nracl: that is -, the capture of interface 9\n{PUT_TOGETHER}", status=1))
+
+    def test_most_bytes(self):
+        """Each byte of the policy, of a line feed behind it and of the captures counts once."""
+        size = MOST_BYTES - len(NAMES) - 1 - len(CAPTURE)
+        words = [*self.words_of([(1, filled(size)), (2, CAPTURE)]), self.policy]
+        self.assertEqual(self.program.run(words)["status"], 0)
+        self.hold("0", filled(size + 1))
+        self.compare(self.program.run(words), wanted(stderr=f"racl: input over {MOST_BYTES} bytes\n", status=1))
+
+    def test_line_that_ends_with_a_carriage_return(self):
+        self.compare_both(NAMES[:-1] + b"\r", TWO)
 
     def test_standard_input(self):
         words = self.words_of(TWO)

@@ -9,7 +9,7 @@ import time
 from support.captures import (CAPTURE, DEFAULTS, MOST_BYTES, MOST_KEPT, NAMES, OTHERS, PUT_TOGETHER, RULES, header, parts_of, record,
                               report_of, udp)
 from support.cases import SECONDS, TOP, Case, bytes_of_file, each, wanted
-from support.large_inputs import LARGE
+from support.large_inputs import LARGE, flows_that_end
 
 EXAMPLE = importlib.util.spec_from_file_location("live_example", f"{TOP}/examples/python/live.py")
 
@@ -161,6 +161,16 @@ class Live(Case):
         assert captures[0][0] is None
         got = self.program.run(["--live", self.hold("policy", first), self.hold("capture", captures[0][1])])
         self.compare(got, wanted(report_of(verdicts)))
+
+    def test_reads_that_grow(self):
+        """The report of a run on the file that ages too, where reads of a file come to so many packets that threads judge them."""
+        policy, held = self.hold("policy", NAMES), self.hold("capture", flows_that_end())
+        for words in ["--udp=60"], ["--udp=60", "--only=drop", "--hits"]:
+            whole = self.program.run(["--age", *words, policy, held])
+            for workers in "1", "4", "16":
+                live = ["--live", "--workers", workers, *words, policy]
+                self.compare(self.program.run([*live, held]), whole, workers, *words)
+                self.compare(self.program.run([*live, "-"], flows_that_end()), whole, workers, *words)
 
     def test_long_record(self):
         self.compare(self.run_on(NAMES, header() + ONE + record(1, b"", MOST_KEPT + 1)),

@@ -78,7 +78,8 @@ class Page(Case):
         told = self.hold("changes", self.program.run(["diff", old, new, capture])["stdout"])
         got = page_of(["--changes", told, "-"], report)
         self.compare(got, {"stderr": "", "status": 0})
-        rows = [["pass rule 1 reflect", "drop default", "1", "1", ""], ["pass session", "drop default", "2", "1", ""]]
+        rows = [["pass rule 1 reflect", "drop default", "1: interface 0 out time 100 udp 10.0.0.1 port 1000 to 10.0.0.2 port 53", "1", ""],
+                ["pass session", "drop default", "2: interface 0 in time 105 udp 10.0.0.2 port 53 to 10.0.0.1 port 1000", "1", ""]]
         self.compare({"changes": shown(got["stdout"])["rows"][:2]}, {"changes": rows})
         wrong = self.hold("wrong", b"1 pass session\n")
         self.compare(page_of(["--changes", wrong, "-"], report),

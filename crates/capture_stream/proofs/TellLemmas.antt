@@ -305,7 +305,7 @@ module _ {J K : Type 0} (Became : J → List PacketFacts → List Verdict → J 
         let within = records_within order is.is.told.read is.is.told.packets (rest_in live.engine) is.is.told.records in
         let count = is.is.count in let size = is.is.size in let below = is.below in omega arith
 
-    pub told_short : length (rest_in live.engine) + 65536 < 2 ^ 63
+    pub told_short : length (rest_in live.engine) + 8388608 < 2 ^ 63
     told_short =
         let within = records_within order is.is.told.read is.is.told.packets (rest_in live.engine) is.is.told.records in
         let size = is.is.size in let below = is.below in omega arith
@@ -347,7 +347,7 @@ module _ {J K : Type 0} (Became : J → List PacketFacts → List Verdict → J 
         ]
 
     -- more was read
-    pub live_more : (then : Option (List ℕ)) (new : Live J) (count : ℕ) → HasGot now then live.engine new.engine 65536 count
+    pub live_more : (then : Option (List ℕ)) (new : Live J) (count : ℕ) → HasGot now then live.engine new.engine 8388608 count
         → new.passed ≡ live.passed → new.without_pages ≡ live.without_pages → new.read ≡ live.read + count
         → IsLive Became Judged manner begun order before then old after new
     live_more then new count got passing lacking size =
@@ -381,7 +381,7 @@ module _ {J K : Type 0} (Became : J → List PacketFacts → List Verdict → J 
 
     -- no more is there
     judged_all : (then : Option (List ℕ)) (engine : Engine J) (truncated : Bool) (totals : Totals) → IsCutAt stop truncated
-        → HasGot now then live.engine engine 65536 0 → totals ≡ totals_with live.engine.packets live.passed live.without_pages truncated
+        → HasGot now then live.engine engine 8388608 0 → totals ≡ totals_with live.engine.packets live.passed live.without_pages truncated
         → HasJudgedAll Judged begun order before then totals
     judged_all then engine truncated totals ends got same =
         let t = is.is.told in
@@ -389,7 +389,7 @@ module _ {J K : Type 0} (Became : J → List PacketFacts → List Verdict → J 
         let told = totals_alone t.verdicts live.engine.packets live.passed live.without_pages truncated count is.is.passing is.is.lacking in
         record {
           read = t.read;
-          consumed = got_none now then live.engine engine 65536 t.read t.consumed got;
+          consumed = got_none now then live.engine engine 8388608 t.read t.consumed got;
           ended = got.ended refl;
           packets = t.packets;
           rest = rest_in live.engine;
@@ -403,7 +403,7 @@ module _ {J K : Type 0} (Became : J → List PacketFacts → List Verdict → J 
         }
 
     pub told_all : (then : Option (List ℕ)) (engine : Engine J) (truncated : Bool) (told : ToldCapture J) → IsCutAt stop truncated
-        → HasGot now then live.engine engine 65536 0 → told.totals ≡ totals_with live.engine.packets live.passed live.without_pages truncated
+        → HasGot now then live.engine engine 8388608 0 → told.totals ≡ totals_with live.engine.packets live.passed live.without_pages truncated
         → told.judges ≡ engine.judges → HasToldAll Became Judged manner begun order before then old after told
     unfolding judged_all
     told_all then engine truncated told ends got same judges = record {

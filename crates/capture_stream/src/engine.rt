@@ -3,6 +3,7 @@ ghost use Rattle.std.specs.Prelude.{◌<◌, ◌^◌, MatchResult};
 ghost use Rattle.capture_stream.specs.inner.Feedings.{IsCutAt, IsLongAt};
 
 use crate::judge::Judge;
+use crate::read_sizes::{FIRST_READ, ReadSize, read_behind};
 use crate::windows_of_records::{Found, NextWindow, find_records, found_records, judge_and_read};
 use packet_view::{Order, Packets, Stop};
 use racl_io::{Fault, ReadBuffer, Source};
@@ -120,6 +121,34 @@ impl<J: Judge> Engine<J> {
         let most = self.window.bytes().len() + most;
         match self.window.read_some(reader, most) {
             Ok(n) => {
+                self.found = find_records(self.window.bytes(), self.order);
+                Ok(n)
+            }
+            Err(fault) => Err(fault),
+        }
+    }
+
+    /// Reads some bytes behind those that wait by one read of this size, and none only at the source's end: how many they are.
+    /// Nothing is judged. Where reads grow, the packets that were judged last are at hand no longer.
+    pub fn read_part<R: Source>(
+        &mut self,
+        alloc: Global,
+        reader: &mut R,
+        size: ReadSize,
+    ) -> Result<usize, Fault>
+        requires few { length (rest_in self.old) + 8388608 < 2 ^ 63 }
+        requires sound { R.failures reader.old < 2 ^ 64 - 1 }
+        ensures got { MatchResult result (HasGot (R.bytes reader.old) (R.bytes reader.new) self.old self.new 8388608) (IsUnread (R.bytes reader.old) (R.bytes reader.new)) }
+        ensures failures { MatchResult result (λ _. R.failures reader.new ≡ R.failures reader.old) (λ fault. R.failures reader.new ≡ with_read (R.failures reader.old) fault) }
+    {
+        if size.many.is_none() {
+            return self.read_some(reader, FIRST_READ);
+        }
+        // (the room of what was judged is given back first, so that there is never room for two such reads)
+        self.spare = ReadBuffer::new(Vec::new(alloc));
+        match read_behind(alloc, self.window.bytes(), reader, size.bytes) {
+            Ok((bytes, n)) => {
+                self.window = ReadBuffer::new(bytes);
                 self.found = find_records(self.window.bytes(), self.order);
                 Ok(n)
             }

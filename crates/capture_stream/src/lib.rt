@@ -4,6 +4,7 @@
 mod engine;
 mod judge;
 mod live_telling;
+mod read_sizes;
 mod saver;
 mod stream_judging;
 mod windows_of_records;

@@ -7,13 +7,11 @@ ghost use Rattle.capture_stream.specs.inner.Tellings.{HasToldWaiting, IsWaitingF
 
 use crate::engine::{Engine, is_cut};
 use crate::judge::Judge;
+use crate::read_sizes::ReadSize;
 use crate::saver::Saver;
 use packet_view::{Order, Stop};
 use racl_io::{Fault, Sink, Source, Teller, Totals, without_pages};
 use std::alloc::Global;
-
-/// How many bytes are read at once, at most: what a pipe holds.
-const PART_BYTES: usize = 65_536;
 
 /// How many bytes are read in all, at most.
 const MOST_LIVE: usize = 4_611_686_018_427_387_904;
@@ -23,6 +21,8 @@ const MOST_LIVE: usize = 4_611_686_018_427_387_904;
 pub struct Headed<J> {
     pub judges: J,
     pub order: Order,
+    /// From how many packets of a read on threads pay, where there are several: reads then grow.
+    pub many: Option<usize>,
 }
 
 /// A capture of which the first packets were told.
@@ -139,7 +139,12 @@ pub fn tell_live<J: Judge + Drop, L: Teller, K: Saver, R: Source, W: Sink>(
         (λ fault. HaveFailed (W.failures writer.old) (W.failures writer.new) (K.failures saver.old) (K.failures saver.new) fault) }
     ensures same { IfOk result (λ _. L.wording teller.new ≡ L.wording teller.old) }
 {
-    let Headed { judges, order } = headed;
+    let Headed {
+        judges,
+        order,
+        many,
+    } = headed;
+    let mut size = ReadSize::first(many);
     let mut live = Live {
         engine: Engine::new(alloc, judges, order, 0),
         passed: 0,
@@ -155,7 +160,7 @@ pub fn tell_live<J: Judge + Drop, L: Teller, K: Saver, R: Source, W: Sink>(
             Ok(truncated) => truncated,
             Err(fault) => return Err(fault),
         };
-        let n = match live.engine.read_some(reader, PART_BYTES) {
+        let n = match live.engine.read_part(alloc, reader, size) {
             Ok(n) => n,
             Err(fault) => return Err(fault),
         };
@@ -163,6 +168,7 @@ pub fn tell_live<J: Judge + Drop, L: Teller, K: Saver, R: Source, W: Sink>(
             return Ok(told_at(live, truncated));
         }
         live.read += n;
+        size = size.behind(n, live.engine.found.count);
     }
     Err(Fault::TooLarge)
 }

@@ -4,9 +4,10 @@ use Rattle.std.specs.List.{list_any}
 use Rattle.session_state.specs.Passes.{passes}
 use Rattle.session_state.specs.declared.verdict.Verdict.{Verdict}
 use Rattle.session_state.specs.declared.verdict.Verdict.TheVariants.{Session, Reflect, Permit, Deny, ByDefault, Worn, Full, NoPages, NotIp, Malformed, Short}
-use Rattle.racl_io.specs.Reports.{text_of, truncation_line}
-use Rattle.racl_io.specs.Tellings.{Wording}
+use Rattle.racl_io.specs.Reports.{text_of, totals_of, truncation_line}
+use Rattle.racl_io.specs.Tellings.{Wording, told_alone}
 use Rattle.racl_io.specs.declared.totals_and_truncation.Totals.{Totals}
+use Rattle.packet_words.specs.VerdictKinds.{kind_of}
 use Rattle.expected_verdicts.specs.declared.expectation.Expectation.{Expectation}
 use Rattle.expected_verdicts.specs.declared.expectation.Expected.{Expected}
 use Rattle.expected_verdicts.specs.declared.expectation.Expected.TheVariants.{Verdicts, InAll}
@@ -16,20 +17,6 @@ use Rattle.expected_verdicts.specs.declared.expectation.Wanted.{Wanted}
 use Rattle.expected_verdicts.specs.declared.expectation.Wanted.TheVariants.{Pass, Drop, PassByRule, DropByRule, Exactly}
 
 -- ---- which verdicts are wanted
-
--- which verdict of the report it is, whatever its rule's number
-abbrev pub kind_of : Verdict → ℕ
-kind_of Session = 0
-kind_of (Reflect number) = 1
-kind_of (Permit number) = 2
-kind_of (Deny number) = 3
-kind_of ByDefault = 4
-kind_of Worn = 5
-kind_of Full = 6
-kind_of NoPages = 7
-kind_of NotIp = 8
-kind_of Malformed = 9
-kind_of Short = 10
 
 -- the number of the rule that decided, and 0 where none did
 abbrev pub number_in : Verdict → ℕ
@@ -170,6 +157,10 @@ met_line count = codes "met " ++ (decimal count ++ codes "\n")
 abbrev pub met_told : Bool → ℕ → List ℕ
 met_told true count = met_line count
 met_told false count = []
+
+-- the totals over verdicts on packets of no capture, which none is cut off from
+abbrev pub totals_alone : List Verdict → Totals
+totals_alone verdicts = totals_of verdicts (told_alone (length verdicts) false)
 
 -- all that is told
 abbrev pub told_of : List Expectation → List Verdict → Totals → List ℕ

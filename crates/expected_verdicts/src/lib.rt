@@ -1,6 +1,7 @@
 //! What is expected of the verdicts on a capture's packets: a file says it, and what isn't so is told.
 #![tactic(auto)]
 
+mod compared_verdicts;
 mod expectation;
 mod expectation_fault;
 mod expectation_file;
@@ -12,6 +13,7 @@ mod unmet_lines;
 mod verdict_words;
 mod wanted_words;
 
+pub use compared_verdicts::write_compared;
 pub use expectation::{Expectation, Expected, Total, Wanted};
 pub use expectation_fault::{ExpectationFault, Reason};
 pub use expectation_file::read_expectations;

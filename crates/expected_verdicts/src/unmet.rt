@@ -4,27 +4,9 @@ ghost use Rattle.expected_verdicts.specs.Meeting;
 ghost use Rattle.expected_verdicts.specs.Meeting.{open_in, unmet_at, unmet_from};
 
 use crate::expectation::{Expectation, Expected, Total, Wanted};
+use packet_words::kind_of;
 use racl_io::Totals;
 use session_state::Verdict;
-
-// Which verdict of the report it is, whatever its rule's number.
-fn kind_of(verdict: Verdict) -> u8
-    ensures { result ≡ Meeting.kind_of verdict }
-{
-    match verdict {
-        Verdict::Session => 0,
-        Verdict::Reflect(_) => 1,
-        Verdict::Permit(_) => 2,
-        Verdict::Deny(_) => 3,
-        Verdict::ByDefault => 4,
-        Verdict::Worn => 5,
-        Verdict::Full => 6,
-        Verdict::NoPages => 7,
-        Verdict::NotIp => 8,
-        Verdict::Malformed => 9,
-        Verdict::Short => 10,
-    }
-}
 
 // The number of the rule that decided, and 0 where none did.
 fn number_in(verdict: Verdict) -> u16

@@ -2,7 +2,7 @@
 ghost use Rattle.std.specs.Prelude.{◌≡◌, ◌+◌, ◌-◌, ◌<◌, ◌^◌, IfOk, length};
 ghost use Rattle.racl_io.specs.Reports;
 ghost use Rattle.racl_io.specs.Sinks.{HasPutFront};
-ghost use Rattle.expected_verdicts.specs.Meeting.{told_as, told_at, told_from, told_in, told_open};
+ghost use Rattle.expected_verdicts.specs.Meeting.{end_of, told_as, told_at, told_from, told_in, told_open};
 
 use crate::expectation::{Expectation, Expected};
 use crate::unmet::{is_unmet, total_of};
@@ -58,8 +58,8 @@ fn write_unmet_at<W: Sink>(
     Ok(())
 }
 
-// Writes the lines on packets, of which the first has this number.
-fn write_unmet_from<W: Sink>(
+/// Writes the lines on packets, of which the first has this number.
+pub fn write_unmet_from<W: Sink>(
     writer: &mut W,
     piece: &mut Piece,
     expectations: &[Expectation],
@@ -135,11 +135,33 @@ fn write_open_in<W: Sink>(
     Ok(())
 }
 
-// How many of these pass.
-fn count_passing(verdicts: &[Verdict]) -> u64
+/// How many of these pass.
+pub fn count_passing(verdicts: &[Verdict]) -> u64
     ensures { result ≡ Reports.passed verdicts.now }
 {
     verdicts.iter().filter(|verdict| verdict.passes()).count() as u64
+}
+
+/// Writes what stands behind the lines on packets.
+pub fn write_unmet_end<W: Sink>(
+    writer: &mut W,
+    piece: &mut Piece,
+    expectations: &[Expectation],
+    totals: &Totals,
+) -> Result<(), Fault>
+    requires { W.failures writer.old < 2 ^ 64 - 1 }
+    ensures { HasPutFront W.bytes W.failures writer.old writer.new (end_of expectations.now totals.now) result }
+{
+    let captured = Captured {
+        named: None,
+        packets: totals.packets as usize,
+        truncated: totals.truncated,
+    };
+    match write_truncation(writer, piece, &captured) {
+        Ok(()) => {}
+        Err(fault) => return Err(fault),
+    }
+    write_open_in(writer, piece, expectations, totals)
 }
 
 /// What tells of packets what isn't as these expect.
@@ -182,16 +204,7 @@ impl<'e> Teller for UnmetLines<'e> {
     }
 
     fn tell_end<W: Sink>(&mut self, writer: &mut W, totals: &Totals) -> Result<(), Fault> {
-        let captured = Captured {
-            named: None,
-            packets: totals.packets as usize,
-            truncated: totals.truncated,
-        };
-        match write_truncation(writer, &mut self.piece, &captured) {
-            Ok(()) => {}
-            Err(fault) => return Err(fault),
-        }
         let expectations = self.expectations;
-        write_open_in(writer, &mut self.piece, expectations, totals)
+        write_unmet_end(writer, &mut self.piece, expectations, totals)
     }
 }

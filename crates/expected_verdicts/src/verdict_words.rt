@@ -1,46 +1,12 @@
 //! The words of a line that tells what isn't as expected.
-ghost use Rattle.std.specs.Prelude.{◌≡◌, ◌+◌, ◌≤◌, ◌++◌, decimal, length};
-ghost use Rattle.racl_io.specs.Reports.{text_of};
+ghost use Rattle.std.specs.Prelude.{◌≡◌, ◌+◌, ◌≤◌, ◌++◌, length};
 ghost use Rattle.expected_verdicts.specs.Meeting;
 ghost use Rattle.expected_verdicts.specs.Meeting.{line_head, packet_head, total_text, wanted_text};
 
 use crate::expectation::{Total, Wanted};
+use packet_words::push_verdict;
 use racl_io::{Numeral, Piece};
 use session_state::Verdict;
-
-// What a line says where a rule decided: the effect, and the rule's number.
-fn push_rule(piece: &mut Piece, effect: &[u8], number: u16)
-    requires { length piece.old + length effect.now + 24 ≤ 262144 }
-    ensures text { piece.new ≡ piece.old ++ (effect.now ++ decimal number) }
-    ensures short { length piece.new ≤ length piece.old + length effect.now + 24 }
-{
-    piece.push(effect);
-    Numeral::of(u64::from(number)).push(piece);
-}
-
-// The words of a verdict.
-fn push_verdict(piece: &mut Piece, verdict: Verdict)
-    requires { length piece.old + 44 ≤ 262144 }
-    ensures text { piece.new ≡ piece.old ++ text_of verdict }
-    ensures short { length piece.new ≤ length piece.old + 44 }
-{
-    match verdict {
-        Verdict::Session => piece.push(b"pass session"),
-        Verdict::Reflect(number) => {
-            push_rule(piece, b"pass rule ", number);
-            piece.push(b" reflect");
-        }
-        Verdict::Permit(number) => push_rule(piece, b"pass rule ", number),
-        Verdict::Deny(number) => push_rule(piece, b"drop rule ", number),
-        Verdict::ByDefault => piece.push(b"drop default"),
-        Verdict::Worn => piece.push(b"drop worn"),
-        Verdict::Full => piece.push(b"drop full"),
-        Verdict::NoPages => piece.push(b"drop no-pages"),
-        Verdict::NotIp => piece.push(b"pass not-ip"),
-        Verdict::Malformed => piece.push(b"drop malformed"),
-        Verdict::Short => piece.push(b"drop short"),
-    }
-}
 
 // The words of wanted verdicts.
 fn push_wanted(piece: &mut Piece, wanted: Wanted)

@@ -20,6 +20,8 @@ use Rattle.racl_io.specs.Reports.{totals_of}
 use Rattle.racl_io.specs.ShownReports.{report_shown}
 use Rattle.racl_views.specs.ExplainedLines.{IsExplained}
 use Rattle.racl_views.specs.RunEntries.{RunFacts}
+use Rattle.expected_verdicts.specs.Meeting.{are_met, told_of}
+use Rattle.expected_verdicts.specs.declared.expectation.Expectation.{Expectation}
 use Rattle.packet_questions.specs.Forms.{form_in}
 use Rattle.packet_questions.specs.Frames.{frame_bytes, seen_facts}
 use Rattle.packet_questions.specs.Questions.{AreQuestions, IsQuestion, QuestionFacts, question_facts}
@@ -77,23 +79,39 @@ abbrev pub AreAnswers : Bool → RunFacts → List ℕ → Type 0
 AreAnswers false run lines = lines ≡ report_shown Every run.verdicts run.captures
 AreAnswers true run lines = IsExplained run lines
 
--- The policy's text is right, the other texts write packets, and behind what was written before stand the one-thread
--- filter's verdicts on these, unless a verdict says no-pages. None does where at most 64 packets are asked about.
-pub record HasAnswered (layout : Layout) (explained : Bool) (text : List ℕ) (texts : List (List (List ℕ)))
-    (old new : Option (List ℕ)) (totals : Totals) : Type 0 where
+-- The texts write these packets, and these are the one-thread filter's verdicts on them, unless one says no-pages. None does
+-- where at most 64 packets are asked about.
+pub record AreVerdictsOnAsked (layout : Layout) (times : Timeouts) (policy : PolicyFacts) (texts : List (List (List ℕ))) (asked : List AskedFacts)
+    (verdicts : List Verdict) : Type 0 where
+  pub are : AreAsked policy texts asked
+  pub by_one_thread : HavePages verdicts → AreVerdicts layout times policy (map packet_asked asked) verdicts
+  pub few : length asked ≤ 64 → HavePages verdicts
+
+-- The policy's text is right, the other texts write packets, and these are the verdicts on them.
+pub record HasJudgedAsked (layout : Layout) (text : List ℕ) (texts : List (List (List ℕ))) : Type 0 where
   pub policy : PolicyFacts
   pub says : IsPolicyText text policy
   pub asked : List AskedFacts
-  pub are : AreAsked policy texts asked
   pub times : Timeouts
   pub lives : AreDefaultTimes times
   pub verdicts : List Verdict
-  pub by_one_thread : HavePages verdicts → AreVerdicts layout times policy (map packet_asked asked) verdicts
-  pub few : length asked ≤ 64 → HavePages verdicts
+  pub are : AreVerdictsOnAsked layout times policy texts asked verdicts
+
+-- Behind what was written before stands the report on such verdicts.
+pub record HasAnswered (layout : Layout) (explained : Bool) (text : List ℕ) (texts : List (List (List ℕ)))
+    (old new : Option (List ℕ)) (totals : Totals) : Type 0 where
+  pub judged : HasJudgedAsked layout text texts
   pub lines : List ℕ
-  pub told : AreAnswers explained (answer_facts policy text asked verdicts) lines
+  pub told : AreAnswers explained (answer_facts judged.policy text judged.asked judged.verdicts) lines
   pub behind : Appends old new lines
-  pub counted : totals ≡ totals_of verdicts (answered_of verdicts)
+  pub counted : totals ≡ totals_of judged.verdicts (answered_of judged.verdicts)
+
+-- Behind what was written before stands what is told of such verdicts by what is expected, and whether all is met is answered.
+pub record HasCompared (layout : Layout) (text : List ℕ) (texts : List (List (List ℕ))) (expectations : List Expectation)
+    (old new : Option (List ℕ)) (met : Bool) : Type 0 where
+  pub judged : HasJudgedAsked layout text texts
+  pub told : Appends old new (told_of expectations judged.verdicts (totals_of judged.verdicts (answered_of judged.verdicts)))
+  pub met_is : met ≡ are_met expectations judged.verdicts (totals_of judged.verdicts (answered_of judged.verdicts))
 
 -- ---- faults
 

@@ -1,5 +1,5 @@
--- The words `ask POLICY PACKET ..`, perhaps with `--explain` behind `ask` (this project's profile).
-use Rattle.std.specs.Prelude.{ℕ, Bool, true, false, List, [], ◌∷◌, codes, map, if◌then◌else◌}
+-- The words `ask POLICY PACKET ..`, perhaps with `--explain` or `--expect FILE` behind `ask` (this project's profile).
+use Rattle.std.specs.Prelude.{ℕ, Bool, true, false, List, [], ◌∷◌, None, Option, Some, codes, map, option_map, if◌then◌else◌}
 use Rattle.std.specs.Borrow.{Bor}
 use Rattle.std.specs.Str.{bytes_eq}
 use Rattle.packet_questions.specs.declared.ask_words.AskedAbout.{AskedAbout}
@@ -9,9 +9,14 @@ use Rattle.packet_questions.specs.declared.ask_words.AskedAbout.TheVariants as c
 abbrev pub texts : List (Bor (List ℕ)) → List (List ℕ)
 texts = map (λ t. t.now)
 
--- the policy's file, the packets' texts, and whether lines are explained
+-- the text behind a reference, where there is one
+abbrev pub text_in : Option (Bor (List ℕ)) → Option (List ℕ)
+text_in = option_map (λ t. t.now)
+
+-- the policy's file, the packets' texts, whether lines are explained, and the file that says what is expected
 pub record AskFacts : Type 0 where
   pub explained : Bool
+  pub expected : Option (List ℕ)
   pub policy : List ℕ
   pub packets : List (List ℕ)
 
@@ -24,17 +29,24 @@ pub data Asks : Type 0 where
 abbrev pub ask_facts : AskedAbout → Asks
 ask_facts code.Nothing = Nothing
 ask_facts code.Unclear = Unclear
-ask_facts (code.These ask) = These (record { explained = ask.explained; policy = ask.policy.now; packets = texts ask.packets.now })
+ask_facts (code.These ask) = These (record { explained = ask.explained; expected = text_in ask.expected; policy = ask.policy.now; packets = texts ask.packets.now })
 
 -- a policy and a packet, at least
-abbrev pub asked_by : Bool → List (List ℕ) → Asks
-asked_by explained [] = Unclear
-asked_by explained (policy ∷ []) = Unclear
-asked_by explained (policy ∷ packet ∷ packets) = These (record { explained = explained; policy = policy; packets = packet ∷ packets })
+abbrev pub asked_by : Bool → Option (List ℕ) → List (List ℕ) → Asks
+asked_by explained expected [] = Unclear
+asked_by explained expected (policy ∷ []) = Unclear
+asked_by explained expected (policy ∷ packet ∷ packets) = These (record { explained = explained; expected = expected; policy = policy; packets = packet ∷ packets })
+
+-- and a file in front
+abbrev pub expecting : List (List ℕ) → Asks
+expecting [] = Unclear
+expecting (file ∷ words) = asked_by false (Some file) words
 
 abbrev pub behind_ask : List (List ℕ) → Asks
 behind_ask [] = Unclear
-behind_ask (word ∷ words) = if bytes_eq word (codes "--explain") then asked_by true words else asked_by false (word ∷ words)
+behind_ask (word ∷ words) =
+    if bytes_eq word (codes "--explain") then asked_by true None words
+    else (if bytes_eq word (codes "--expect") then expecting words else asked_by false None (word ∷ words))
 
 abbrev pub asks_by : List ℕ → List (List ℕ) → Asks
 asks_by word words = if bytes_eq word (codes "ask") then behind_ask words else Nothing

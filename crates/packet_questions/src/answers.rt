@@ -1,75 +1,30 @@
 //! The verdicts on packets that are written in words, told as a report.
-ghost use Rattle.std.specs.Prelude.{◌≡◌, ◌≢◌, ◌≤◌, ◌+◌, ◌-◌, ◌<◌, ◌^◌, ◌↔◌, ℕ, Err, IfErr, IfOk, List, length, map};
+ghost use Rattle.std.specs.Prelude.{◌≡◌, ◌≢◌, ◌+◌, ◌-◌, ◌<◌, ◌^◌, ◌↔◌, ℕ, Err, IfErr, IfOk, List, length, map};
 ghost use Rattle.packet_questions.specs.Asks.{texts};
 ghost use Rattle.packet_view.specs.Captures.{packet_facts};
 ghost use Rattle.session_state.specs.declared.shown_verdicts.Shown.TheVariants.{Every};
 ghost use Rattle.acl_policy.specs.Policies.{IsPolicyText, policy_facts};
-ghost use Rattle.flow_filter.specs.OneThread.{AreVerdicts, layout_of};
-ghost use Rattle.flow_dealing.specs.WorkerRecords.{HavePages};
+ghost use Rattle.flow_filter.specs.OneThread.{layout_of};
 ghost use Rattle.racl_io.specs.Reports.{packets_in, totals_of};
 ghost use Rattle.racl_io.specs.Sinks.{Writes};
 ghost use Rattle.racl_io.specs.declared.fault.Fault.{Fault};
 ghost use Rattle.racl_views.specs.RunEntries.{run_facts};
-ghost use Rattle.packet_questions.specs.Answers.{AreAnswers, HasAnswered, AreDefaultTimes, IsAnswerFault, words_of_each};
+ghost use Rattle.packet_questions.specs.Answers.{AreAnswers, HasAnswered, IsAnswerFault, words_of_each};
 ghost use Rattle.packet_questions.specs.declared.question_fault.QuestionFault.TheVariants as told;
 
 use crate::ask_words::Ask;
-use crate::asked_packets::{asked_in, packets_of};
+use crate::asked_packets::packets_of;
+use crate::judged_packets::{Judged, filter_of, judged_in};
 use crate::question_fault::QuestionFault;
-use acl_policy::{Policy, read_policy};
-use bihash_words::{Shape, ShapeV4, ShapeV6, flow_shapes_are_sound};
-use flow_filter::Filter;
-use flow_workers::{Dealing, Gate, run_workers};
+use acl_policy::Policy;
+use bihash_words::{Shape, ShapeV4, ShapeV6};
 use packet_view::{Packet, Packets};
 use racl_io::{Captured, Fault, Sink, Totals, write_shown};
 use racl_views::{Run, write_explained};
-use session_state::{Shown, Timeouts, Verdict};
+use session_state::{Shown, Verdict};
 use std::alloc::Global;
 use std::sync::Wait;
 use std::thread::Threads;
-
-// How long sessions live where no options say it.
-fn default_times() -> Timeouts
-    ensures { AreDefaultTimes result }
-{
-    Timeouts {
-        established: 86_400,
-        transient: 120,
-        udp: 600,
-    }
-}
-
-/// Nothing waits before or after a packet is judged.
-struct OpenGate;
-
-impl Gate for OpenGate {
-    fn before(&self, _worker: usize, _packet: usize) {}
-
-    fn after(&self, _worker: usize, _packet: usize) {}
-}
-
-// The verdicts on packets by one worker over new tables.
-fn verdicts_on<'a, T: Threads + Wait + Sync>(
-    rt: &T,
-    alloc: Global,
-    filter: &'a Filter,
-    packets: &'a [Packet<'a>],
-) -> Result<Vec<Verdict>, Fault>
-    ensures ok { IfOk result (λ v. HavePages v.items → AreVerdicts (layout_of ⟦<ShapeV4 as Shape>⟧ ⟦<ShapeV6 as Shape>⟧)
-        filter.now.times (policy_facts filter.now.policy) (map packet_facts packets.now) v.items) }
-    ensures few { IfOk result (λ v. length packets.now ≤ 64 → HavePages v.items) }
-    ensures fault { IfErr result (λ fault. fault ≡ Fault.Memory) }
-{
-    flow_shapes_are_sound();
-    let packets = Packets::Slice(packets);
-    let dealing = Dealing::Bucket;
-    match run_workers::<ShapeV4, ShapeV6, T, OpenGate>(
-        rt, alloc, filter, packets, 1, &OpenGate, dealing,
-    ) {
-        Ok(verdicts) => Ok(verdicts),
-        Err(_) => Err(Fault::Memory),
-    }
-}
 
 // The run that is told of these packets.
 fn run_of<'a>(
@@ -142,24 +97,16 @@ pub fn answer_questions<W: Sink, T: Threads + Wait + Sync>(
     ensures write { (result ≡ Err (told.Run Fault.Write)) ↔ (W.failures writer.new ≡ W.failures writer.old + 1) }
     ensures unwritten { IfErr result (λ fault. fault ≢ told.Run Fault.Write → writer.new ≡ writer.old) }
 {
-    let policy = match read_policy(alloc, text) {
-        Ok(policy) => policy,
-        Err(cause) => return Err(QuestionFault::Run(Fault::from(cause))),
+    let filter = match filter_of(alloc, text) {
+        Ok(filter) => filter,
+        Err(fault) => return Err(QuestionFault::Run(fault)),
     };
-    let filter = Filter {
-        policy,
-        times: default_times(),
-    };
-    let asked = match asked_in(alloc, &filter, ask.packets) {
-        Ok(asked) => asked,
+    let Judged { asked, verdicts } = match judged_in(rt, alloc, &filter, ask.packets) {
+        Ok(judged) => judged,
         Err(fault) => return Err(fault),
     };
     let Ok(packets) = packets_of(alloc, &asked) else {
         return Err(QuestionFault::Run(Fault::Memory));
-    };
-    let verdicts = match verdicts_on(rt, alloc, &filter, &packets) {
-        Ok(verdicts) => verdicts,
-        Err(fault) => return Err(QuestionFault::Run(fault)),
     };
     let captures = [Captured {
         named: None,

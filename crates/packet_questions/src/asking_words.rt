@@ -1,21 +1,32 @@
 //! What the program's words ask about packets.
 ghost use Rattle.std.specs.Prelude.{◌≡◌};
 ghost use Rattle.packet_questions.specs.Asks;
-ghost use Rattle.packet_questions.specs.Asks.{ask_facts, asks_of, texts};
+ghost use Rattle.packet_questions.specs.Asks.{ask_facts, asks_of, text_in, texts};
 
 use crate::ask_words::{Ask, AskedAbout};
 
 // What the words ask that name a policy and packets.
-fn asked_by<'a>(explained: bool, words: &'a [&'a str]) -> AskedAbout<'a>
-    ensures { ask_facts result ≡ Asks.asked_by explained (texts words.entry.now) }
+fn asked_by<'a>(explained: bool, expected: Option<&'a str>, words: &'a [&'a str]) -> AskedAbout<'a>
+    ensures { ask_facts result ≡ Asks.asked_by explained (text_in expected.entry) (texts words.entry.now) }
 {
     match words {
         [policy, packets @ ..] if !packets.is_empty() => AskedAbout::These(Ask {
             explained,
+            expected,
             policy,
             packets,
         }),
         _ => AskedAbout::Unclear,
+    }
+}
+
+// What the words behind `--expect` say.
+fn expecting<'a>(words: &'a [&'a str]) -> AskedAbout<'a>
+    ensures { ask_facts result ≡ Asks.expecting (texts words.entry.now) }
+{
+    match words {
+        [] => AskedAbout::Unclear,
+        [file, rest @ ..] => asked_by(false, Some(file), rest),
     }
 }
 
@@ -27,9 +38,11 @@ fn behind_ask<'a>(words: &'a [&'a str]) -> AskedAbout<'a>
         [] => AskedAbout::Unclear,
         [first, rest @ ..] => {
             if *first == "--explain" {
-                asked_by(true, rest)
+                asked_by(true, None, rest)
+            } else if *first == "--expect" {
+                expecting(rest)
             } else {
-                asked_by(false, words)
+                asked_by(false, None, words)
             }
         }
     }

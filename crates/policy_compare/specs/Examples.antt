@@ -1,38 +1,25 @@
 -- The words of a packet of a direction at an interface, as `racl ask` takes them (this project's notation).
-use Rattle.std.specs.Prelude.{ℕ, ◌/◌, ◌%◌, ◌==◌, List, [], ◌∷◌, ◌++◌, Option, None, Some, codes, decimal, if◌then◌else◌}
-use Rattle.std.specs.Char.{digit_char}
-use Rattle.std.specs.Int.{to_be_bytes, w32, w128}
-use Rattle.std.specs.Net.Addr.{segments_of}
-use Rattle.std.specs.Net.Text.{groups_text, ipv4_text}
+use Rattle.std.specs.Prelude.{ℕ, ◌==◌, List, ◌++◌, Option, None, Some, codes, decimal, if◌then◌else◌}
 use Rattle.packet_view.specs.Addresses.{icmp_of}
 use Rattle.packet_view.specs.Tuples.{TupleFacts}
 use Rattle.packet_view.specs.declared.tuple.Direction.{Direction}
 use Rattle.packet_view.specs.declared.tuple.Family.{Family}
-use Rattle.packet_view.specs.declared.tuple.Family.TheVariants.{V4, V6}
 use Rattle.packet_view.specs.declared.tuple.Fields.{Fields}
 use Rattle.packet_view.specs.declared.tuple.Fields.TheVariants.{Absent, Icmp, Ports, Tcp}
 use Rattle.acl_policy.specs.Lines.{direction_word}
 use Rattle.racl_io.specs.Reports.{name_of}
-
--- four numbers, or eight groups
-abbrev pub address_words : Family → ℕ → List ℕ
-address_words V4 address = ipv4_text (to_be_bytes w32 address)
-address_words V6 address = groups_text (segments_of (to_be_bytes w128 address))
+use Rattle.packet_words.specs.PacketWords.{flags_text, policy_address}
 
 abbrev pub end_words : Family → ℕ → ℕ → List ℕ
-end_words family address port = address_words family address ++ (codes " " ++ decimal port)
+end_words family address port = policy_address family address ++ (codes " " ++ decimal port)
 
 -- both ends without ports
 abbrev pub bare_ends : TupleFacts → List ℕ
-bare_ends tuple = address_words tuple.family tuple.source ++ (codes " " ++ address_words tuple.family tuple.dest)
+bare_ends tuple = policy_address tuple.family tuple.source ++ (codes " " ++ policy_address tuple.family tuple.dest)
 
 -- both ends with their ports
 abbrev pub ported_ends : TupleFacts → ℕ → ℕ → List ℕ
 ported_ends tuple from to = end_words tuple.family tuple.source from ++ (codes " " ++ end_words tuple.family tuple.dest to)
-
--- flags of TCP, in two hexadecimal digits
-abbrev pub flag_words : ℕ → List ℕ
-flag_words flags = digit_char (flags / 16) ∷ digit_char (flags % 16) ∷ []
 
 -- a later fragment of a protocol that has fields, or a packet of another protocol
 abbrev pub bare_protocol : Family → ℕ → List ℕ
@@ -47,7 +34,7 @@ kind_and_code kind code = codes " type " ++ (decimal kind ++ (codes " code " ++ 
 abbrev pub carried_words : TupleFacts → Fields → List ℕ
 carried_words tuple Absent = bare_protocol tuple.family tuple.proto ++ bare_ends tuple
 carried_words tuple (Ports from to) = codes "udp " ++ ported_ends tuple from to
-carried_words tuple (Tcp from to flags) = codes "tcp " ++ (ported_ends tuple from to ++ (codes " flags " ++ flag_words flags))
+carried_words tuple (Tcp from to flags) = codes "tcp " ++ (ported_ends tuple from to ++ flags_text flags)
 carried_words tuple (Icmp kind code) = codes "icmp " ++ (bare_ends tuple ++ kind_and_code kind code)
 
 -- a word on the interface, but where it is 0

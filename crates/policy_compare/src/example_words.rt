@@ -4,9 +4,9 @@ ghost use Rattle.packet_view.specs.Addresses.{address_limit};
 ghost use Rattle.packet_view.specs.Tuples.{tuple_facts};
 ghost use Rattle.policy_compare.specs.Examples.{bare_ends, bare_protocol, carried_words, end_words, kind_and_code, ported_ends, way_words};
 
-use crate::number_words::{push_flags, push_whole_address};
 use acl_policy::icmp_number;
 use packet_view::{Direction, Family, Fields, Tuple};
+use packet_words::{push_line_flags, push_policy_address};
 use racl_io::{Numeral, Piece, push_name};
 
 /// The words of a packet's direction and interface.
@@ -35,7 +35,7 @@ fn push_end_words(piece: &mut Piece, family: Family, address: u128, port: u16)
     ensures text { piece.new ≡ piece.old ++ end_words family address port }
     ensures short { length piece.new ≤ length piece.old + 124 }
 {
-    push_whole_address(piece, family, address);
+    push_policy_address(piece, family, address);
     piece.push(b" ");
     Numeral::of(u64::from(port)).push(piece);
 }
@@ -57,9 +57,9 @@ fn push_bare_ends(piece: &mut Piece, tuple: &Tuple)
     ensures text { piece.new ≡ piece.old ++ bare_ends (tuple_facts tuple.now) }
     ensures short { length piece.new ≤ length piece.old + 199 }
 {
-    push_whole_address(piece, tuple.family, tuple.source);
+    push_policy_address(piece, tuple.family, tuple.source);
     piece.push(b" ");
-    push_whole_address(piece, tuple.family, tuple.dest);
+    push_policy_address(piece, tuple.family, tuple.dest);
 }
 
 // The protocol of a packet of which no fields are seen.
@@ -110,8 +110,7 @@ pub fn push_carried_words(piece: &mut Piece, tuple: &Tuple)
         Fields::Tcp { from, to, flags } => {
             piece.push(b"tcp ");
             push_ported_ends(piece, tuple, from, to);
-            piece.push(b" flags ");
-            push_flags(piece, flags);
+            push_line_flags(piece, flags);
         }
         Fields::Icmp { kind, code } => {
             piece.push(b"icmp ");

@@ -11,7 +11,6 @@ mod comparison_report;
 mod decider;
 mod difference;
 mod example_words;
-mod number_words;
 mod own_addresses;
 mod pair_of_rules;
 mod taking_rules;

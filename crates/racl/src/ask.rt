@@ -1,17 +1,19 @@
 //! Packets that the words write, instead of a capture.
 
+use expected_verdicts::{read_expectations, status_behind};
 use packet_questions::{
-    Ask, AskedAbout, QuestionFault, answer_questions, answer_status, asked_about,
+    Ask, AskedAbout, QuestionFault, answer_questions, answer_status, asked_about, compare_answers,
 };
 use racl_io::{Device, MOST_BYTES, read_until};
 use racl_options::{Interfaces, Origin};
-use racl_system::{Output, Parts, opened_input};
+use racl_system::{Output, Parts, live_policy_text, opened_input, say_wrong_expectations};
 use std::alloc::Global;
 use std::io;
 use std::sync::Wait;
 use std::thread::Threads;
 
-/// Where the words ask about packets, writes the verdicts on these, and answers the exit status; else None.
+/// Where the words ask about packets, writes the verdicts on these, or what isn't as expected of them, and answers the exit
+/// status; else None.
 pub fn answered<T: Threads + Wait + Sync>(
     rt: &HostRuntime,
     threads: &T,
@@ -21,7 +23,7 @@ pub fn answered<T: Threads + Wait + Sync>(
     match asked_about(words) {
         AskedAbout::Nothing => Ok(None),
         AskedAbout::Unclear => {
-            eprintln!(rt; "racl: racl ask takes: [--explain] POLICY PACKET ..")?;
+            eprintln!(rt; "racl: racl ask takes: [--explain | --expect FILE] POLICY PACKET ..")?;
             Ok(Some(2))
         }
         AskedAbout::These(ask) => match status_of_ask(rt, threads, alloc, &ask) {
@@ -31,7 +33,7 @@ pub fn answered<T: Threads + Wait + Sync>(
     }
 }
 
-// Reads the policy, writes the verdicts on the packets, and answers the exit status.
+// Reads the policy, judges the packets, and answers the exit status.
 fn status_of_ask<T: Threads + Wait + Sync>(
     rt: &HostRuntime,
     threads: &T,
@@ -48,16 +50,48 @@ fn status_of_ask<T: Threads + Wait + Sync>(
         Err(error) => return Err(error),
     };
     let mut text = Vec::new(alloc);
-    let mut writer = Device::new(Output::new(rt.stdout()));
-    let outcome = match read_until(&mut Device::new(policy), &mut text, MOST_BYTES) {
-        Ok(_) => answer_questions(threads, alloc, ask, &text, &mut writer),
-        Err(fault) => Err(QuestionFault::Run(fault)),
-    };
-    match outcome {
-        Ok(_) => Ok(0),
-        Err(fault) => {
-            eprintln!(rt; "racl: {fault}")?;
-            Ok(answer_status(&fault))
-        }
+    match read_until(&mut Device::new(policy), &mut text, MOST_BYTES) {
+        Ok(_) => {}
+        Err(fault) => return said(rt, &QuestionFault::Run(fault)),
     }
+    if let Some(name) = ask.expected {
+        return status_of_comparison(rt, threads, alloc, ask, &text, name);
+    }
+    let mut writer = Device::new(Output::new(rt.stdout()));
+    match answer_questions(threads, alloc, ask, &text, &mut writer) {
+        Ok(_) => Ok(0),
+        Err(fault) => said(rt, &fault),
+    }
+}
+
+// Compares the verdicts on the packets with those that the file of this name expects, and answers the exit status.
+fn status_of_comparison<T: Threads + Wait + Sync>(
+    rt: &HostRuntime,
+    threads: &T,
+    alloc: Global,
+    ask: &Ask<'_>,
+    text: &[u8],
+    name: &str,
+) -> io::Result<u8> {
+    let expected = match live_policy_text(rt, alloc, name) {
+        Ok(Ok(expected)) => expected,
+        Ok(Err(status)) => return Ok(status),
+        Err(error) => return Err(error),
+    };
+    let expectations = match read_expectations(alloc, expected.as_slice()) {
+        Ok(expectations) => expectations,
+        Err(fault) => return say_wrong_expectations(rt, name, fault),
+    };
+    let mut writer = Device::new(Output::new(rt.stdout()));
+    let expectations = expectations.as_slice();
+    match compare_answers(threads, alloc, ask, expectations, text, &mut writer) {
+        Ok(met) => Ok(status_behind(met, false)),
+        Err(fault) => said(rt, &fault),
+    }
+}
+
+// Says why the packets get no verdicts, and answers the exit status.
+fn said(rt: &HostRuntime, fault: &QuestionFault) -> io::Result<u8> {
+    eprintln!(rt; "racl: {fault}")?;
+    Ok(answer_status(fault))
 }

@@ -6,20 +6,21 @@ ghost use Rattle.std.specs.Prelude.{◌<◌, ◌-◌, ◌^◌};
 
 mod ask;
 mod compare;
+mod shard;
 
 use expected_verdicts::{read_expectations, status_behind as status_of_compared};
 use racl_cli::{
     DiffFault, ExpectingAsked, LiveAsked, LiveSaves, PolicyTexts, run, run_diff, run_expecting,
-    run_live, run_saving,
+    run_interfaces, run_live, run_saving,
 };
 use racl_io::{Device, Fault, FrontKept, Joined, Source};
-use racl_options::{Asked, DiffFiles, Files, Origin, diff_options};
+use racl_options::{Asked, DiffFiles, Files, Interfaces, Origin, diff_options};
 use racl_system::{
     DiffInput, ExpectingInput, LiveFiles, LiveInput, Output, Parts, Ran, Watched, asked_or_status,
     diff_or_status, expansion_status, failure_status, opened_diff, opened_expecting, opened_input,
-    opened_live, saves_to, say_capture_fault, say_end_of_live, say_end_of_run, say_policy_fault,
-    say_unsaved, say_used_twice, say_wrong_expectations, settled, texts_of, watched_where,
-    words_of,
+    opened_live, read_interface_input, saves_to, say_capture_fault, say_end_of_interfaces,
+    say_end_of_live, say_end_of_run, say_policy_fault, say_unsaved, say_used_twice,
+    say_wrong_expectations, settled, texts_of, watched_where, words_of,
 };
 use std::alloc::Global;
 use std::io;
@@ -58,6 +59,11 @@ fn status_of_main<T: Threads + Wait + Sync>(
         Ok(Some(status)) => return Ok(status),
         Err(error) => return Err(error),
     }
+    match shard::sharded(rt, threads, alloc, texts.as_slice()) {
+        Ok(None) => {}
+        Ok(Some(status)) => return Ok(status),
+        Err(error) => return Err(error),
+    }
     match diff_or_status(rt, alloc, texts.as_slice())? {
         Ok(Some(files)) => return status_of_diff(rt, threads, alloc, &files),
         Ok(None) => {}
@@ -70,6 +76,9 @@ fn status_of_main<T: Threads + Wait + Sync>(
             }
             (Origin::Files(files), None) if asked.options.live || asked.options.any_length => {
                 status_of_live(rt, threads, alloc, &asked, files)
+            }
+            (Origin::Interfaces(interfaces), _) => {
+                status_of_interfaces(rt, threads, alloc, &asked, interfaces)
             }
             (_, _) => status_of_run(rt, threads, alloc, &asked),
         },
@@ -138,6 +147,38 @@ fn run_main_program<T: Threads + Wait + Sync, R: Source + Send>(
         is_closed: writer.inner.is_closed,
         reason: writer.inner.reason,
     }))
+}
+
+// Runs the main program on captures of interfaces, tells how that ended, and answers the exit status.
+fn status_of_interfaces<T: Threads + Wait + Sync>(
+    rt: &HostRuntime,
+    threads: &T,
+    alloc: Global,
+    asked: &Asked<'_>,
+    interfaces: &Interfaces<'_>,
+) -> io::Result<u8> {
+    let input = match read_interface_input(rt, rt, alloc, interfaces) {
+        Ok(Ok(input)) => input,
+        Ok(Err(status)) => return Ok(status),
+        Err(error) => return Err(error),
+    };
+    let mut writer = Device::new(Output::new(rt.stdout()));
+    let (outcome, faulty) = match run_interfaces(
+        threads,
+        alloc,
+        &asked.options,
+        &input,
+        &mut writer,
+    ) {
+        Ok(totals) => (Ok(totals), None),
+        Err(found) => (Err(found.fault), found.place),
+    };
+    let ran = Ran {
+        outcome,
+        is_closed: writer.inner.is_closed,
+        reason: writer.inner.reason,
+    };
+    say_end_of_interfaces(rt, alloc, asked, &input, &ran, faulty)
 }
 
 // Runs the main program on the capture of a file while it is read, saves packets of it where that is asked for, tells how that

@@ -2,7 +2,6 @@
 use Rattle.std.proofs.KnownBytes.{Consumes-all, Consumes-trans}
 use Rattle.std.proofs.Common.{◌≡◌, ◌≢◌, ◌∙◌, ◌++◌, ℕ, List, [], Option, ap, arith, drop, inl, inr, refl, subst, sym}
 use Rattle.std.proofs.lemmas.List.{drop_all, length-map}
-use Rattle.std.specs.Io.KnownBytes.{Appends}
 use Rattle.packet_view.specs.Captures.{AreRecords, packet_at, packets_at}
 use Rattle.packet_view.specs.declared.capture.Order.{Order}
 use Rattle.packet_view.proofs.FrontLemmas.{behind_header_appended, header_appended}
@@ -11,7 +10,7 @@ use Rattle.acl_policy.specs.declared.policy.PolicyFault.{PolicyFault}
 use Rattle.acl_policy.specs.declared.policy.PolicyFault.TheVariants as policy
 use Rattle.racl_options.specs.declared.settings.Options.{Options}
 use Rattle.verdict_changes.specs.Changes.{PairFacts}
-use Rattle.verdict_changes.specs.ChangeReports.{report_of, totals_of}
+use Rattle.verdict_changes.specs.ChangeReports.{totals_of}
 use Rattle.verdict_changes.specs.Comparing.{HasToldAll, IsComparingFault, changes_in}
 use Rattle.verdict_changes.specs.declared.totals.ChangeTotals.{ChangeTotals}
 use Rattle.verdict_changes.proofs.CompareLemmas.{none_compared}
@@ -56,8 +55,10 @@ diff_run options texts before left after old new policies order totals say head 
         refl,
       );
       verdicts = compared.verdicts;
-      written = subst (λ n. Appends old new (report_of (changes_in policies compared) n told.truncated)) (sym size) told.text;
       counted = subst (λ n. totals ≡ totals_of (changes_in policies compared) n told.truncated) (sym size) told.counted;
+      lines = told.lines;
+      are = told.are;
+      written = told.text;
     }
 
 -- not all was compared, of what stands behind the header

@@ -1,7 +1,5 @@
 -- Captures as digits that are decoded one after the other.
-use Rattle.std.proofs.Common.{◌≡◌, ◌∙◌, ◌==◌, ◌||◌, ℕ, Bool, true, false, List, [], ◌∷◌, ◌++◌, Option, Some, None, length, append-nil, append_assoc, arith, refl, sym, ap, subst, inl, inr}
-use Rattle.std.specs.List.{list_any}
-use Rattle.std.proofs.lemmas.Bool.{cases_eq, eq-eqb, ne_eqb}
+use Rattle.std.proofs.Common.{◌≡◌, ◌∙◌, ℕ, Bool, true, false, List, [], ◌∷◌, ◌++◌, Option, Some, None, length, append-nil, append_assoc, arith, refl, sym, ap, subst, inl, inr}
 use Rattle.std.proofs.lemmas.List.{length-append}
 use Rattle.packet_view.specs.Captures.{End, IsCaptureAt, PacketFacts, end_of}
 use Rattle.acl_policy.specs.Policies.{IsAmong}
@@ -22,28 +20,6 @@ use Rattle.racl_report.specs.inner.NumberedCaptures.{AreTakenFrom, IsFaultFrom}
 use Rattle.racl_cli.specs.declared.digit_captures.Decoded.{Decoded}
 use Rattle.racl_cli.specs.declared.digit_captures.Walk.{Walk}
 use Rattle.racl_cli.specs.inner.Captures.{AreDecoded, HasDecoded, HasTaken}
-
--- ---- which interfaces were seen
-
-or_false : (b c : Bool) → (b || c) ≡ false → c ≡ false
-or_false true c none = absurd (let f : ⊥ = cc in f)
-or_false false c none = none
-
-pub among : (number : ℕ) (seen : List ℕ) → list_any (λ other. other == number) seen ≡ true → IsAmong number seen
-among number [] any = absurd (let f : ⊥ = cc in f)
-among number (other ∷ seen) any =
-    elim (cases_eq other number) [
-      | inl same ↦ inl (sym same)
-      | inr unlike ↦
-          inr (among number seen (subst (λ b. (b || list_any (λ o. o == number) seen) ≡ true) (ne_eqb other number unlike) any))
-    ]
-
-pub not_among : (number : ℕ) (seen : List ℕ) → list_any (λ other. other == number) seen ≡ false → IsAmong number seen → ⊥
-not_among number [] none is = is
-not_among number (other ∷ seen) none (inl same) =
-    let found = eq-eqb other number (sym same) in
-    let f : ⊥ = cc in f
-not_among number (other ∷ seen) none (inr is) = not_among number seen (or_false (other == number) _ none) is
 
 -- ---- what a capture's digits and those behind them come to
 

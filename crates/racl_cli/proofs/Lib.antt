@@ -5,6 +5,7 @@ pub mod DiffLemmas
 pub mod DigitCaptureLemmas
 pub mod ExpectingLemmas
 pub mod InputLaws
+pub mod InterfaceLemmas
 pub mod LiveEndLemmas
 pub mod LiveLemmas
 pub mod LiveSaveLemmas
@@ -13,4 +14,6 @@ pub mod OutcomeLemmas
 pub mod ReadLemmas
 pub mod RunLemmas
 pub mod SavingLemmas
+pub mod ShardEndLemmas
+pub mod ShardRunLemmas
 pub mod StoredLaws

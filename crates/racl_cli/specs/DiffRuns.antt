@@ -1,5 +1,5 @@
 -- A run over a capture whose packets are judged by two policies while it comes: a policy, and the one that is to take its place.
-use Rattle.std.specs.Prelude.{◌≡◌, ◌<◌, ◌⊎◌, ℕ, Bool, List, Option, IfSome, MatchResult, Result, length}
+use Rattle.std.specs.Prelude.{◌≡◌, ◌<◌, ◌⊎◌, ◌++◌, ℕ, Bool, List, Option, IfSome, MatchResult, Result, length}
 use Rattle.std.specs.Io.KnownBytes.{Appends, Consumes, IsAtEnd}
 use Rattle.packet_view.specs.Captures.{HasFileHeader, IsCaptureAt, IsHeaderFault, PacketFacts, end_of}
 use Rattle.packet_view.specs.declared.capture.CaptureFault.{CaptureFault}
@@ -15,7 +15,7 @@ use Rattle.racl_io.specs.Tellings.{with_write}
 use Rattle.racl_io.specs.Transfers.{GaveAtMost}
 use Rattle.capture_stream.specs.Lives.{with_read}
 use Rattle.verdict_changes.specs.Changes.{PairFacts, changes_from}
-use Rattle.verdict_changes.specs.ChangeReports.{report_of, totals_of}
+use Rattle.verdict_changes.specs.ChangeReports.{AreLines, end_of_report, totals_of}
 use Rattle.verdict_changes.specs.Comparing.{BothVerdicts, HasToldAll, IsComparingFault}
 use Rattle.verdict_changes.specs.declared.totals.ChangeTotals.{ChangeTotals}
 use Rattle.racl_cli.specs.LiveRuns.{ByOneWorker}
@@ -61,8 +61,10 @@ pub record HasRunDiff (options : Options) (texts : PolicyTexts) (given old new :
   pub truncated : Bool
   pub records : IsCaptureAt 0 bytes packets (end_of truncated)
   pub verdicts : BothVerdicts (ByOneWorker options policies.before) (ByOneWorker options policies.after) packets
-  pub written : Appends old new (report_of (changes_from policies 1 verdicts.befores verdicts.afters packets) (length packets) truncated)
   pub counted : totals ≡ totals_of (changes_from policies 1 verdicts.befores verdicts.afters packets) (length packets) truncated
+  pub lines : List ℕ
+  pub are : AreLines policies.after (changes_from policies 1 verdicts.befores verdicts.afters packets) lines
+  pub written : Appends old new (lines ++ end_of_report totals)
 
 -- a policy and a header of the capture were read, behind which the source has its records
 pub record HaveHead (texts : PolicyTexts) (before : Option (List ℕ)) : Type 0 where

@@ -1,10 +1,12 @@
 pub mod Crews
 pub mod DiffRuns
 pub mod ExpectingRuns
+pub mod InterfaceRuns
 pub mod LiveRuns
 pub mod LiveSaves
 pub mod Reads
 pub mod Runs
 pub mod SavingRuns
+pub mod ShardRuns
 pub mod StoredRuns
 pub mod inner

@@ -1,8 +1,10 @@
 pub mod Captures
 pub mod Comparings
 pub mod Heads
+pub mod InterfaceChecks
 pub mod Kept
 pub mod LiveEnds
+pub mod OwnTotals
 pub mod Plans
 pub mod Stored
 pub mod Streams

@@ -68,8 +68,8 @@ fn judge_in_manner<T: Threads + Wait + Sync>(
     with_stored(alloc, options, tables, ended)
 }
 
-// What these packets met by this filter, by a plan for as many as they are. This is told of the captures that have them.
-fn judge_packets<T: Threads + Wait + Sync>(
+/// What these packets met by this filter, by a plan for as many as they are. This is told of the captures that have them.
+pub fn judge_packets<T: Threads + Wait + Sync>(
     rt: &T,
     alloc: Global,
     options: &Options,

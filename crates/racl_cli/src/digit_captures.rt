@@ -1,6 +1,5 @@
 //! Captures as digits, which are decoded one after the other.
-ghost use Rattle.std.specs.Prelude.{◌≡◌, ◌≢◌, ◌==◌, ◌⊎◌, [], IfErr, IfOk};
-ghost use Rattle.std.specs.List.{list_any};
+ghost use Rattle.std.specs.Prelude.{◌≡◌, ◌≢◌, ◌⊎◌, [], IfErr, IfOk};
 ghost use Rattle.racl_io.specs.declared.fault.Fault.TheVariants.{Memory};
 ghost use Rattle.racl_io.specs.declared.marker_line.Form.TheVariants.{Binary, Hexadecimal};
 ghost use Rattle.racl_io.specs.declared.marker_line.Form.TheVariants as form;
@@ -9,6 +8,7 @@ ghost use Rattle.racl_cli.specs.inner.Captures.{AreDecoded, HasDecoded, HasTaken
 
 use packet_view::check_capture;
 use racl_io::{Captured, Digits, Fault, Form, Numbered, cut_at_numbered_marker, decode_digits};
+use racl_report::is_interface_seen;
 use racl_views::CaptureBytes;
 use std::alloc::Global;
 
@@ -71,13 +71,6 @@ fn decode_behind(
     Ok(Decoded { captures, told })
 }
 
-// Whether one of the captures as digits that were decoded is of the interface with this number.
-fn is_digit_capture_seen(seen: &[u8], number: u8) -> bool
-    ensures { result ≡ list_any (λ other. other == number) seen.now }
-{
-    seen.iter().any(|other| *other == number)
-}
-
 // Decodes the next one of captures as digits, which come in turn.
 fn decode_next<'b>(alloc: Global, walk: Walk<'b>, capture: Numbered<'b>) -> Result<Walk<'b>, Fault>
     ensures ok { IfOk result (HasTaken walk.entry capture.entry) }
@@ -89,7 +82,7 @@ fn decode_next<'b>(alloc: Global, walk: Walk<'b>, capture: Numbered<'b>) -> Resu
         ..
     } = walk;
     let number = capture.interface;
-    if is_digit_capture_seen(&seen, number) {
+    if is_interface_seen(&seen, number) {
         return Err(Fault::Twice(number));
     }
     let Digits { digits, next } = cut_at_numbered_marker(capture.content);

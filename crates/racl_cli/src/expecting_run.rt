@@ -90,6 +90,7 @@ fn compare_all<R: Source, W: Sink, T: Threads + Wait + Sync>(
     let headed = Headed {
         judges,
         order: head.order,
+        many: None,
     };
     let mut saver = Unsaved;
     let told = match tell_live(alloc, reader, writer, &mut teller, &mut saver, headed) {

@@ -1,5 +1,5 @@
 //! One run over a capture that is told while it comes.
-ghost use Rattle.std.specs.Prelude.{[], ◌≡◌, ◌-◌, ◌<◌, ◌^◌, ◌++◌, IfOk, IfSome, List, MatchResult};
+ghost use Rattle.std.specs.Prelude.{[], ◌≡◌, ◌-◌, ◌<◌, ◌^◌, ◌++◌, if◌then◌else◌, IfOk, IfSome, List, MatchResult, None, Some, nat_lt};
 ghost use Rattle.packet_view.specs.Captures.{PacketFacts};
 ghost use Rattle.acl_policy.specs.Policies.{IsPolicyText, policy_facts};
 ghost use Rattle.session_state.specs.declared.verdict.Verdict.{Verdict};
@@ -15,7 +15,7 @@ use crate::capture_header_reading::keep_header;
 use crate::counted_judging::Counted;
 use crate::live_saves::LiveSaves;
 use crate::sized_tables_and_workers::{
-    Manner, SizedCallers, SizedTables, SizedWorkers, create_sized,
+    MANY_PACKETS, Manner, SizedCallers, SizedTables, SizedWorkers, create_sized,
 };
 use crate::stored_sessions::{keeps_stored, stored_of};
 use crate::workers_as_judges::HandingCrew;
@@ -32,8 +32,8 @@ use std::alloc::{AllocError, Global};
 use std::sync::Wait;
 use std::thread::Threads;
 
-/// For how many packets rules are prepared.
-const EXPECTED: usize = 16_777_216;
+/// For how many packets rules of a live run are prepared.
+pub const EXPECTED: usize = 16_777_216;
 
 /// What a live run is asked for: its options, and its policy's text.
 #[derive(Clone, Copy)]
@@ -53,8 +53,8 @@ pub struct LiveHead<'t, 'f> {
     pub order: Order,
 }
 
-// What stands behind the totals of a live run whose workers have ended: with these counts, and these tables, which end.
-fn told_behind_live(
+/// What stands behind the totals of a live run whose workers have ended: with these counts, and these tables, which end.
+pub fn told_behind_live(
     alloc: Global,
     head: LiveHead<'_, '_>,
     tables: SizedTables,
@@ -69,8 +69,8 @@ fn told_behind_live(
     behind_totals(alloc, head.options, head.text, counts, &stored)
 }
 
-// Of a live run the totals are told, and what stands behind them.
-fn tell_end_behind<L: Teller, W: Sink>(
+/// Of a live run the totals are told, and what stands behind them.
+pub fn tell_end_behind<L: Teller, W: Sink>(
     writer: &mut W,
     teller: &mut L,
     totals: &Totals,
@@ -85,11 +85,22 @@ fn tell_end_behind<L: Teller, W: Sink>(
     }
 }
 
-// Whether sessions that have ended are removed while packets come: in a live run, as it may never end, and where that is asked for.
-fn ages_early(options: &Options) -> bool
+/// Whether sessions that have ended are removed while packets come: in a live run, as it may never end, and where that is asked for.
+pub fn ages_early(options: &Options) -> bool
     ensures { result ≡ ages_in options.now }
 {
     options.live || options.ages
+}
+
+/// From how many packets of a read on threads pay for so many workers: never for one.
+pub fn many_for(workers: usize) -> Option<usize>
+    ensures { result ≡ if nat_lt 1 workers then Some 49152 else None }
+{
+    if workers > 1 {
+        Some(MANY_PACKETS)
+    } else {
+        None
+    }
 }
 
 // In a live run workers judge the packets of the capture behind its header, and they are told and saved, while they come. The
@@ -133,6 +144,7 @@ fn tell_capture<L: Teller, K: Saver, R: Source, W: Sink, T: Threads + Wait + Syn
     let headed = Headed {
         judges,
         order: head.order,
+        many: many_for(head.options.workers),
     };
     let told = match tell_live(alloc, reader, writer, teller, saver, headed) {
         Ok(told) => told,

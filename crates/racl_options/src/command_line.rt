@@ -68,19 +68,22 @@ const ABOUT: &str = "Judges the packets of a capture by ordered rules and by ses
 
 const USAGE: &str = "racl [OPTIONS] POLICY CAPTURE
        racl [OPTIONS] --interface N=CAPTURE .. POLICY
+       racl --shard K/N [OPTIONS] POLICY CAPTURE
        racl [OPTIONS] < INPUT
        racl check POLICY
        racl expand FILE
-       racl ask [--explain] POLICY PACKET ..
+       racl ask [--explain | --expect FILE] POLICY PACKET ..
        racl diff OLD NEW CAPTURE
        racl compare OLD NEW";
 
 // The help of the command line below the options. A function of its own, so that no proof of a caller has the text.
 fn after_help() -> &'static str {
     "INPUT is a policy, a line `pcap` or `hex`, and the capture in that form; POLICY and CAPTURE are such \
-    a policy and a capture's bytes. Except with --live and --any-length they have at most 67108864 bytes in all, in \
-    which a byte of a capture after --interface counts twice. The report goes to standard output. --drops, --passes, \
-    --expect, --live and --any-length need POLICY CAPTURE.
+    a policy and a capture's bytes. Except with --live and --any-length they have at most 67108864 bytes in all. The \
+    report goes to standard output. --drops, --passes, --expect, --live and --any-length need POLICY CAPTURE.
+
+The first words may be:
+      --shard <K/N>                The packets of shard K of N of POLICY CAPTURE alone, as with --any-length
 
 Examples:
   racl check host.policy
@@ -94,6 +97,7 @@ Examples:
   racl --drops dropped.pcap --passes passed.pcap host.policy host.pcap
   tcpdump -i eth0 -U -w - | racl --live host.policy -
   racl --any-length --workers 4 --hits host.policy long.pcap
+  racl --shard 1/8 --hits host.policy long.pcap
   racl --expect host.expected host.policy host.pcap
   racl diff host.policy new.policy host.pcap
   racl compare host.policy new.policy

@@ -1,4 +1,5 @@
 pub mod CaptureLaws
+pub mod InterfaceLaws
 pub mod ReadInputLemmas
 pub mod SaveLemmas
 pub mod ViewLemmas

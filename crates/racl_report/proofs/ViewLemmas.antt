@@ -21,9 +21,8 @@ use Rattle.racl_views.specs.RunEntries.{RunFacts}
 use Rattle.racl_views.specs.Stored.{StoredFacts}
 use Rattle.racl_report.specs.KeptInputs.{IsKept}
 use Rattle.racl_report.specs.RunReports.{AreLines, JudgedFacts, Outcome, sessions_behind, told_facts, view_behind}
-use Rattle.racl_report.specs.WrittenReports.{HasPlain, HasReport, needs_bytes}
+use Rattle.racl_report.specs.WrittenReports.{HasPlain, HasReport, HasTold, needs_bytes}
 use Rattle.racl_report.specs.declared.kept_input.Kept.{Kept}
-use Rattle.racl_report.specs.inner.ToldRuns.{HasTold}
 
 abbrev pub outcome_of : List Verdict → List Captured → Outcome
 outcome_of verdicts captures = record { verdicts = verdicts; captures = captures }

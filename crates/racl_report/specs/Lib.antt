@@ -1,5 +1,6 @@
 pub mod BehindTotals
 pub mod Endings
+pub mod InterfaceInputs
 pub mod KeptInputs
 pub mod ReadInputs
 pub mod RunReports

@@ -10,7 +10,10 @@ use Rattle.racl_io.specs.Reports.{totals_of}
 use Rattle.racl_io.specs.ShownReports.{report_shown}
 use Rattle.racl_options.specs.Asking.{is_plain}
 use Rattle.racl_options.specs.declared.settings.Options.{Options}
-use Rattle.racl_report.specs.RunReports.{IsReport, JudgedFacts, sessions_behind}
+use Rattle.racl_views.specs.Hits.{AreHits}
+use Rattle.racl_views.specs.RunEntries.{RunFacts}
+use Rattle.racl_views.specs.Stored.{StoredFacts}
+use Rattle.racl_report.specs.RunReports.{AreLines, IsReport, JudgedFacts, sessions_behind, view_behind}
 
 -- whether what is told of an input needs its bytes
 abbrev pub needs_bytes : Options → Bool
@@ -27,6 +30,15 @@ pub record EndsOnce {W X : Type 0} (failures : W → ℕ) (old new : W) (result 
 pub record HasPlain (options : Options) (judged : JudgedFacts) (old new : Option (List ℕ)) (totals : Totals) : Type 0 where
   pub text : Appends old new (report_shown options.shown judged.outcome.verdicts judged.outcome.captures ++ sessions_behind options judged.stored)
   pub counted : totals ≡ totals_of judged.outcome.verdicts judged.outcome.captures
+
+-- the lines of a run stand behind what was written before, and behind its lines the hits and the sessions that are asked for
+pub record HasTold (options : Options) (run : RunFacts) (stored : StoredFacts) (old new : Option (List ℕ)) (totals : Totals) : Type 0 where
+  pub lines : List ℕ
+  pub are : AreLines options.lines run lines
+  pub hits : List ℕ
+  pub told : AreHits options.hits (view_behind options.lines) options.times run stored hits
+  pub text : Appends old new (lines ++ (hits ++ sessions_behind options stored))
+  pub counted : totals ≡ totals_of run.verdicts run.captures
 
 -- the report on an input stands behind what was written before
 pub record HasReport (options : Options) (input : List ℕ) (policy : PolicyFacts) (packets : List PacketFacts) (judged : JudgedFacts) (old new : Option (List ℕ)) (totals : Totals) : Type 0 where

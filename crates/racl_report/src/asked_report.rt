@@ -12,8 +12,8 @@ ghost use Rattle.racl_report.specs.KeptInputs.{IsKeptWhere};
 ghost use Rattle.racl_report.specs.ReadInputs.{IsRead};
 ghost use Rattle.racl_report.specs.RunReports.{sessions_behind, told_facts};
 ghost use Rattle.racl_report.specs.WrittenReports;
-ghost use Rattle.racl_report.specs.WrittenReports.{EndsOnce, HasPlain, HasReport};
-ghost use Rattle.racl_report.specs.inner.ToldRuns.{HasLines, HasTold};
+ghost use Rattle.racl_report.specs.WrittenReports.{EndsOnce, HasPlain, HasReport, HasTold};
+ghost use Rattle.racl_report.specs.inner.ToldRuns.{HasLines};
 
 use crate::judged_packets::Judged;
 use crate::kept_input::{Kept, KeptCaptures};
@@ -145,8 +145,8 @@ fn write_plain<W: Sink, T: Threads>(
     Ok(totals)
 }
 
-// Writes the report that the options ask for, on a run whose sessions stood in the tables at the end.
-fn write_run<W: Sink, T: Threads>(
+/// Writes the report that the options ask for, on a run whose sessions stood in the tables at the end.
+pub fn write_run<W: Sink, T: Threads>(
     beside: Option<&T>,
     alloc: Global,
     writer: &mut W,

@@ -1,2 +1,3 @@
 mod FileLemmas
+mod InterfaceFileLemmas
 mod ReaderLemmas

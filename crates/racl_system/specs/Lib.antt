@@ -1,6 +1,7 @@
 pub mod CheckStatuses
 pub mod Expands
 pub mod FaultyCaptures
+pub mod InterfaceFiles
 pub mod MarkedPolicies
 pub mod NamedFiles
 pub mod Places

@@ -1,8 +1,8 @@
 -- The names of an input's files, and the interfaces of its captures (this project's profile).
-use Rattle.std.specs.Prelude.{◌≡◌, ℕ, List, [], ◌∷◌, Option, IfSome, codes, map, option_map, slice_get}
+use Rattle.std.specs.Prelude.{◌≡◌, ℕ, List, [], ◌∷◌, Option, IfSome, codes, option_map, slice_get}
 use Rattle.clap.specs.Words.{Text}
 use Rattle.racl_io.specs.Joined.{marked_bytes}
-use Rattle.racl_io.specs.declared.marker_line.Form.TheVariants.{Binary, Numbered}
+use Rattle.racl_io.specs.declared.marker_line.Form.TheVariants.{Binary}
 use Rattle.racl_options.specs.Origins.{CaptureFacts, OriginFacts, FromStandard, FromFiles, FromInterfaces}
 use Rattle.racl_system.specs.MarkedPolicies.{IsFileStatus, IsUnmarked}
 use Rattle.racl_system.specs.Readers.{IsHeld}
@@ -29,14 +29,11 @@ name_at origin place = option_map (λ c. c.name) (capture_at origin place)
 abbrev pub interface_at : OriginFacts → ℕ → Option ℕ
 interface_at origin place = option_map (λ c. c.interface) (capture_at origin place)
 
--- the bytes of the captures of interfaces, each behind its marker line, where they are known of names; and of all captures
-abbrev pub interfaces_marked : (Text → Option (List ℕ)) → List CaptureFacts → List (Option (List ℕ))
-interfaces_marked named captures = map (λ c. marked_bytes (Numbered c.interface) (named c.name)) captures
-
+-- the bytes of the capture behind its marker line, where they are known of names: those of interfaces come apart
 abbrev pub marked_captures : (Text → Option (List ℕ)) → OriginFacts → List (Option (List ℕ))
 marked_captures named FromStandard = []
 marked_captures named (FromFiles policy capture) = marked_bytes Binary (named capture) ∷ []
-marked_captures named (FromInterfaces policy captures) = interfaces_marked named captures
+marked_captures named (FromInterfaces policy captures) = []
 
 -- what is held of a policy's file, in which no marker line stands
 abbrev pub IsFileText : Option (List ℕ) → Option (List ℕ) → Type 0

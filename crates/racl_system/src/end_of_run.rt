@@ -10,10 +10,14 @@ use crate::say_and_answer_status::say_ending;
 use crate::say_policy_remarks::{Seen, say_foreign, say_unlooked};
 use racl_io::{Fault, Joined, Totals};
 use racl_options::{Asked, Files, Options, Origin, TableSize};
-use racl_report::{Remark, ending, hint, remark, shortage, shown_name};
+use racl_report::{InterfaceInput, Remark, ending, hint, remark, shortage, shown_name};
+use racl_views::CaptureBytes;
 use std::alloc::Global;
 use std::io;
 use std::io::{Eprint, Read};
+
+/// How many first bytes of a capture are looked at for notes on it.
+const FRONT: usize = 4096;
 
 /// How a run ended, whether the reader of what it wrote was gone, and the number of the system's reason why it couldn't be
 /// written, where there is one.
@@ -45,26 +49,22 @@ fn seen_at_run_end<'a, S: Read, F: Read>(
     seen
 }
 
-// Notes on a run that ended with a fault: says which capture has it, and what it is where it isn't read for that.
-fn say_remark<S: Read, F: Read>(
-    rt: &HostRuntime,
-    alloc: Global,
+// Notes on a run that ended with a fault of the capture at this place, which begins with these bytes: says which capture has
+// the fault, and what that is where it isn't read for what it is.
+fn say_remark(
+    rt: &impl Eprint,
     origin: &Origin<'_>,
-    reader: &Joined<Reader<S, F>>,
+    place: usize,
+    front: &[u8],
     fault: Fault,
 ) -> io::Result<()> {
-    let Some(place) = faulty(rt, alloc, origin, reader, fault) else {
-        return Ok(());
-    };
     let (Some(name), Some(interface)) = (
         input_name_at(origin, place),
         input_interface_at(origin, place),
     ) else {
         return Ok(());
     };
-    if let Some(front) = reader.front(place)
-        && let Some(other) = remark(&Err(fault), front)
-    {
+    if let Some(other) = remark(&Err(fault), front) {
         return rt.eprintln(&Remark { name, other });
     }
     let shown = shown_name(name);
@@ -82,29 +82,36 @@ fn say_shortage(rt: &impl Eprint, outcome: &Result<Totals, Fault>, ages: bool, t
     }
 }
 
+// What is said of a run on files behind its ending: the policy's text, and the captures' first bytes.
+#[derive(Clone, Copy)]
+struct Noted<'a> {
+    text: &'a [u8],
+    seen: &'a [Seen<'a>],
+    /// The place of the capture that has the fault, where there is one.
+    faulty: Option<usize>,
+}
+
 // Says the notes behind a run on files: what is likely to be wrong with them.
-fn say_run_notes<S: Read, F: Read>(
+fn say_run_notes(
     rt: &HostRuntime,
     alloc: Global,
     asked: &Asked<'_>,
-    reader: &Joined<Reader<S, F>>,
+    noted: Noted<'_>,
     outcome: &Result<Totals, Fault>,
 ) -> io::Result<()> {
-    let origin = &asked.origin;
-    let Reader::Held(policy) = reader.policy() else {
-        return Ok(());
-    };
+    let Noted { text, seen, faulty } = noted;
     if outcome.is_ok() {
-        let name = input_policy_name(origin);
-        let text = policy.get_ref().as_slice();
-        let seen = seen_at_run_end(alloc, origin, reader);
-        say_unlooked(rt, alloc, name, text, seen.as_slice());
-        say_foreign(rt, alloc, name, text, seen.as_slice());
+        let name = input_policy_name(&asked.origin);
+        say_unlooked(rt, alloc, name, text, seen);
+        say_foreign(rt, alloc, name, text, seen);
     }
-    if let Err(fault) = outcome {
-        say_remark(rt, alloc, origin, reader, *fault)?;
+    if let (Err(fault), Some(place)) = (outcome, faulty)
+        && !matches!(fault, Fault::Twice(_))
+        && let Some(capture) = seen.get(place)
+    {
+        say_remark(rt, &asked.origin, place, capture.front, *fault)?;
     }
-    if let Some(hint) = hint(outcome, policy.get_ref().as_slice()) {
+    if let Some(hint) = hint(outcome, text) {
         rt.eprintln(&hint)?;
     }
     say_shortage(rt, outcome, asked.options.ages, asked.options.tables);
@@ -122,18 +129,10 @@ fn say_unwritten(rt: &impl Eprint, ran: &Ran) -> io::Result<()> {
     }
 }
 
-/// Says how a run ended, with notes on what is likely to be wrong with its files; and answers the status. No more is
-/// shown of how much was read.
-pub fn say_end_of_run<S: Read, F: Read>(
-    rt: &HostRuntime,
-    alloc: Global,
-    asked: &Asked<'_>,
-    reader: &mut Watched<'_, Joined<Reader<S, F>>>,
-    ran: &Ran,
-) -> io::Result<u8>
+// Says how a run ended, but for the notes on its files; and answers the status.
+fn say_ran(rt: &HostRuntime, asked: &Asked<'_>, ran: &Ran) -> io::Result<u8>
     ensures { IfOk result (λ status. status ≡ status_of ran.now.outcome) }
 {
-    reader.progress.end();
     let mut end = ending(&ran.outcome);
     if ran.is_closed && !matches!(asked.origin, Origin::Standard) {
         // Who asked for a report of files took as much of it as was wanted.
@@ -146,7 +145,78 @@ pub fn say_end_of_run<S: Read, F: Read>(
     if !matches!(asked.origin, Origin::Standard) {
         say_unwritten(rt, ran)?;
     }
-    say_run_notes(rt, alloc, asked, &reader.source, &ran.outcome)?;
+    Ok(status)
+}
+
+/// Says how a run ended, with notes on what is likely to be wrong with its files; and answers the status. No more is
+/// shown of how much was read.
+pub fn say_end_of_run<S: Read, F: Read>(
+    rt: &HostRuntime,
+    alloc: Global,
+    asked: &Asked<'_>,
+    reader: &mut Watched<'_, Joined<Reader<S, F>>>,
+    ran: &Ran,
+) -> io::Result<u8>
+    ensures { IfOk result (λ status. status ≡ status_of ran.now.outcome) }
+{
+    reader.progress.end();
+    let status = match say_ran(rt, asked, ran) {
+        Ok(status) => status,
+        Err(error) => return Err(error),
+    };
+    let source = &reader.source;
+    if let Reader::Held(policy) = source.policy() {
+        let seen = seen_at_run_end(alloc, &asked.origin, source);
+        let faulty = match ran.outcome {
+            Ok(_) => None,
+            Err(fault) => faulty(rt, alloc, &asked.origin, source, fault),
+        };
+        let noted = Noted {
+            text: policy.get_ref().as_slice(),
+            seen: seen.as_slice(),
+            faulty,
+        };
+        say_run_notes(rt, alloc, asked, noted, &ran.outcome)?;
+    }
+    Ok(status)
+}
+
+// The first bytes of captures, for the notes on these, as far as there is memory for their list.
+fn seen_of_interfaces(alloc: Global, captures: &[CaptureBytes]) -> Vec<Seen<'_>> {
+    let mut seen = Vec::new(alloc);
+    for capture in captures {
+        let interface = capture.interface;
+        let front = &capture.bytes[..capture.bytes.len().min(FRONT)];
+        if seen.push(Seen { interface, front }).is_err() {
+            return seen;
+        }
+    }
+    seen
+}
+
+/// Says how a run on captures of interfaces ended, of which the one at this place has the fault, where there is one; with
+/// notes, as behind other runs. Answers the status.
+pub fn say_end_of_interfaces(
+    rt: &HostRuntime,
+    alloc: Global,
+    asked: &Asked<'_>,
+    input: &InterfaceInput,
+    ran: &Ran,
+    faulty: Option<usize>,
+) -> io::Result<u8>
+    ensures { IfOk result (λ status. status ≡ status_of ran.now.outcome) }
+{
+    let status = match say_ran(rt, asked, ran) {
+        Ok(status) => status,
+        Err(error) => return Err(error),
+    };
+    let seen = seen_of_interfaces(alloc, &input.captures);
+    let noted = Noted {
+        text: &input.text,
+        seen: seen.as_slice(),
+        faulty,
+    };
+    say_run_notes(rt, alloc, asked, noted, &ran.outcome)?;
     Ok(status)
 }
 

@@ -1,14 +1,14 @@
 //! The files of an input.
-ghost use Rattle.std.specs.Prelude.{◌≡◌, ◌∷◌, ◌⊎◌, [], IfErr, IfNone, IfOk, IfSome, map};
+ghost use Rattle.std.specs.Prelude.{◌≡◌, ◌≤◌, ◌+◌, ◌∷◌, ◌⊎◌, [], IfErr, IfNone, IfOk, IfSome, length, take};
+ghost use Rattle.racl_io.specs.Inputs.{most_bytes};
 ghost use Rattle.racl_io.specs.Joined.{marked_bytes};
-ghost use Rattle.racl_io.specs.Writings.{marked_left};
 ghost use Rattle.racl_io.specs.declared.fault.Fault.TheVariants.{Memory};
 ghost use Rattle.racl_io.specs.declared.marker_line.Form.TheVariants.{Binary};
 ghost use Rattle.racl_options.specs.Checks.{text_behind};
-ghost use Rattle.racl_options.specs.Origins.{capture_facts, origin_facts};
+ghost use Rattle.racl_options.specs.Origins.{origin_facts};
 ghost use Rattle.racl_system.specs.MarkedPolicies.{IsMarkedFault, IsUnheld, IsUnmarked};
 ghost use Rattle.racl_system.specs.NamedFiles as named;
-ghost use Rattle.racl_system.specs.NamedFiles.{IsInputStatus, IsPolicyOf, interfaces_marked, marked_captures, policy_of};
+ghost use Rattle.racl_system.specs.NamedFiles.{IsInputStatus, IsPolicyOf, marked_captures, policy_of};
 ghost use Rattle.racl_system.specs.Readers.{IsHeld, captures_left, left_in};
 
 use crate::named_reader::{Reader, bytes_of, opened_or_told};
@@ -16,7 +16,7 @@ use crate::say_and_answer_status::say_fault;
 use crate::system_files::SystemFiles;
 use acl_policy::read_policy;
 use racl_io::{Fault, Form, MOST_BYTES, Marked, joined_capture, split_input};
-use racl_options::{CaptureFile, Origin};
+use racl_options::Origin;
 use racl_report::Hint;
 use std::alloc::Global;
 use std::io;
@@ -29,29 +29,8 @@ pub struct Parts<S, F> {
     pub captures: Vec<Marked<Reader<S, F>>>,
 }
 
-// Opens the file of one capture of an input. Where it can't be opened that is told, and None is answered, as of the calls
-// below.
-fn opened_capture<S: SystemFiles + Eprint>(
-    system: &S,
-    alloc: Global,
-    form: Form,
-    name: &str,
-) -> io::Result<Option<Marked<Reader<S::Input, S::File>>>>
-    ensures { IfOk result (λ found. IfSome found (λ capture.
-        marked_left (left_in S.Input.remaining S.File.remaining) capture ≡ marked_bytes form (S.named system.now name.now))) }
-{
-    let reader = match opened_or_told(system, name) {
-        Ok(Some(reader)) => reader,
-        Ok(None) => return Ok(None),
-        Err(error) => return Err(error),
-    };
-    match joined_capture(alloc, form, reader) {
-        Ok(capture) => Ok(Some(capture)),
-        Err(error) => Err(io::Error::from(error)),
-    }
-}
-
-// Opens the file of the only capture of an input.
+// Opens the file of the only capture of an input. Where it can't be opened that is told, and None is answered, as of the
+// calls below.
 fn opened_alone<S: SystemFiles + Eprint>(
     system: &S,
     alloc: Global,
@@ -60,35 +39,21 @@ fn opened_alone<S: SystemFiles + Eprint>(
     ensures { IfOk result (λ found. IfSome found (λ all.
         captures_left S.Input.remaining S.File.remaining all.items ≡ marked_bytes Binary (S.named system.now name.now) ∷ [])) }
 {
-    let Some(capture) = opened_capture(system, alloc, Form::Binary, name)? else {
-        return Ok(None);
+    let reader = match opened_or_told(system, name) {
+        Ok(Some(reader)) => reader,
+        Ok(None) => return Ok(None),
+        Err(error) => return Err(error),
+    };
+    let capture = match joined_capture(alloc, Form::Binary, reader) {
+        Ok(capture) => capture,
+        Err(error) => return Err(io::Error::from(error)),
     };
     let mut captures = Vec::new(alloc);
     captures.push(capture)?;
     Ok(Some(captures))
 }
 
-// Opens the files of the captures of interfaces in their order.
-fn opened_interfaces<S: SystemFiles + Eprint>(
-    system: &S,
-    alloc: Global,
-    files: &[CaptureFile<'_>],
-) -> io::Result<Option<Vec<Marked<Reader<S::Input, S::File>>>>>
-    ensures { IfOk result (λ found. IfSome found (λ all.
-        captures_left S.Input.remaining S.File.remaining all.items ≡ interfaces_marked (S.named system.now) (map capture_facts files.now))) }
-{
-    let mut captures = Vec::new(alloc);
-    for file in files {
-        let form = Form::Numbered(file.interface);
-        let Some(capture) = opened_capture(system, alloc, form, file.name)? else {
-            return Ok(None);
-        };
-        captures.push(capture)?;
-    }
-    Ok(Some(captures))
-}
-
-// Opens the files of an input's captures in their order.
+// Opens the file of an input's capture, where one follows the policy.
 fn opened_captures<S: SystemFiles + Eprint>(
     system: &S,
     alloc: Global,
@@ -98,11 +63,8 @@ fn opened_captures<S: SystemFiles + Eprint>(
         captures_left S.Input.remaining S.File.remaining all.items ≡ marked_captures (S.named system.now) (origin_facts origin.now))) }
 {
     match origin {
-        Origin::Standard => Ok(Some(Vec::new(alloc))),
+        Origin::Standard | Origin::Interfaces(_) => Ok(Some(Vec::new(alloc))),
         Origin::Files(files) => opened_alone(system, alloc, files.capture),
-        Origin::Interfaces(interfaces) => {
-            opened_interfaces(system, alloc, interfaces.captures.as_slice())
-        }
     }
 }
 
@@ -183,14 +145,13 @@ fn marked_policy_fault(alloc: Global, text: &[u8]) -> Option<Fault>
     }
 }
 
-// Reads a policy's file, and holds its text, so that it can be looked at again. TooLarge: it has more bytes than an input may.
-fn held_policy<S: Read + Drop, F: Read + Drop>(
-    alloc: Global,
-    reader: Reader<S, F>,
-) -> Result<Reader<S, F>, Fault>
-    ensures held { IfOk result (λ held. IsHeld (left_in S.remaining F.remaining reader) (left_in S.remaining F.remaining held)) }
-    ensures unmarked { IfOk result (λ held. IfSome (left_in S.remaining F.remaining held) IsUnmarked) }
-    ensures fault { IfErr result (IsUnheld (left_in S.remaining F.remaining reader)) }
+/// The text of a policy's file. TooLarge: it has more bytes than an input may. Another fault but Memory and Read: a marker line
+/// stands there.
+pub fn unmarked_text<R: Read + Drop>(alloc: Global, reader: R) -> Result<Vec<u8>, Fault>
+    ensures few { IfOk result (λ text. length text.items ≤ most_bytes) }
+    ensures text { IfOk result (λ text. IfSome (R.remaining reader) (λ all. text.items ≡ take (most_bytes + 1) all)) }
+    ensures unmarked { IfOk result (λ text. IsUnmarked text.items) }
+    ensures fault { IfErr result (IsUnheld (R.remaining reader)) }
 {
     let text = match bytes_of(alloc, reader) {
         Ok(text) => text,
@@ -200,13 +161,29 @@ fn held_policy<S: Read + Drop, F: Read + Drop>(
         return Err(Fault::TooLarge);
     }
     match marked_policy_fault(alloc, &text) {
-        None => Ok(Reader::Held(Cursor::new(text))),
+        None => Ok(text),
         Some(fault) => Err(fault),
     }
 }
 
-/// Opens the files of an input, and reads its policy where that is a file's, in which a marker line is a wrong line. Where
-/// one can't be had or is wrong so, that is told, and the status is answered: 1 where the text is wrong so or too large, else 4.
+// Reads a policy's file, and holds its text, so that it can be looked at again.
+fn held_policy<S: Read + Drop, F: Read + Drop>(
+    alloc: Global,
+    reader: Reader<S, F>,
+) -> Result<Reader<S, F>, Fault>
+    ensures held { IfOk result (λ held. IsHeld (left_in S.remaining F.remaining reader) (left_in S.remaining F.remaining held)) }
+    ensures unmarked { IfOk result (λ held. IfSome (left_in S.remaining F.remaining held) IsUnmarked) }
+    ensures fault { IfErr result (IsUnheld (left_in S.remaining F.remaining reader)) }
+{
+    match unmarked_text(alloc, reader) {
+        Ok(text) => Ok(Reader::Held(Cursor::new(text))),
+        Err(fault) => Err(fault),
+    }
+}
+
+/// Opens the files of an input, but for captures of interfaces, and reads its policy where that is a file's, in which a marker
+/// line is a wrong line. Where one can't be had or is wrong so, that is told, and the status is answered: 1 where the text is
+/// wrong so or too large, else 4.
 pub fn opened_input<S: SystemFiles + Eprint>(
     system: &S,
     alloc: Global,

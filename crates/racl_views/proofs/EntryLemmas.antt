@@ -3,26 +3,15 @@ use Rattle.std.proofs.Common.{◌≡◌, ◌∙◌, ◌++◌, ◌+◌, ◌<◌, 
 use Rattle.std.proofs.Math.ListN.{drop_of_length-le}
 use Rattle.std.proofs.lemmas.List.{drop-drop}
 use Rattle.packet_view.specs.Captures.{PacketFacts}
-use Rattle.packet_view.specs.Frames.{FrameFacts}
-use Rattle.packet_view.proofs.FrameLemmas.{view_only, view_shown}
 use Rattle.acl_policy.specs.Policies.{PolicyFacts}
-use Rattle.flow_filter.specs.Readings.{IsSeen}
 use Rattle.session_state.specs.declared.verdict.Verdict.{Verdict}
+use Rattle.packet_words.proofs.ViewLemmas.{at_seen}
 use Rattle.racl_views.specs.declared.rule_name.RuleLine.{RuleLine}
 use Rattle.racl_views.specs.Entries.{AreEntries, EntryFacts}
 use Rattle.racl_views.specs.RuleLines.{AreRules}
 use Rattle.racl_views.specs.RunEntries.{HasEntries, RunFacts, told_from}
-use Rattle.racl_views.specs.inner.EntryLists.{entries_on, entry_on, view_at}
+use Rattle.racl_views.specs.inner.EntryLists.{entries_on, entry_on}
 use Rattle.racl_views.proofs.CountLemmas.{drop_one}
-
--- what a packet's frame is, is this
-pub seen_at : (policy : PolicyFacts) (packet : PacketFacts) (view : FrameFacts) → IsSeen policy packet view → view ≡ view_at policy packet
-unfolding view_at
-seen_at policy packet view seen = view_only packet.frame _ view seen
-
-at_seen : (policy : PolicyFacts) (packet : PacketFacts) → IsSeen policy packet (view_at policy packet)
-unfolding view_at
-at_seen policy packet = view_shown packet.frame _
 
 -- each packet has its entry
 pub all_entries : (policy : PolicyFacts) (rules : List RuleLine) (packets : List PacketFacts) (verdicts : List Verdict)

@@ -14,4 +14,3 @@ pub mod ObjectLemmas
 pub mod PartLemmas
 pub mod PutLemmas
 pub mod RuleTextLemmas
-pub mod TextLemmas

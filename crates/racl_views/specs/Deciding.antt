@@ -5,23 +5,9 @@ use Rattle.packet_view.specs.Frames.{FrameFacts, Ip, Malformed, NotIp, Short}
 use Rattle.acl_policy.specs.Policies.{PolicyFacts}
 use Rattle.flow_filter.specs.Readings.{IsSeen}
 use Rattle.session_state.specs.declared.verdict.Verdict.{Verdict}
-use Rattle.session_state.specs.declared.verdict.Verdict.TheVariants as verdict
+use Rattle.packet_words.specs.VerdictKinds.{rule_number}
 use Rattle.racl_views.specs.declared.rule_name.RuleName.{RuleName}
 use Rattle.racl_views.specs.RuleLines.{same_way}
-
--- the number of the rule that decided, where one did
-abbrev pub rule_number : Verdict → Option ℕ
-rule_number (verdict.Reflect number) = Some number
-rule_number (verdict.Permit number) = Some number
-rule_number (verdict.Deny number) = Some number
-rule_number verdict.Session = None
-rule_number verdict.ByDefault = None
-rule_number verdict.Worn = None
-rule_number verdict.Full = None
-rule_number verdict.NoPages = None
-rule_number verdict.NotIp = None
-rule_number verdict.Malformed = None
-rule_number verdict.Short = None
 
 -- the rule of the way that a packet goes
 abbrev pub rule_on : ℕ → FrameFacts → Verdict → Option RuleName

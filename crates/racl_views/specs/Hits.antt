@@ -22,7 +22,7 @@ use Rattle.racl_views.specs.declared.text_or_json.View.TheVariants as form
 use Rattle.racl_views.specs.Deciding.{AreDecided, hits_on}
 use Rattle.racl_views.specs.Objects.{number, object_line, object_of, string}
 use Rattle.racl_views.specs.PacketObjects.{way_field}
-use Rattle.racl_views.specs.PacketWords.{numbered}
+use Rattle.packet_words.specs.PacketWords.{numbered}
 use Rattle.racl_views.specs.RuleLines.{AreRules}
 use Rattle.racl_views.specs.RuleTexts.{rule_texts}
 use Rattle.racl_views.specs.Stored.{StoredFacts}

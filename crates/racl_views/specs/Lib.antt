@@ -7,7 +7,6 @@ pub mod HitCounts
 pub mod Hits
 pub mod Objects
 pub mod PacketObjects
-pub mod PacketWords
 pub mod PartTellings
 pub mod RuleLines
 pub mod RuleTexts

@@ -19,7 +19,7 @@ use Rattle.racl_io.specs.Reports.{totals_of}
 use Rattle.session_state.specs.Passes.{is_shown}
 use Rattle.racl_views.specs.Entries.{EntryFacts}
 use Rattle.racl_views.specs.Objects.{Field, number, object_lines, object_of, string}
-use Rattle.racl_views.specs.PacketWords.{address_text}
+use Rattle.packet_words.specs.PacketWords.{address_text}
 use Rattle.racl_views.specs.RunEntries.{HasEntries, RunFacts, captures_told}
 
 -- what became of a packet

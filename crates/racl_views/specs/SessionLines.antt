@@ -17,7 +17,7 @@ use Rattle.racl_views.specs.declared.stored_flow.StoredFlow.{StoredFlow}
 use Rattle.racl_views.specs.declared.text_or_json.View.{View}
 use Rattle.racl_views.specs.declared.text_or_json.View.TheVariants as form
 use Rattle.racl_views.specs.Objects.{Field, number, object_line, object_of, string}
-use Rattle.racl_views.specs.PacketWords.{address_text, flags_text, numbered, protocol_text}
+use Rattle.packet_words.specs.PacketWords.{address_text, flags_text, numbered, protocol_text}
 use Rattle.racl_views.specs.Stored.{StoredFacts}
 
 -- ---- keys

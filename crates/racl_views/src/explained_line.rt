@@ -1,41 +1,15 @@
 //! Lines of the report that say of their packets what these are, and which rule decided.
 ghost use Rattle.std.specs.Prelude.{◌≡◌, ◌+◌, ◌≤◌, ◌++◌, length, map};
-ghost use Rattle.racl_io.specs.Reports.{text_of};
 ghost use Rattle.racl_views.specs.Entries.{entry_facts};
 ghost use Rattle.racl_views.specs.ExplainedLines.{decided_text, explained_line, head_of};
 ghost use Rattle.racl_views.specs.RuleTexts.{shown_of};
 
-use crate::line_text::push_numbered;
 use crate::packet_entry::{Entry, Place};
-use crate::packet_text::{push_carried, push_seen};
 use crate::rule_texts_in_policy::text_at;
 use crate::shown_rule_text::RuleText;
+use packet_words::{push_numbered, push_packet, push_verdict};
 use racl_io::{Numeral, Piece, push_name};
 use session_state::Verdict;
-
-// The words of an explained line that say the verdict on its packet.
-fn push_explained_verdict(piece: &mut Piece, verdict: Verdict)
-    requires { length piece.old + 42 ≤ 262144 }
-    ensures text { piece.new ≡ piece.old ++ text_of verdict }
-    ensures short { length piece.new ≤ length piece.old + 42 }
-{
-    match verdict {
-        Verdict::Session => piece.push(b"pass session"),
-        Verdict::Reflect(number) => {
-            push_numbered(piece, b"pass rule ", u64::from(number));
-            piece.push(b" reflect");
-        }
-        Verdict::Permit(number) => push_numbered(piece, b"pass rule ", u64::from(number)),
-        Verdict::Deny(number) => push_numbered(piece, b"drop rule ", u64::from(number)),
-        Verdict::ByDefault => piece.push(b"drop default"),
-        Verdict::Worn => piece.push(b"drop worn"),
-        Verdict::Full => piece.push(b"drop full"),
-        Verdict::NoPages => piece.push(b"drop no-pages"),
-        Verdict::NotIp => piece.push(b"pass not-ip"),
-        Verdict::Malformed => piece.push(b"drop malformed"),
-        Verdict::Short => piece.push(b"drop short"),
-    }
-}
 
 // What an explained line begins with: the report's line of the packet, up to its line feed.
 fn push_explained_head(piece: &mut Piece, named: Option<u8>, number: u64, verdict: Verdict)
@@ -46,7 +20,7 @@ fn push_explained_head(piece: &mut Piece, named: Option<u8>, number: u64, verdic
     Numeral::of(number).push(piece);
     piece.push(b" ");
     push_name(piece, named);
-    push_explained_verdict(piece, verdict);
+    push_verdict(piece, verdict);
 }
 
 // What an explained line ends with, where a rule decided: the line of this rule in the policy, and its text.
@@ -70,8 +44,7 @@ pub fn push_explained<'a>(piece: &mut Piece, texts: &'a [RuleText<'a>], place: P
     ensures short { length piece.new ≤ length piece.old + 742 }
 {
     push_explained_head(piece, place.named, place.number, entry.verdict);
-    push_seen(piece, entry);
-    push_carried(piece, &entry.frame);
+    push_packet(piece, entry.interface, entry.moment, &entry.frame);
     push_explained_rule(piece, texts, entry.line);
     piece.push(b"\n");
 }

@@ -5,7 +5,7 @@ ghost use Rattle.json.specs.Token.{begin_object};
 ghost use Rattle.packet_view.specs.Addresses.{address_limit};
 ghost use Rattle.racl_views.specs.Objects.{Field, number, object_line, object_of, string};
 ghost use Rattle.racl_views.specs.PacketObjects.{way_field};
-ghost use Rattle.racl_views.specs.PacketWords.{address_text};
+ghost use Rattle.packet_words.specs.PacketWords.{address_text};
 ghost use Rattle.racl_views.specs.inner.Fields.{HasAdded, fields_tokens};
 
 use json::Writer;

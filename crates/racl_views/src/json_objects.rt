@@ -12,10 +12,10 @@ ghost use Rattle.racl_views.specs.inner.Fields.{HasAdded};
 use crate::json_fields::{
     add_address, add_number, add_string, add_true, add_way, begin_json_object, end_json_object,
 };
-use crate::line_text::has_fields;
 use crate::packet_entry::Entry;
 use json::Writer;
 use packet_view::{Family, Fields, Frame, Tuple};
+use packet_words::has_fields;
 use racl_io::{Captured, Totals};
 use session_state::Verdict;
 use std::alloc::AllocError;

@@ -2,7 +2,7 @@
 //! chosen packets as a capture.
 #![tactic(auto)]
 
-mod address_text;
+mod appended_line;
 mod byte_batch;
 mod capture_bytes;
 mod capture_of_chosen;
@@ -19,10 +19,8 @@ mod json_fields;
 mod json_objects;
 mod json_report;
 mod line_room;
-mod line_text;
 mod packet_entry;
 mod packet_telling;
-mod packet_text;
 mod passed_count;
 mod place_of_rule;
 mod reason_without_rule;

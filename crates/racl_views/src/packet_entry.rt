@@ -6,10 +6,11 @@ ghost use Rattle.racl_views.specs.declared.rule_name.RuleLine as code;
 ghost use Rattle.racl_views.specs.Entries.{entry_facts};
 ghost use Rattle.racl_views.specs.inner.EntryLists.{AreAtPlaces, entry_on};
 
-use crate::deciding_rule::{packet_as_seen, rule_on};
+use crate::deciding_rule::rule_on;
 use crate::rule_lines_by_place::line_of;
 use acl_policy::Policy;
 use packet_view::{Frame, Packet};
+use packet_words::packet_as_seen;
 use session_state::Verdict;
 
 /// What is told of a packet: its verdict, the interface where it was seen, at which second, how many of its bytes

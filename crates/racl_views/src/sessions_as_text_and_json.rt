@@ -10,16 +10,16 @@ ghost use Rattle.racl_views.specs.SessionLines.{end_facts, flow_facts, pair_told
 ghost use Rattle.racl_views.specs.Stored.{stored_facts};
 ghost use Rattle.racl_views.specs.inner.Fields.{HasAdded};
 
-use crate::address_text::push_address;
+use crate::appended_line::append_line_text;
 use crate::flow_key::{four_flow, six_flow};
 use crate::json_fields::{add_address, add_number, begin_json_object, end_json_object};
 use crate::line_room::Room;
-use crate::line_text::{append_line_text, push_line_flags, push_line_protocol, push_numbered};
 use crate::stored_flow::StoredFlow;
 use crate::stored_flow_end::FlowEnd;
 use crate::stored_pairs::StoredPairs;
 use crate::text_or_json::View;
 use json::Writer;
+use packet_words::{push_address, push_line_flags, push_line_protocol, push_numbered};
 use racl_io::Piece;
 use session_state::{Session, Timeouts};
 use std::alloc::{AllocError, Global};

@@ -1,17 +1,49 @@
 -- What is changed of some packets and of those behind them.
-use Rattle.std.proofs.Common.{◌≡◌, ◌∙◌, ◌≤◌, ◌+◌, ◌++◌, ℕ, Bool, true, false, List, [], ◌∷◌, ap, append_assoc, arith, cond, length, refl, sym}
-use Rattle.std.proofs.lemmas.List.{length-append}
+use Rattle.std.proofs.Common.{◌≡◌, ◌∙◌, ◌≤◌, ◌+◌, ◌-◌, ◌++◌, ℕ, Bool, true, false, List, [], ◌∷◌, ap, append_assoc, arith, cond, drop, length, map, refl, subst, sym, take}
+use Rattle.std.specs.Prelude.{count_by}
+use Rattle.std.proofs.lemmas.List.{drop-drop, length-append, take-append-drop}
 use Rattle.std.proofs.lemmas.List.Sums.{count_by-le-length, sum_by-append}
 use Rattle.packet_view.specs.Captures.{PacketFacts}
+use Rattle.acl_policy.specs.Policies.{PolicyFacts}
 use Rattle.session_state.specs.declared.verdict.Verdict.{Verdict}
-use Rattle.verdict_changes.specs.Changes.{PairFacts, agree, changed_at, changes_from}
-use Rattle.verdict_changes.specs.ChangeReports.{is_other, is_to_drop, is_to_pass, line_of, lines_of, totals_of, with_changes}
+use Rattle.packet_words.specs.inner.ViewedPackets.{view_at}
+use Rattle.packet_words.proofs.ViewLemmas.{at_seen}
+use Rattle.verdict_changes.specs.Changes.{ChangeFacts, PairFacts, agree, change_facts, changed_at, changes_from}
+use Rattle.verdict_changes.specs.ChangeReports.{AreLines, is_other, is_to_drop, is_to_pass, line_of, totals_of, with_changes}
 use Rattle.verdict_changes.specs.declared.change.Change.{Change}
 use Rattle.verdict_changes.specs.declared.totals.ChangeTotals.{ChangeTotals}
+use Rattle.verdict_changes.specs.inner.ChangeLines.{line_by, lines_by, lines_told}
 
-pub lines_of_both : (xs ys : List Change) → lines_of (xs ++ ys) ≡ lines_of xs ++ lines_of ys
-lines_of_both [] ys = refl
-lines_of_both (x ∷ xs) ys = ap (λ l. line_of x ++ l) (lines_of_both xs ys) ∙ sym (append_assoc (line_of x) (lines_of xs) (lines_of ys))
+-- ---- Lines
+
+lines_told_both : (policy : PolicyFacts) (xs ys : List Change) → lines_told policy (xs ++ ys) ≡ lines_told policy xs ++ lines_told policy ys
+lines_told_both policy [] ys = refl
+lines_told_both policy (x ∷ xs) ys =
+    ap (λ l. line_by policy (change_facts x) ++ l) (lines_told_both policy xs ys)
+    ∙ sym (append_assoc (line_by policy (change_facts x)) (lines_told policy xs) (lines_told policy ys))
+
+-- what the code has of changes says this of them
+pub told_by : (policy : PolicyFacts) (changes : List Change) → lines_told policy changes ≡ lines_by policy (map change_facts changes)
+told_by policy [] = refl
+told_by policy (x ∷ xs) = ap (λ l. line_by policy (change_facts x) ++ l) (told_by policy xs)
+
+-- they are the lines
+pub are_by : (policy : PolicyFacts) (changes : List ChangeFacts) → AreLines policy changes (lines_by policy changes)
+are_by policy [] = refl
+are_by policy (x ∷ xs) = (view_at policy x.packet, lines_by policy xs, at_seen policy x.packet, are_by policy xs, refl)
+
+-- and those of others behind them
+pub are_both : (policy : PolicyFacts) (xs ys : List ChangeFacts) (s t : List ℕ) → AreLines policy xs s → AreLines policy ys t → AreLines policy (xs ++ ys) (s ++ t)
+are_both policy [] ys s t none are = subst (AreLines policy ys) (ap (λ l. l ++ t) (sym none)) are
+are_both policy (x ∷ xs) ys s t (view, others, seen, more, is) are = (
+  view,
+  others ++ t,
+  seen,
+  are_both policy xs ys others t more are,
+  ap (λ l. l ++ t) is ∙ append_assoc (line_of x view) others t,
+)
+
+-- ---- Changes
 
 pub changes_of_both : (policies : PairFacts) (n m : ℕ) (vs vs' ws ws' : List Verdict) (ps qs : List PacketFacts) → length vs ≡ length ps
     → length ws ≡ length ps → m ≡ n + length ps
@@ -40,7 +72,7 @@ few_changes policies n (v ∷ vs) (w ∷ ws) (p ∷ ps) =
     omega arith
 
 -- the totals over some packets and others behind them
-pub totals_more : (xs ys : List Change) → with_changes (totals_of xs 0 false) ys ≡ totals_of (xs ++ ys) 0 false
+pub totals_more : (xs ys : List ChangeFacts) → with_changes (totals_of xs 0 false) ys ≡ totals_of (xs ++ ys) 0 false
 totals_more xs ys =
     let all = sym (length-append xs ys) in
     let drop = sym (sum_by-append (λ c. cond (is_to_drop c) 1 0) xs ys) in
@@ -49,21 +81,33 @@ totals_more xs ys =
     cc
 
 -- no count is more than the packets that are changed
-pub few_counted : (xs : List Change) (t : ChangeTotals) → t ≡ totals_of xs 0 false
+pub few_counted : (xs : List ChangeFacts) (t : ChangeTotals) → t ≡ totals_of xs 0 false
     → (t.changed ≤ length xs) × (t.to_drop ≤ length xs) × (t.to_pass ≤ length xs) × (t.other ≤ length xs)
 few_counted xs t is =
     rw is (omega arith, count_by-le-length is_to_drop xs, count_by-le-length is_to_pass xs, count_by-le-length is_other xs)
 
--- a piece of lines behind those before
-pub lines_further : (front piece all : List ℕ) (rest first others : List Change) → front ++ lines_of rest ≡ all → rest ≡ first ++ others → piece ≡ lines_of first
-    → (front ++ piece) ++ lines_of others ≡ all
-lines_further front piece all rest first others whole parted text =
-    append_assoc front piece (lines_of others) ∙ ap (λ p. front ++ (p ++ lines_of others)) text
-    ∙ ap (λ l. front ++ l) (sym (lines_of_both first others) ∙ ap lines_of (sym parted)) ∙ whole
+-- how many of them are of a kind
+pub count_facts : (kind : ChangeFacts → Bool) (xs : List Change) → count_by (λ x. kind (change_facts x)) xs ≡ count_by kind (map change_facts xs)
+count_facts kind [] = refl
+count_facts kind (x ∷ xs) =
+    sum_by-append (λ y. cond (kind (change_facts y)) 1 0) (x ∷ []) xs
+    ∙ ap (λ n. count_by kind (change_facts x ∷ []) + n) (count_facts kind xs)
+    ∙ sym (sum_by-append (λ c. cond (kind c) 1 0) (change_facts x ∷ []) (map change_facts xs))
 
--- five texts, one pushed after the other
-pub five_pushed : (a b c d e f x y z u v : List ℕ) → b ≡ a ++ x → c ≡ b ++ y → d ≡ c ++ z → e ≡ d ++ u → f ≡ e ++ v → f ≡ a ++ (x ++ (y ++ (z ++ (u ++ v))))
-five_pushed a b c d e f x y z u v first second third fourth fifth =
-    fifth ∙ ap (λ t. t ++ v) fourth ∙ append_assoc d u v ∙ ap (λ t. t ++ (u ++ v)) third ∙ append_assoc c z (u ++ v)
-    ∙ ap (λ t. t ++ (z ++ (u ++ v))) second ∙ append_assoc b y (z ++ (u ++ v)) ∙ ap (λ t. t ++ (y ++ (z ++ (u ++ v)))) first
-    ∙ append_assoc a x (y ++ (z ++ (u ++ v)))
+-- a piece of lines behind those before
+pub lines_further : (policy : PolicyFacts) (front piece all : List ℕ) (rest first others : List Change) → front ++ lines_told policy rest ≡ all → rest ≡ first ++ others
+    → piece ≡ lines_told policy first → (front ++ piece) ++ lines_told policy others ≡ all
+lines_further policy front piece all rest first others whole parted text =
+    append_assoc front piece (lines_told policy others) ∙ ap (λ p. front ++ (p ++ lines_told policy others)) text
+    ∙ ap (λ l. front ++ l) (sym (lines_told_both policy first others) ∙ ap (lines_told policy) (sym parted)) ∙ whole
+
+-- those from one place to another, behind those before
+pub lines_next : (policy : PolicyFacts) (front piece all : List ℕ) (changes first : List Change) (from to : ℕ) → from ≤ to
+    → front ++ lines_told policy (drop from changes) ≡ all → first ≡ take (to - from) (drop from changes) → piece ≡ lines_told policy first
+    → (front ++ piece) ++ lines_told policy (drop to changes) ≡ all
+lines_next policy front piece all changes first from to less whole is text =
+    let reached : from + (to - from) ≡ to = omega (arith, less) in
+    let behind = drop-drop (to - from) from changes ∙ ap (λ (n : ℕ). drop n changes) reached in
+    let parted = sym (take-append-drop (to - from) (drop from changes)) ∙ ap (λ (f : List Change). f ++ drop (to - from) (drop from changes)) (sym is)
+    ∙ ap (λ (b : List Change). first ++ b) behind in
+    lines_further policy front piece all (drop from changes) first (drop to changes) whole parted text

@@ -22,14 +22,15 @@ use Rattle.capture_stream.specs.declared.engine.Engine.{Engine}
 use Rattle.capture_stream.specs.declared.windows_of_records.Found.{Found}
 use Rattle.capture_stream.specs.inner.Feedings.{HasGot, IsBegun, IsCutAt, IsUnread}
 use Rattle.capture_stream.proofs.FeedLemmas.{packets_both}
-use Rattle.verdict_changes.specs.Changes.{PairFacts, changes_from}
-use Rattle.verdict_changes.specs.ChangeReports.{end_of_report, lines_of, totals_of, with_changes}
+use Rattle.verdict_changes.specs.Changes.{ChangeFacts, PairFacts, changes_from}
+use Rattle.verdict_changes.specs.ChangeReports.{AreLines, end_of_report, totals_of, with_changes}
 use Rattle.verdict_changes.specs.Comparing.{HasToldAll, HasToldPart, HasToldSome, HaveCompared, IsComparingFault, changes_in}
 use Rattle.verdict_changes.specs.declared.comparison.Comparison.{Comparison}
 use Rattle.verdict_changes.specs.declared.totals.ChangeTotals.{ChangeTotals}
+use Rattle.verdict_changes.specs.inner.ChangeLines.{lines_by}
 use Rattle.verdict_changes.specs.inner.Comparisons.{HasComparedWaiting, HasCutWaiting, IsCompared, IsComparing, IsWaitingFault, MayCompare, changes_behind}
 use Rattle.verdict_changes.specs.inner.Totals.{HasRoom}
-use Rattle.verdict_changes.proofs.ChangeLemmas.{changes_of_both, few_changes, few_counted, lines_of_both, totals_more}
+use Rattle.verdict_changes.proofs.ChangeLemmas.{are_both, are_by, changes_of_both, few_changes, few_counted, totals_more}
 
 -- ---- What waits
 
@@ -127,6 +128,8 @@ module _ {J K : Type 0} (policies : PairFacts) (Became : J → List PacketFacts 
           each_after = refl;
         };
       };
+      lines = [];
+      are = refl;
       text = Appends-nil old;
     };
     stand = subst (Became begun [] []) (sym is.judges_are) stand;
@@ -233,11 +236,13 @@ module _ {J K : Type 0} (policies : PairFacts) (Became : J → List PacketFacts 
         ∙ changes_of_both policies 1 (c.engine.packets + 1) t.verdicts.befores befores t.verdicts.afters afters (packets_at 0 t.packets)
         (packets_at c.engine.interface settled.fed.more) t.verdicts.each_before t.verdicts.each_after (omega arith)
 
-    more_lines : lines_of (changes_in policies is.told.compared) ++ lines_of (changes_behind policies c.engine befores afters settled.fed.more)
-        ≡ lines_of (changes_in policies more_compared)
+    more_lines : AreLines policies.after (changes_in policies more_compared)
+        (is.told.lines ++ lines_by policies.after (changes_behind policies c.engine befores afters settled.fed.more))
     unfolding more_compared
     more_lines =
-        sym (lines_of_both (changes_in policies is.told.compared) (changes_behind policies c.engine befores afters settled.fed.more)) ∙ ap lines_of (sym more_changes)
+        let behind = changes_behind policies c.engine befores afters settled.fed.more in
+        subst (λ (cs : List ChangeFacts). AreLines policies.after cs (is.told.lines ++ lines_by policies.after behind)) (sym more_changes)
+        (are_both policies.after (changes_in policies is.told.compared) behind is.told.lines (lines_by policies.after behind) is.told.are (are_by policies.after behind))
 
   pub more_told : AreCounted Judged → AreCounted AlsoJudged → (now mid after : Option (List ℕ)) (c new : Comparison J K) (stop : Stop)
       → IsComparing policies Became Judged Also AlsoJudged begun other order before now old mid c
@@ -253,10 +258,10 @@ module _ {J K : Type 0} (policies : PairFacts) (Became : J → List PacketFacts 
         is = record {
           told = record {
             compared = more_compared counts also_counts now mid c is new.engine waiting.befores waiting.afters waiting.found waiting.settled waiting.right;
-            text = subst (λ (b : List ℕ). Appends old after b)
-                (more_lines counts also_counts now mid c is new.engine waiting.befores waiting.afters waiting.found waiting.settled waiting.right)
-                (Appends-trans old mid after (lines_of (changes_in policies t)) (lines_of (changes_behind policies c.engine waiting.befores waiting.afters fed.more))
-                is.told.text waiting.text);
+            lines = is.told.lines ++ lines_by policies.after (changes_behind policies c.engine waiting.befores waiting.afters fed.more);
+            are = more_lines counts also_counts now mid c is new.engine waiting.befores waiting.afters waiting.found waiting.settled waiting.right;
+            text = Appends-trans old mid after is.told.lines
+                (lines_by policies.after (changes_behind policies c.engine waiting.befores waiting.afters fed.more)) is.told.text waiting.text;
           };
           stand = more_stand counts also_counts now mid c is new.engine waiting.befores waiting.afters waiting.found waiting.settled waiting.right;
           also = subst (λ ps. Also other ps (t.verdicts.afters ++ waiting.afters) new.after)
@@ -328,6 +333,8 @@ module _ {J K : Type 0} (policies : PairFacts) (Became : J → List PacketFacts 
         let t = is.is.told in
         let told : HasToldSome policies (Judged begun) (AlsoJudged other) order before then old after (rest_in c.engine) = record {
           compared = moved now then (rest_in c.engine) t.compared (Consumes-kept before now then t.compared.read t.compared.consumed kept);
+          lines = t.lines;
+          are = t.are;
           text = t.text;
         } in
         elim which [
@@ -353,6 +360,8 @@ module _ {J K : Type 0} (policies : PairFacts) (Became : J → List PacketFacts 
                   (records_appended order t.read got.read t.packets (rest_in c.engine) t.records);
               verdicts = t.verdicts;
             };
+            lines = is.is.told.lines;
+            are = is.is.told.are;
             text = is.is.told.text;
           };
           stand = subst (Became begun (packets_at 0 t.packets) t.verdicts.befores) (sym longer.judges) is.is.stand;
@@ -380,16 +389,16 @@ module _ {J K : Type 0} (policies : PairFacts) (Became : J → List PacketFacts 
     unfolding moved
     all_told then last engine n truncated totals ends got counted same written =
         let t = is.is.told in
-        let are = end_totals n truncated totals counted same in
         record {
           rest = rest_in c.engine;
           compared = moved now then (rest_in c.engine) t.compared (got_none now then c.engine engine 65536 t.compared.read t.compared.consumed got);
           ended = got.ended refl;
           truncated = truncated;
           end = ends order (rest_in c.engine) is.stops;
-          text = subst (λ (s : ChangeTotals). Appends old last (lines_of (changes_in policies t.compared) ++ end_of_report s)) are
-              (Appends-trans old after last (lines_of (changes_in policies t.compared)) (end_of_report totals) t.text written);
-          counted = are;
+          counted = end_totals n truncated totals counted same;
+          lines = t.lines;
+          are = t.are;
+          text = Appends-trans old after last t.lines (end_of_report totals) t.text written;
         }
 
     -- no more is there, and what stands at the end couldn't be told
@@ -399,16 +408,17 @@ module _ {J K : Type 0} (policies : PairFacts) (Became : J → List PacketFacts 
     unfolding moved
     end_fault then last engine n truncated totals found ends got counted same which written =
         let t = is.is.told in
-        let are = end_totals n truncated totals counted same in
         subst (IsComparingFault policies (Judged begun) (AlsoJudged other) order before then old last) (sym which) (record {
           rest = rest_in c.engine;
           compared = moved now then (rest_in c.engine) t.compared (got_none now then c.engine engine 65536 t.compared.read t.compared.consumed got);
+          lines = t.lines;
+          are = t.are;
           front = inr (
             truncated,
             got.ended refl,
             ends order (rest_in c.engine) is.stops,
-            subst (λ (s : ChangeTotals). GotFront old last (lines_of (changes_in policies t.compared) ++ end_of_report s)) are
-                (front_on old after last (lines_of (changes_in policies t.compared)) (end_of_report totals) t.text written),
+            subst (λ (s : ChangeTotals). GotFront old last (t.lines ++ end_of_report s)) (end_totals n truncated totals counted same)
+                (front_on old after last t.lines (end_of_report totals) t.text written),
           );
         })
 
@@ -421,10 +431,10 @@ module _ {J K : Type 0} (policies : PairFacts) (Became : J → List PacketFacts 
       record {
         rest = rest_in cut.engine;
         compared = more_compared counts also_counts now mid c is cut.engine cut.befores cut.afters cut.found cut.settled cut.right;
-        front = inl (subst (λ (b : List ℕ). GotFront old after b)
-            (more_lines counts also_counts now mid c is cut.engine cut.befores cut.afters cut.found cut.settled cut.right)
-            (front_on old mid after (lines_of (changes_in policies is.told.compared))
-            (lines_of (changes_behind policies c.engine cut.befores cut.afters cut.settled.fed.more)) is.told.text cut.front));
+        lines = is.told.lines ++ lines_by policies.after (changes_behind policies c.engine cut.befores cut.afters cut.settled.fed.more);
+        are = more_lines counts also_counts now mid c is cut.engine cut.befores cut.afters cut.found cut.settled cut.right;
+        front = inl (front_on old mid after is.told.lines
+            (lines_by policies.after (changes_behind policies c.engine cut.befores cut.afters cut.settled.fed.more)) is.told.text cut.front);
       }
 
   -- memory ran out before a line was written, or a write failed
@@ -462,6 +472,8 @@ none_compared policies Before After order before old = (
         each_after = refl;
       };
     };
+    lines = [];
+    are = refl;
     text = Appends-nil old;
   },
 )
@@ -490,7 +502,7 @@ module _ (policies : PairFacts) (Before After OtherBefore OtherAfter : List Pack
 
   some_as : (rest : List ℕ) → HasToldSome policies Before After order before after old new rest → HasToldSome policies OtherBefore OtherAfter order before after old new rest
   unfolding compared_as
-  some_as rest told = record { compared = compared_as rest told.compared; text = told.text }
+  some_as rest told = record { compared = compared_as rest told.compared; lines = told.lines; are = told.are; text = told.text }
 
   pub all_as : (totals : ChangeTotals) → HasToldAll policies Before After order before after old new totals
       → HasToldAll policies OtherBefore OtherAfter order before after old new totals
@@ -501,8 +513,10 @@ module _ (policies : PairFacts) (Before After OtherBefore OtherAfter : List Pack
     ended = told.ended;
     truncated = told.truncated;
     end = told.end;
-    text = told.text;
     counted = told.counted;
+    lines = told.lines;
+    are = told.are;
+    text = told.text;
   }
 
   pub fault_as : (found : Fault) → IsComparingFault policies Before After order before after old new found
@@ -512,5 +526,11 @@ module _ (policies : PairFacts) (Before After OtherBefore OtherAfter : List Pack
   fault_as fault.Read (rest, told, truncated, end) = (rest, some_as rest told, truncated, end)
   fault_as (fault.LongRecord number) (rest, told, long, counted) = (rest, some_as rest told, long, counted)
   fault_as fault.TooLarge (rest, told, many) = (rest, some_as rest told, many)
-  fault_as fault.Write told = record { rest = told.rest; compared = compared_as told.rest told.compared; front = told.front }
+  fault_as fault.Write told = record {
+    rest = told.rest;
+    compared = compared_as told.rest told.compared;
+    lines = told.lines;
+    are = told.are;
+    front = told.front;
+  }
   fault_as found wrong = absurd wrong

@@ -1,31 +1,40 @@
 -- The report on what a change of policy changes: a line for each packet that is changed, and totals (this project's profile).
-use Rattle.std.specs.Prelude.{ℕ, ◌+◌, Bool, not, ◌&&◌, ◌||◌, List, [], ◌∷◌, ◌++◌, None, codes, count_by, decimal, if◌then◌else◌, length, nat_lt}
+use Rattle.std.specs.Prelude.{◌≡◌, ℕ, ◌+◌, Bool, not, ◌&&◌, ◌||◌, List, [], ◌∷◌, ◌++◌, None, codes, count_by, decimal, if◌then◌else◌, length, nat_lt}
+use Rattle.packet_view.specs.Frames.{FrameFacts}
+use Rattle.acl_policy.specs.Policies.{PolicyFacts}
+use Rattle.flow_filter.specs.Readings.{IsSeen}
 use Rattle.session_state.specs.Passes.{passes}
 use Rattle.racl_io.specs.Reports.{text_of, truncation_line}
-use Rattle.verdict_changes.specs.declared.change.Change.{Change}
+use Rattle.packet_words.specs.PacketTexts.{packet_told}
+use Rattle.verdict_changes.specs.Changes.{ChangeFacts}
 use Rattle.verdict_changes.specs.declared.totals.ChangeTotals.{ChangeTotals}
 
-abbrev pub line_of : Change → List ℕ
-line_of c = decimal c.number ++ (codes " " ++ (text_of c.before ++ (codes " -> " ++ (text_of c.after ++ codes "\n"))))
+-- the packet's number and verdicts, and what it is where its frame is this
+abbrev pub line_of : ChangeFacts → FrameFacts → List ℕ
+line_of c view = (decimal c.number ++ (codes " " ++ (text_of c.before ++ (codes " -> " ++ text_of c.after))))
+    ++ (packet_told c.packet.interface c.packet.moment view ++ codes "\n")
 
-abbrev pub lines_of : List Change → List ℕ
-lines_of [] = []
-lines_of (change ∷ changes) = line_of change ++ lines_of changes
+-- Each has its line, in their order. Its frame is seen as by this policy, which is to take the other's place.
+abbrev pub AreLines : PolicyFacts → List ChangeFacts → List ℕ → Type 0
+AreLines policy [] text = text ≡ []
+AreLines policy (change ∷ changes) text =
+    (view : FrameFacts) × (others : List ℕ) × IsSeen policy change.packet view × AreLines policy changes others
+    × (text ≡ line_of change view ++ others)
 
 -- it passed, and is dropped now
-abbrev pub is_to_drop : Change → Bool
+abbrev pub is_to_drop : ChangeFacts → Bool
 is_to_drop c = passes c.before && not (passes c.after)
 
 -- it was dropped, and passes now
-abbrev pub is_to_pass : Change → Bool
+abbrev pub is_to_pass : ChangeFacts → Bool
 is_to_pass c = not (passes c.before) && passes c.after
 
 -- it passes as before, or is dropped as before
-abbrev pub is_other : Change → Bool
+abbrev pub is_other : ChangeFacts → Bool
 is_other c = (passes c.before && passes c.after) || (not (passes c.before) && not (passes c.after))
 
 -- over so many packets, of which these are changed
-abbrev pub totals_of : List Change → ℕ → Bool → ChangeTotals
+abbrev pub totals_of : List ChangeFacts → ℕ → Bool → ChangeTotals
 totals_of changes packets truncated = record {
   packets = packets;
   changed = length changes;
@@ -36,7 +45,7 @@ totals_of changes packets truncated = record {
 }
 
 -- the totals over some packets, and others behind them of which these are changed
-abbrev pub with_changes : ChangeTotals → List Change → ChangeTotals
+abbrev pub with_changes : ChangeTotals → List ChangeFacts → ChangeTotals
 with_changes t changes = record t {
   changed = t.changed + length changes;
   to_drop = t.to_drop + count_by is_to_drop changes;
@@ -56,9 +65,6 @@ totals_line t = codes "packets " ++ (decimal t.packets ++ (codes " changed " ++ 
 -- what stands behind the lines
 abbrev pub end_of_report : ChangeTotals → List ℕ
 end_of_report t = truncation_line None t.truncated t.packets ++ totals_line t
-
-abbrev pub report_of : List Change → ℕ → Bool → List ℕ
-report_of changes packets truncated = lines_of changes ++ end_of_report (totals_of changes packets truncated)
 
 -- the exit status: 5 where a packet is changed, else 3 where the capture was truncated, else 0
 abbrev pub status_behind : ChangeTotals → ℕ

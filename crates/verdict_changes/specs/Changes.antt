@@ -1,7 +1,7 @@
 -- What a change of policy changes: packets on which the two say more than rules of other numbers (this project's profile).
 use Rattle.std.specs.Prelude.{ℕ, ◌+◌, ◌-◌, ◌==◌, ◌&&◌, Bool, true, false, nat_le, not, if◌then◌else◌, List, [], ◌∷◌, ◌++◌, Option, None, Some, length, option_and_then, slice_get, slice_range}
 use Rattle.std.specs.Str.{bytes_eq}
-use Rattle.packet_view.specs.Captures.{PacketFacts}
+use Rattle.packet_view.specs.Captures.{PacketFacts, packet_facts}
 use Rattle.packet_view.specs.declared.tuple.Family.{Family}
 use Rattle.packet_view.specs.declared.tuple.Family.TheVariants.{V4, V6}
 use Rattle.packet_view.specs.declared.tuple.Mac.{Mac}
@@ -10,7 +10,7 @@ use Rattle.acl_policy.specs.Rules.{RuleFacts}
 use Rattle.acl_policy.specs.declared.rule.Action.{Action}
 use Rattle.acl_policy.specs.declared.rule.Action.TheVariants as action
 use Rattle.session_state.specs.declared.verdict.Verdict.{Verdict}
-use Rattle.session_state.specs.declared.verdict.Verdict.TheVariants.{Session, Reflect, Permit, Deny, ByDefault, Worn, Full, NoPages, NotIp, Malformed, Short}
+use Rattle.packet_words.specs.VerdictKinds.{kind_of, rule_number}
 use Rattle.verdict_changes.specs.declared.change.Change.{Change}
 use Rattle.verdict_changes.specs.declared.change.PolicyPair.{PolicyPair}
 
@@ -21,6 +21,16 @@ pub record PairFacts : Type 0 where
 
 abbrev pub pair_facts : PolicyPair → PairFacts
 pair_facts pair = record { before = policy_facts pair.before.now; after = policy_facts pair.after.now }
+
+-- a packet on which the two say different things, its number, and its verdict by each
+pub record ChangeFacts : Type 0 where
+  pub number : ℕ
+  pub before : Verdict
+  pub after : Verdict
+  pub packet : PacketFacts
+
+abbrev pub change_facts : Change → ChangeFacts
+change_facts c = record { number = c.number; before = c.before; after = c.after; packet = packet_facts c.packet }
 
 -- ---- the rule that gave a verdict
 
@@ -40,27 +50,13 @@ same_way one other = if one then other else not other
 abbrev pub rules_for : SectionFacts → List ℕ → List RuleFacts
 rules_for section frame = if goes_out section.own frame then section.outbound else section.inbound
 
--- the number of the rule that a verdict names
-abbrev pub number_in : Verdict → Option ℕ
-number_in (Reflect number) = Some number
-number_in (Permit number) = Some number
-number_in (Deny number) = Some number
-number_in Session = None
-number_in ByDefault = None
-number_in Worn = None
-number_in Full = None
-number_in NoPages = None
-number_in NotIp = None
-number_in Malformed = None
-number_in Short = None
-
 -- the rule with this number, from 1
 abbrev pub rule_numbered : List RuleFacts → ℕ → Option RuleFacts
 rule_numbered rules n = if n == 0 then None else slice_get rules (n - 1)
 
 -- the rule by which a policy gives a packet this verdict
 abbrev pub rule_by : PolicyFacts → PacketFacts → Verdict → Option RuleFacts
-rule_by policy packet verdict = option_and_then (rule_numbered (rules_for (section_of packet.interface policy) packet.frame)) (number_in verdict)
+rule_by policy packet verdict = option_and_then (rule_numbered (rules_for (section_of packet.interface policy) packet.frame)) (rule_number verdict)
 
 -- ---- what is the same
 
@@ -90,20 +86,6 @@ same_decision way None (Some other) = false
 same_decision way (Some one) None = false
 same_decision way (Some one) (Some other) = way && same_rule one other
 
--- which verdict of the report it is, whatever its rule's number
-abbrev pub kind_of : Verdict → ℕ
-kind_of Session = 0
-kind_of (Reflect number) = 1
-kind_of (Permit number) = 2
-kind_of (Deny number) = 3
-kind_of ByDefault = 4
-kind_of Worn = 5
-kind_of Full = 6
-kind_of NoPages = 7
-kind_of NotIp = 8
-kind_of Malformed = 9
-kind_of Short = 10
-
 -- both policies say the same of a packet: verdicts of one kind, by rules of one direction that say the same
 unfoldable pub agree : PairFacts → PacketFacts → Verdict → Verdict → Bool
 agree policies packet before after =
@@ -114,12 +96,12 @@ agree policies packet before after =
 -- ---- what is changed
 
 -- of the packet with this number
-abbrev pub changed_at : PairFacts → ℕ → Verdict → Verdict → PacketFacts → List Change
+abbrev pub changed_at : PairFacts → ℕ → Verdict → Verdict → PacketFacts → List ChangeFacts
 changed_at policies n before after packet =
-    if agree policies packet before after then [] else (record { number = n; before = before; after = after } ∷ [])
+    if agree policies packet before after then [] else (record { number = n; before = before; after = after; packet = packet } ∷ [])
 
 -- of packets whose numbers begin with n, which have these verdicts by the one policy and by the other
-abbrev pub changes_from : PairFacts → ℕ → List Verdict → List Verdict → List PacketFacts → List Change
+abbrev pub changes_from : PairFacts → ℕ → List Verdict → List Verdict → List PacketFacts → List ChangeFacts
 changes_from policies n [] afters packets = []
 changes_from policies n (before ∷ befores) [] packets = []
 changes_from policies n (before ∷ befores) (after ∷ afters) [] = []

@@ -1,6 +1,6 @@
 -- A capture whose packets are judged by two policies while they come: what was read and written at its end, and where a fault
 -- ended it.
-use Rattle.std.specs.Prelude.{◌≡◌, ◌≢◌, ◌+◌, ◌≤◌, ◌⊎◌, ℕ, Bool, List, [], Option, length}
+use Rattle.std.specs.Prelude.{◌≡◌, ◌≢◌, ◌+◌, ◌≤◌, ◌++◌, ◌⊎◌, ℕ, Bool, List, [], Option, length}
 use Rattle.std.specs.Io.KnownBytes.{Appends, Consumes, IsAtEnd}
 use Rattle.packet_view.specs.Captures.{AreRecords, IsEnd, IsTooLong, PacketFacts, RecordFacts, end_of, packets_at}
 use Rattle.packet_view.specs.declared.capture.Order.{Order}
@@ -9,9 +9,8 @@ use Rattle.racl_io.specs.declared.fault.Fault.{Fault}
 use Rattle.racl_io.specs.declared.fault.Fault.TheVariants.{LongRecord, Memory, Read, TooLarge, Write}
 use Rattle.racl_io.specs.Sinks.{GotFront}
 use Rattle.capture_stream.specs.Lives.{most_live}
-use Rattle.verdict_changes.specs.Changes.{PairFacts, changes_from}
-use Rattle.verdict_changes.specs.ChangeReports.{lines_of, report_of, totals_of}
-use Rattle.verdict_changes.specs.declared.change.Change.{Change}
+use Rattle.verdict_changes.specs.Changes.{ChangeFacts, PairFacts, changes_from}
+use Rattle.verdict_changes.specs.ChangeReports.{AreLines, end_of_report, totals_of}
 use Rattle.verdict_changes.specs.declared.totals.ChangeTotals.{ChangeTotals}
 
 -- which verdicts on packets are right by a policy
@@ -38,13 +37,15 @@ pub record HaveCompared (Before After : Rightness) (order : Order) (before after
 
 -- what the change of policy changes of them
 abbrev pub changes_in : {Before After : Rightness} {order : Order} {before after : Option (List ℕ)} {rest : List ℕ} → PairFacts
-    → HaveCompared Before After order before after rest → List Change
+    → HaveCompared Before After order before after rest → List ChangeFacts
 changes_in policies compared = changes_from policies 1 compared.verdicts.befores compared.verdicts.afters (packets_at 0 compared.packets)
 
 -- what is changed of packets at the front was written, and no more
 pub record HasToldSome (policies : PairFacts) (Before After : Rightness) (order : Order) (before after old new : Option (List ℕ)) (rest : List ℕ) : Type 0 where
   pub compared : HaveCompared Before After order before after rest
-  pub text : Appends old new (lines_of (changes_in policies compared))
+  pub lines : List ℕ
+  pub are : AreLines policies.after (changes_in policies compared) lines
+  pub text : Appends old new lines
 
 -- the source gave all its bytes, and all that is told of the packets of all records was written
 pub record HasToldAll (policies : PairFacts) (Before After : Rightness) (order : Order) (before after old new : Option (List ℕ)) (totals : ChangeTotals) : Type 0 where
@@ -53,16 +54,20 @@ pub record HasToldAll (policies : PairFacts) (Before After : Rightness) (order :
   pub ended : IsAtEnd after
   pub truncated : Bool
   pub end : IsEnd order rest (end_of truncated)
-  pub text : Appends old new (report_of (changes_in policies compared) (length compared.packets) truncated)
   pub counted : totals ≡ totals_of (changes_in policies compared) (length compared.packets) truncated
+  pub lines : List ℕ
+  pub are : AreLines policies.after (changes_in policies compared) lines
+  pub text : Appends old new (lines ++ end_of_report totals)
 
 -- of what is told of packets at the front, or at the end of all, a front was written
 pub record HasToldPart (policies : PairFacts) (Before After : Rightness) (order : Order) (before after old new : Option (List ℕ)) : Type 0 where
   pub rest : List ℕ
   pub compared : HaveCompared Before After order before after rest
-  pub front : GotFront old new (lines_of (changes_in policies compared))
+  pub lines : List ℕ
+  pub are : AreLines policies.after (changes_in policies compared) lines
+  pub front : GotFront old new lines
       ⊎ ((truncated : Bool) × IsAtEnd after × IsEnd order rest (end_of truncated)
-      × GotFront old new (report_of (changes_in policies compared) (length compared.packets) truncated))
+      × GotFront old new (lines ++ end_of_report (totals_of (changes_in policies compared) (length compared.packets) truncated)))
 
 -- Why not all was told. Where a read failed, all whole records were compared that were read before.
 abbrev pub IsComparingFault : PairFacts → Rightness → Rightness → Order → Option (List ℕ) → Option (List ℕ) → Option (List ℕ) → Option (List ℕ) → Fault → Type 0

@@ -1,2 +1,3 @@
+pub mod ChangeLines
 pub mod Comparisons
 pub mod Totals

@@ -1,8 +1,9 @@
 //! How many packets are changed.
-ghost use Rattle.std.specs.Prelude.{◌≡◌, ◌+◌, ◌-◌, ◌<◌, ◌≤◌, ◌^◌, ◌++◌, [], count_by, false, length};
+ghost use Rattle.std.specs.Prelude.{◌≡◌, ◌+◌, ◌-◌, ◌<◌, ◌≤◌, ◌^◌, ◌++◌, [], count_by, false, length, map};
 ghost use Rattle.racl_io.specs.Sinks.{HasPutFront};
 ghost use Rattle.verdict_changes.specs.ChangeReports;
 ghost use Rattle.verdict_changes.specs.ChangeReports.{end_of_report, is_other, is_to_drop, is_to_pass, kinds_told, other_told, totals_line, with_changes};
+ghost use Rattle.verdict_changes.specs.Changes.{change_facts};
 ghost use Rattle.verdict_changes.specs.inner.Totals.{HasRoom};
 
 use crate::change::Change;
@@ -24,8 +25,8 @@ pub fn no_changes() -> ChangeTotals
 }
 
 // How many of these passed, and are dropped now.
-fn count_to_drop(changes: &[Change]) -> u64
-    ensures { result ≡ count_by is_to_drop changes.now }
+fn count_to_drop<'a>(changes: &'a [Change<'a>]) -> u64
+    ensures { result ≡ count_by (λ c. is_to_drop (change_facts c)) changes.now }
 {
     changes
         .iter()
@@ -34,8 +35,8 @@ fn count_to_drop(changes: &[Change]) -> u64
 }
 
 // How many of these were dropped, and pass now.
-fn count_to_pass(changes: &[Change]) -> u64
-    ensures { result ≡ count_by is_to_pass changes.now }
+fn count_to_pass<'a>(changes: &'a [Change<'a>]) -> u64
+    ensures { result ≡ count_by (λ c. is_to_pass (change_facts c)) changes.now }
 {
     changes
         .iter()
@@ -44,8 +45,8 @@ fn count_to_pass(changes: &[Change]) -> u64
 }
 
 // How many of these pass as before, or are dropped as before.
-fn count_other(changes: &[Change]) -> u64
-    ensures { result ≡ count_by is_other changes.now }
+fn count_other<'a>(changes: &'a [Change<'a>]) -> u64
+    ensures { result ≡ count_by (λ c. is_other (change_facts c)) changes.now }
 {
     changes
         .iter()
@@ -54,9 +55,10 @@ fn count_other(changes: &[Change]) -> u64
 }
 
 /// Counts packets that are changed behind those that were counted.
-pub fn count_changes(totals: &mut ChangeTotals, changes: &[Change])
+#[tactic(auto, using(crate::proofs::ChangeLemmas::count_facts))]
+pub fn count_changes<'a>(totals: &mut ChangeTotals, changes: &'a [Change<'a>])
     requires { HasRoom totals.old (length changes.now) }
-    ensures { totals.new ≡ with_changes totals.old changes.now }
+    ensures { totals.new ≡ with_changes totals.old (map change_facts changes.now) }
 {
     totals.changed += changes.len() as u64;
     totals.to_drop += count_to_drop(changes);

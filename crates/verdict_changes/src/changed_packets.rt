@@ -1,7 +1,7 @@
 //! The packets that a change of policy changes.
-ghost use Rattle.std.specs.Prelude.{◌≡◌, ◌+◌, ◌<◌, ◌^◌, IfOk, length};
+ghost use Rattle.std.specs.Prelude.{◌≡◌, ◌+◌, ◌<◌, ◌^◌, IfOk, length, map};
 ghost use Rattle.packet_view.specs.CheckedCaptures.{remaining};
-ghost use Rattle.verdict_changes.specs.Changes.{changes_from, pair_facts};
+ghost use Rattle.verdict_changes.specs.Changes.{change_facts, changes_from, pair_facts};
 
 use crate::change::{Change, PolicyPair};
 use crate::rule_of_verdict::agree;
@@ -11,16 +11,16 @@ use std::alloc::{AllocError, Global};
 
 /// Those of these packets, of which the first has this number, that are changed: they have the one verdicts by the policy so
 /// far, and the others by the one that is to take its place.
-pub fn changed_packets(
+pub fn changed_packets<'a>(
     alloc: Global,
     policies: PolicyPair<'_>,
     first: u64,
     befores: &[Verdict],
     afters: &[Verdict],
-    packets: Packets<'_>,
-) -> Result<Vec<Change>, AllocError>
+    packets: Packets<'a>,
+) -> Result<Vec<Change<'a>>, AllocError>
     requires { first + length befores.now < 2 ^ 64 }
-    ensures { IfOk result (λ changes. changes.items ≡ changes_from (pair_facts policies.entry) first befores.now afters.now (remaining packets.entry)) }
+    ensures { IfOk result (λ changes. map change_facts changes.items ≡ changes_from (pair_facts policies.entry) first befores.now afters.now (remaining packets.entry)) }
 {
     let mut changes = Vec::new(alloc);
     let mut number = first;
@@ -37,6 +37,7 @@ pub fn changed_packets(
         if !agree(policies, packet, *before, *after) {
             changes.push(Change {
                 number,
+                packet,
                 before: *before,
                 after: *after,
             })?;

@@ -52,7 +52,7 @@ fn compare_waiting<J: Judge, K: Judge, W: Sink>(
         Ok(changes) => changes,
         Err(_) => return Err(Fault::Memory),
     };
-    match write_changes(writer, piece, &changes) {
+    match write_changes(writer, piece, policies.after, &changes) {
         Ok(()) => {}
         Err(fault) => return Err(fault),
     }

@@ -9,6 +9,7 @@ ghost use Rattle.verdict_changes.specs.Changes.{pair_facts};
 use crate::change::PolicyPair;
 use acl_policy::{Action, Policy, Rule};
 use packet_view::{Family, Mac, Packet};
+use packet_words::{kind_of, rule_number};
 use session_state::Verdict;
 
 // Whether a frame goes out at the interface with this own address.
@@ -31,16 +32,6 @@ fn goes_out_by(policy: &Policy, packet: Packet<'_>) -> bool
     }
 }
 
-// The number of the rule that a verdict names.
-fn number_in(verdict: Verdict) -> Option<u16>
-    ensures { result ≡ Changes.number_in verdict }
-{
-    match verdict {
-        Verdict::Reflect(number) | Verdict::Permit(number) | Verdict::Deny(number) => Some(number),
-        _ => None,
-    }
-}
-
 // The rule with this number, from 1.
 fn rule_numbered(rules: &[Rule], number: u16) -> Option<&Rule>
     ensures { option_map (λ r. rule_facts r.now) result ≡ Changes.rule_numbered (map rule_facts rules.now) number }
@@ -55,7 +46,7 @@ fn rule_numbered(rules: &[Rule], number: u16) -> Option<&Rule>
 fn rule_by<'p>(policy: &'p Policy, packet: Packet<'_>, verdict: Verdict) -> Option<&'p Rule>
     ensures { option_map (λ r. rule_facts r.now) result ≡ Changes.rule_by (policy_facts policy.now) (packet_facts packet.entry) verdict }
 {
-    let Some(number) = number_in(verdict) else {
+    let Some(number) = rule_number(verdict) else {
         return None;
     };
     let Some(section) = policy.section(packet.interface) else {
@@ -121,25 +112,6 @@ fn same_decision(same_way: bool, one: Option<&Rule>, other: Option<&Rule>) -> bo
         (None, None) => true,
         (Some(one), Some(other)) => same_way && same_rule(one, other),
         (_, _) => false,
-    }
-}
-
-// Which verdict of the report it is, whatever its rule's number.
-fn kind_of(verdict: Verdict) -> u8
-    ensures { result ≡ Changes.kind_of verdict }
-{
-    match verdict {
-        Verdict::Session => 0,
-        Verdict::Reflect(_) => 1,
-        Verdict::Permit(_) => 2,
-        Verdict::Deny(_) => 3,
-        Verdict::ByDefault => 4,
-        Verdict::Worn => 5,
-        Verdict::Full => 6,
-        Verdict::NoPages => 7,
-        Verdict::NotIp => 8,
-        Verdict::Malformed => 9,
-        Verdict::Short => 10,
     }
 }
 

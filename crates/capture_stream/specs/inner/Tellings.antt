@@ -83,7 +83,7 @@ pub record IsLive {J K : Type 0} (Became : J → List PacketFacts → List Verdi
   pub passing : live.passed ≡ passed told.verdicts
   pub lacking : live.without_pages ≡ without_pages told.verdicts
   pub size : live.read ≡ length told.read
-  pub bound : live.read < most_live + 65536
+  pub bound : live.read < most_live + 8388608
   pub same : live.engine.order ≡ order
   pub unnamed : live.engine.interface ≡ 0
   pub found : HaveFound live.engine.order (rest_in live.engine) live.engine.found

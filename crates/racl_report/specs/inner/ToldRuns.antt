@@ -1,27 +1,15 @@
 -- What is written of a run.
-use Rattle.std.specs.Prelude.{◌≡◌, ◌++◌, ℕ, List, Option}
+use Rattle.std.specs.Prelude.{◌≡◌, ℕ, List, Option}
 use Rattle.std.specs.Io.KnownBytes.{Appends}
 use Rattle.racl_io.specs.declared.totals_and_truncation.Totals.{Totals}
 use Rattle.racl_io.specs.Reports.{totals_of}
 use Rattle.racl_options.specs.declared.settings.Lines.{Lines}
-use Rattle.racl_options.specs.declared.settings.Options.{Options}
-use Rattle.racl_views.specs.Hits.{AreHits}
 use Rattle.racl_views.specs.RunEntries.{RunFacts}
-use Rattle.racl_views.specs.Stored.{StoredFacts}
-use Rattle.racl_report.specs.RunReports.{AreLines, sessions_behind, view_behind}
+use Rattle.racl_report.specs.RunReports.{AreLines}
 
 -- the lines of a run stand behind what was written before, in the form that is asked for, and its totals are answered
 pub record HasLines (asked : Lines) (run : RunFacts) (old new : Option (List ℕ)) (totals : Totals) : Type 0 where
   pub lines : List ℕ
   pub are : AreLines asked run lines
   pub text : Appends old new lines
-  pub counted : totals ≡ totals_of run.verdicts run.captures
-
--- and behind its lines the hits and the sessions that are asked for
-pub record HasTold (options : Options) (run : RunFacts) (stored : StoredFacts) (old new : Option (List ℕ)) (totals : Totals) : Type 0 where
-  pub lines : List ℕ
-  pub are : AreLines options.lines run lines
-  pub hits : List ℕ
-  pub told : AreHits options.hits (view_behind options.lines) options.times run stored hits
-  pub text : Appends old new (lines ++ (hits ++ sessions_behind options stored))
   pub counted : totals ≡ totals_of run.verdicts run.captures

@@ -48,7 +48,7 @@ fn the_report_on_two_policies(rt: HostRuntime) -> Result<(), Fail> {
     assert!(rt; compare_texts(rt.alloc(), BEFORE, AFTER, &mut writer) == Ok(5));
     let wanted = b"\
 in udp 10.0.0.1 0 0.0.0.0 53: pass rule 1 reflect -> drop rule 1
-in 47 0:0:0:0:0:0:0:0 0:0:0:0:0:0:0:0: drop default -> pass rule 2
+in 47 :: ::: drop default -> pass rule 2
 pairs that differ 2 unknown 0
 ";
     assert!(rt; writer.inner.as_slice() == wanted.as_slice());

@@ -1,19 +1,14 @@
 -- Entries by the steps of the code, and where the lines of rules stand among all.
 use Rattle.std.specs.Prelude.{◌≡◌, ◌<◌, ◌^◌, ℕ, List, [], ◌∷◌, get_or, length}
 use Rattle.packet_view.specs.Captures.{PacketFacts}
-use Rattle.packet_view.specs.Frames.{FrameFacts}
-use Rattle.packet_view.specs.inner.FrameSteps.{view_of}
-use Rattle.acl_policy.specs.Policies.{PolicyFacts, section_of}
+use Rattle.acl_policy.specs.Policies.{PolicyFacts}
 use Rattle.session_state.specs.declared.verdict.Verdict.{Verdict}
+use Rattle.packet_words.specs.inner.ViewedPackets.{view_at}
 use Rattle.racl_views.specs.declared.rule_name.RuleLine.{RuleLine}
 use Rattle.racl_views.specs.declared.rule_name.RuleName.{RuleName}
 use Rattle.racl_views.specs.Deciding.{rule_on}
 use Rattle.racl_views.specs.Entries.{EntryFacts, line_among, line_deciding}
 use Rattle.racl_views.specs.inner.Places.{place_of}
-
--- what a packet's frame is at its interface
-unfoldable pub view_at : PolicyFacts → PacketFacts → FrameFacts
-view_at policy packet = view_of packet.frame (record { number = packet.interface; own = (section_of packet.interface policy).own })
 
 abbrev pub entry_on : PolicyFacts → List RuleLine → PacketFacts → Verdict → EntryFacts
 entry_on policy rules packet verdict = record {

@@ -15,11 +15,11 @@ use Rattle.capture_stream.specs.Histories.{AreRight, Follows}
 use Rattle.capture_stream.specs.Lives.{most_live}
 use Rattle.capture_stream.specs.declared.engine.Engine.{Engine}
 use Rattle.capture_stream.specs.declared.windows_of_records.Found.{Found}
-use Rattle.verdict_changes.specs.Changes.{PairFacts, changes_from}
-use Rattle.verdict_changes.specs.ChangeReports.{lines_of, totals_of, with_changes}
+use Rattle.verdict_changes.specs.Changes.{ChangeFacts, PairFacts, changes_from}
+use Rattle.verdict_changes.specs.ChangeReports.{totals_of, with_changes}
 use Rattle.verdict_changes.specs.Comparing.{HasToldSome, changes_in}
-use Rattle.verdict_changes.specs.declared.change.Change.{Change}
 use Rattle.verdict_changes.specs.declared.comparison.Comparison.{Comparison}
+use Rattle.verdict_changes.specs.inner.ChangeLines.{lines_by}
 
 -- where comparing may go on from: no more packets were compared than bytes were read before those that wait
 pub record MayCompare {J K : Type 0} (Became : J → List PacketFacts → List Verdict → J → Type 0) (Also : K → List PacketFacts → List Verdict → K → Type 0)
@@ -34,7 +34,7 @@ pub record MayCompare {J K : Type 0} (Became : J → List PacketFacts → List V
   pub count : comparison.engine.packets ≡ length packets
   pub each_before : length befores ≡ length packets
   pub each_after : length afters ≡ length packets
-  pub changes : List Change
+  pub changes : List ChangeFacts
   pub few_changes : length changes ≤ length packets
   pub totals : comparison.totals ≡ totals_of changes 0 false
   pub few : comparison.engine.packets + length (rest_in comparison.engine) ≤ comparison.read
@@ -43,7 +43,7 @@ pub record MayCompare {J K : Type 0} (Became : J → List PacketFacts → List V
   pub found : HaveFound comparison.engine.order (rest_in comparison.engine) comparison.engine.found
 
 -- what is changed of packets behind those before
-abbrev pub changes_behind : {J : Type 0} → PairFacts → Engine J → List Verdict → List Verdict → List RecordFacts → List Change
+abbrev pub changes_behind : {J : Type 0} → PairFacts → Engine J → List Verdict → List Verdict → List RecordFacts → List ChangeFacts
 changes_behind policies engine befores afters more = changes_from policies (engine.packets + 1) befores afters (packets_at engine.interface more)
 
 -- the packets of the whole records that waited were judged by both, and told where they are changed
@@ -57,7 +57,7 @@ pub record HasComparedWaiting {J K : Type 0} (policies : PairFacts) (Became : J 
   pub follows : Follows Also old.after (packets_at old.engine.interface settled.fed.more) afters new.after
   pub right : AreRight Also AlsoJudged old.after (packets_at old.engine.interface settled.fed.more) afters
   pub stop_is : found.stop ≡ stop
-  pub text : Appends before after (lines_of (changes_behind policies old.engine befores afters settled.fed.more))
+  pub text : Appends before after (lines_by policies.after (changes_behind policies old.engine befores afters settled.fed.more))
   pub totals : new.totals ≡ with_changes old.totals (changes_behind policies old.engine befores afters settled.fed.more)
   pub read : new.read ≡ old.read
 
@@ -71,7 +71,7 @@ pub record HasCutWaiting {J K : Type 0} (policies : PairFacts) (Became : J → L
   pub found : Found
   pub settled : HasSettled Became Judged old.engine engine befores found
   pub right : AreRight Also AlsoJudged old.after (packets_at old.engine.interface settled.fed.more) afters
-  pub front : GotFront before after (lines_of (changes_behind policies old.engine befores afters settled.fed.more))
+  pub front : GotFront before after (lines_by policies.after (changes_behind policies old.engine befores afters settled.fed.more))
 
 -- memory ran out before any of it was written, or a write failed
 abbrev pub IsWaitingFault : {J K : Type 0} → PairFacts → (J → List PacketFacts → List Verdict → J → Type 0) → (J → List PacketFacts → List Verdict → Type 0)

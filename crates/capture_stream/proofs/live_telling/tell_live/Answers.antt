@@ -41,20 +41,20 @@ returns-in-Err-is_cut-clause-told g c =
     _ (ap (λ w. manner_of w g.K.Saver.saved) c.reads.invariant.same) c.in-Ok.ensures.told in
     told_long _ _ _ _ _ _ _ _ _ _ _ told c.in-Err-is_cut.fault c.in-Err-is_cut.ensures
 
-pub read_some-requires-clause-few : goal.read_some-requires-clause-few
-read_some-requires-clause-few g c =
+pub read_part-requires-clause-few : goal.read_part-requires-clause-few
+read_part-requires-clause-few g c =
     let told = live_told g.J.Judge.became g.J.Judge.judged (manner_of (g.L.Teller.wording c.args.teller.now) g.K.Saver.saved) c.args.headed.judges c.args.headed.order (g.R.Source.bytes c.args.reader.now) (outputs (g.W.Sink.bytes c.args.writer.now) c.args.saver.now)
     c.requires.counts _ _ _ c.reads.live c.tell_waiting.new.live c.in-Ok.stop c.reads.invariant.live c.reads-test.true
     _ (ap (λ w. manner_of w g.K.Saver.saved) c.reads.invariant.same) c.in-Ok.ensures.told in
     told_short _ _ _ _ _ _ _ _ _ _ _ told
 
-pub returns-in-Err-read_some-clause-told : goal.returns-in-Err-read_some-clause-told
-returns-in-Err-read_some-clause-told g c =
+pub returns-in-Err-read_part-clause-told : goal.returns-in-Err-read_part-clause-told
+returns-in-Err-read_part-clause-told g c =
     let told = live_told g.J.Judge.became g.J.Judge.judged (manner_of (g.L.Teller.wording c.args.teller.now) g.K.Saver.saved) c.args.headed.judges c.args.headed.order (g.R.Source.bytes c.args.reader.now) (outputs (g.W.Sink.bytes c.args.writer.now) c.args.saver.now)
     c.requires.counts _ _ _ c.reads.live c.tell_waiting.new.live c.in-Ok.stop c.reads.invariant.live c.reads-test.true
     _ (ap (λ w. manner_of w g.K.Saver.saved) c.reads.invariant.same) c.in-Ok.ensures.told in
-    part_fault _ _ _ _ _ _ _ _ _ _ _ told (g.R.Source.bytes c.read_some.new.reader) c.in-Ok-is_cut.truncated c.in-Err-read_some.fault c.in-Ok-is_cut.ensures
-    c.in-Err-read_some.ensures.got
+    part_fault _ _ _ _ _ _ _ _ _ _ _ told (g.R.Source.bytes c.read_part.new.reader) c.in-Ok-is_cut.truncated c.in-Err-read_part.fault c.in-Ok-is_cut.ensures
+    c.in-Err-read_part.ensures.got
 
 pub told_at-requires : goal.told_at-requires
 told_at-requires g c =
@@ -62,20 +62,20 @@ told_at-requires g c =
     c.requires.counts _ _ _ c.reads.live c.tell_waiting.new.live c.in-Ok.stop c.reads.invariant.live c.reads-test.true
     _ (ap (λ w. manner_of w g.K.Saver.saved) c.reads.invariant.same) c.in-Ok.ensures.told in
     let few = told_passing _ _ _ _ _ _ _ _ _ _ _ told in
-    let got = c.in-Ok-read_some.ensures.got in
+    let got = c.in-Ok-read_part.ensures.got in
     let same = got.longer.packets in
     omega arith
 
 pub returns-then-n-eq0-clause-told : goal.returns-then-n-eq0-clause-told
 returns-then-n-eq0-clause-told g c =
     let now = g.R.Source.bytes c.reads.reader in
-    let end = g.R.Source.bytes c.read_some.new.reader in
+    let end = g.R.Source.bytes c.read_part.new.reader in
     let mid = outputs (g.W.Sink.bytes c.tell_waiting.new.writer) c.tell_waiting.new.saver in
     let next = c.tell_waiting.new.live in
     let told = live_told g.J.Judge.became g.J.Judge.judged (manner_of (g.L.Teller.wording c.args.teller.now) g.K.Saver.saved) c.args.headed.judges c.args.headed.order (g.R.Source.bytes c.args.reader.now) (outputs (g.W.Sink.bytes c.args.writer.now) c.args.saver.now)
     c.requires.counts now _ mid c.reads.live next c.in-Ok.stop c.reads.invariant.live c.reads-test.true _ (ap (λ w. manner_of w g.K.Saver.saved) c.reads.invariant.same) c.in-Ok.ensures.told in
-    let got = subst (HasGot now end next.engine c.read_some.new.self 65536) c.if-n-eq0.true c.in-Ok-read_some.ensures.got in
-    told_all _ _ _ _ _ _ _ now mid next _ told end c.read_some.new.self c.in-Ok-is_cut.truncated c.told_at.result c.in-Ok-is_cut.ensures got
+    let got = subst (HasGot now end next.engine c.read_part.new.self 8388608) c.if-n-eq0.true c.in-Ok-read_part.ensures.got in
+    told_all _ _ _ _ _ _ _ now mid next _ told end c.read_part.new.self c.in-Ok-is_cut.truncated c.told_at.result c.in-Ok-is_cut.ensures got
     (longer_totals _ _ c.told_at.result.totals c.in-Ok-is_cut.truncated got.longer.packets c.told_at.ensures.totals)
     c.told_at.ensures.judges
 
@@ -85,9 +85,9 @@ reads-preserved g c =
     c.requires.counts _ _ _ c.reads.live c.tell_waiting.new.live c.in-Ok.stop c.reads.invariant.live c.reads-test.true
     _ (ap (λ w. manner_of w g.K.Saver.saved) c.reads.invariant.same) c.in-Ok.ensures.told in
     record {
-      live = live_more _ _ _ _ _ _ _ _ _ _ _ told _ _ c.in-Ok-read_some.n c.in-Ok-read_some.ensures.got refl refl refl;
+      live = live_more _ _ _ _ _ _ _ _ _ _ _ told _ _ c.in-Ok-read_part.n c.in-Ok-read_part.ensures.got refl refl refl;
       same = c.in-Ok.ensures.same ∙ c.reads.invariant.same;
-      reads = c.in-Ok-read_some.ensures.failures ∙ c.reads.invariant.reads;
+      reads = c.in-Ok-read_part.ensures.failures ∙ c.reads.invariant.reads;
       writes = c.in-Ok.ensures.failures.0 ∙ c.reads.invariant.writes;
       saves = c.in-Ok.ensures.failures.1 ∙ c.reads.invariant.saves;
     }

@@ -17,4 +17,4 @@ invariant-reads g l = record {
 
 -- the bytes that may still be read
 abbrev pub decreases-reads : goal.decreases-reads
-decreases-reads g l = most_live + 65536 - l.live.read
+decreases-reads g l = most_live + 8388608 - l.live.read

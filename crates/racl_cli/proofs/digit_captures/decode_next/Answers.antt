@@ -2,14 +2,15 @@
 use Rattle.std.proofs.Common.{◌≡◌, ◌==◌, ℕ, true, false, List, inl, inr, subst, sym}
 use Rattle.std.specs.List.{list_any}
 use Rattle.racl_io.specs.Inputs.{numbered_facts}
-use Rattle.racl_cli.proofs.DigitCaptureLemmas.{among, not_among, own_fault, second_of_one}
+use Rattle.racl_report.proofs.InterfaceLaws.{among, not_among}
+use Rattle.racl_cli.proofs.DigitCaptureLemmas.{own_fault, second_of_one}
 use Rattle.racl_cli.proofs.digit_captures.decode_next.Goals as goal
 
-pub returns-then-is_digit_capture_seen-clause-fault : goal.returns-then-is_digit_capture_seen-clause-fault
-returns-then-is_digit_capture_seen-clause-fault c =
+pub returns-then-is_interface_seen-clause-fault : goal.returns-then-is_interface_seen-clause-fault
+returns-then-is_interface_seen-clause-fault c =
     let number = c.args.capture.interface in
     let any =
-    subst (λ (seen : List ℕ). list_any (λ other. other == number) seen ≡ true) c.deref.ensures.value (sym c.if-is_digit_capture_seen.ensures) in
+    subst (λ (seen : List ℕ). list_any (λ other. other == number) seen ≡ true) c.deref.ensures.value (sym c.if-is_interface_seen.ensures) in
     inr (second_of_one c.args.walk.seen.items number c.args.capture.content.now (among number c.args.walk.seen.items any))
 
 pub returns-in-Err-clause-fault : goal.returns-in-Err-clause-fault
@@ -17,7 +18,7 @@ returns-in-Err-clause-fault c =
     let number = c.args.capture.interface in
     let seen = c.args.walk.seen.items in
     let none =
-    subst (λ (seen : List ℕ). list_any (λ other. other == number) seen ≡ false) c.deref.ensures.value (sym c.if-is_digit_capture_seen.ensures) in
+    subst (λ (seen : List ℕ). list_any (λ other. other == number) seen ≡ false) c.deref.ensures.value (sym c.if-is_interface_seen.ensures) in
     elim c.in-Err.ensures.fault [
       | inl memory ↦ inl memory
       | inr of ↦
@@ -30,7 +31,7 @@ returns-clause-ok c =
     let number = c.args.capture.interface in
     let seen = c.args.walk.seen.items in
     let none =
-    subst (λ (seen : List ℕ). list_any (λ other. other == number) seen ≡ false) c.deref.ensures.value (sym c.if-is_digit_capture_seen.ensures) in
+    subst (λ (seen : List ℕ). list_any (λ other. other == number) seen ≡ false) c.deref.ensures.value (sym c.if-is_interface_seen.ensures) in
     record {
       digits = c.cut_at_numbered_marker.result.digits.now;
       cut = c.cut_at_numbered_marker.ensures.cut;

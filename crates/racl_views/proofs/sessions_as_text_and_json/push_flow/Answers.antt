@@ -1,4 +1,4 @@
-use Rattle.racl_views.proofs.TextLemmas.{behind}
+use Rattle.packet_words.proofs.TextLemmas.{behind}
 use Rattle.racl_views.proofs.sessions_as_text_and_json.push_flow.Goals as goal
 
 pub returns-clause-text : goal.returns-clause-text

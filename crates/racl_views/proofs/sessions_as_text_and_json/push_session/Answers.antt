@@ -1,6 +1,6 @@
 use Rattle.std.proofs.Common.{codes}
 use Rattle.racl_views.specs.SessionLines.{end_told, flow_facts, flow_told, seconds_told}
-use Rattle.racl_views.proofs.TextLemmas.{behind, five}
+use Rattle.packet_words.proofs.TextLemmas.{behind, five}
 use Rattle.racl_views.proofs.sessions_as_text_and_json.push_session.Goals as goal
 
 pub returns : goal.returns

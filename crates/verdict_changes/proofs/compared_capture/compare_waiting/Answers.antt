@@ -1,15 +1,18 @@
-use Rattle.std.proofs.Common.{◌≡◌, ◌∙◌, ◌+◌, List, ap, arith, length, refl, subst, sym}
+use Rattle.std.proofs.Common.{◌≡◌, ◌∙◌, ◌+◌, List, ap, arith, length, map, refl, subst, sym}
+use Rattle.std.proofs.lemmas.List.{length-map}
 use Rattle.std.specs.Io.KnownBytes.{Appends}
 use Rattle.packet_view.specs.Captures.{PacketFacts}
 use Rattle.packet_view.specs.CheckedCaptures.{remaining}
 use Rattle.session_state.specs.declared.verdict.Verdict.{Verdict}
 use Rattle.racl_io.specs.Sinks.{GotFront}
 use Rattle.capture_stream.specs.Histories.{AreRight, Follows, MayFollow}
-use Rattle.verdict_changes.specs.Changes.{changes_from, pair_facts}
-use Rattle.verdict_changes.specs.ChangeReports.{lines_of, with_changes}
+use Rattle.verdict_changes.specs.Changes.{change_facts, changes_from, pair_facts}
+use Rattle.verdict_changes.specs.ChangeReports.{with_changes}
 use Rattle.verdict_changes.specs.declared.change.Change.{Change}
+use Rattle.verdict_changes.specs.inner.ChangeLines.{lines_by, lines_told}
 use Rattle.verdict_changes.specs.inner.Comparisons.{IsWaitingFault, changes_behind}
 use Rattle.verdict_changes.specs.inner.Totals.{HasRoom}
+use Rattle.verdict_changes.proofs.ChangeLemmas.{told_by}
 use Rattle.verdict_changes.proofs.CompareLemmas.{may_also, may_feed, numbers_fit, room}
 use Rattle.verdict_changes.proofs.compared_capture.compare_waiting.Goals as goal
 
@@ -33,7 +36,8 @@ pub count_changes-requires : goal.count_changes-requires
 count_changes-requires g c =
     let old = c.args.comparison.now in
     let policies = pair_facts c.args.policies in
-    let is = ap length (c.deref-4.ensures.value ∙ c.in-Ok-changed_packets.ensures) in
+    let changes = c.in-Ok-changed_packets.changes.items in
+    let is = ap length c.deref-4.ensures.value ∙ sym (length-map changes change_facts) ∙ ap length c.in-Ok-changed_packets.ensures in
     subst (HasRoom old.totals) (sym is)
     (subst (λ (bs : List Verdict). HasRoom old.totals (length (changes_from policies (old.engine.packets + 1) bs c.deref-2.result.now (remaining c.judged-packets.result)))) (sym c.deref.ensures.value)
     (room _ _ old c.requires.may _ c.settle.new.self _ _ c.in-Ok.ensures c.requires.counts.0 policies (old.engine.packets + 1) c.deref-2.result.now (remaining c.judged-packets.result)))
@@ -46,7 +50,8 @@ returns-in-Err-write_changes-clause-told g c =
     let befores = c.in-Ok.settled.0.items in
     let afters = c.in-Ok-judge.afters.items in
     let same = c.judged-packets.ensures ∙ settled.packets in
-    let are : c.in-Ok-changed_packets.changes.items ≡ changes_behind policies old.engine befores afters settled.fed.more =
+    let changes = c.in-Ok-changed_packets.changes.items in
+    let are : map change_facts changes ≡ changes_behind policies old.engine befores afters settled.fed.more =
     c.in-Ok-changed_packets.ensures
     ∙ ap (λ (bs : List Verdict). changes_from policies (old.engine.packets + 1) bs c.deref-2.result.now (remaining c.judged-packets.result)) c.deref.ensures.value
     ∙ ap (λ (ws : List Verdict). changes_from policies (old.engine.packets + 1) befores ws (remaining c.judged-packets.result)) c.deref-2.ensures.value
@@ -61,7 +66,8 @@ returns-in-Err-write_changes-clause-told g c =
       found = c.in-Ok.settled.1;
       settled = settled;
       right = subst (λ (ps : List PacketFacts). AreRight g.K.Judge.became g.K.Judge.judged old.after ps afters) same c.in-Ok-judge.ensures.right;
-      front = subst (λ (cs : List Change). GotFront before after (lines_of cs)) (c.deref-3.ensures.value ∙ are) put.4;
+      front = subst (GotFront before after)
+          (ap (lines_told policies.after) c.deref-3.ensures.value ∙ told_by policies.after changes ∙ ap (lines_by policies.after) are) put.4;
     })
 
 pub returns-clause-told : goal.returns-clause-told
@@ -72,7 +78,8 @@ returns-clause-told g c =
     let befores = c.in-Ok.settled.0.items in
     let afters = c.in-Ok-judge.afters.items in
     let same = c.judged-packets.ensures ∙ settled.packets in
-    let are : c.in-Ok-changed_packets.changes.items ≡ changes_behind policies old.engine befores afters settled.fed.more =
+    let changes = c.in-Ok-changed_packets.changes.items in
+    let are : map change_facts changes ≡ changes_behind policies old.engine befores afters settled.fed.more =
     c.in-Ok-changed_packets.ensures
     ∙ ap (λ (bs : List Verdict). changes_from policies (old.engine.packets + 1) bs c.deref-2.result.now (remaining c.judged-packets.result)) c.deref.ensures.value
     ∙ ap (λ (ws : List Verdict). changes_from policies (old.engine.packets + 1) befores ws (remaining c.judged-packets.result)) c.deref-2.ensures.value
@@ -87,7 +94,10 @@ returns-clause-told g c =
       follows = subst (λ (ps : List PacketFacts). Follows g.K.Judge.became old.after ps afters c.judge.new.self) same c.in-Ok-judge.ensures.follows;
       right = subst (λ (ps : List PacketFacts). AreRight g.K.Judge.became g.K.Judge.judged old.after ps afters) same c.in-Ok-judge.ensures.right;
       stop_is = refl;
-      text = subst (λ (cs : List Change). Appends before after (lines_of cs)) (c.deref-3.ensures.value ∙ are) c.in-Ok-write_changes.ensures.0;
-      totals = c.count_changes.ensures ∙ ap (with_changes old.totals) (c.deref-4.ensures.value ∙ are);
+      text = subst (Appends before after)
+          (ap (lines_told policies.after) c.deref-3.ensures.value ∙ told_by policies.after changes ∙ ap (lines_by policies.after) are)
+          c.in-Ok-write_changes.ensures.0;
+      totals = c.count_changes.ensures ∙ ap (λ (cs : List Change). with_changes old.totals (map change_facts cs)) c.deref-4.ensures.value
+          ∙ ap (with_changes old.totals) are;
       read = refl;
     }

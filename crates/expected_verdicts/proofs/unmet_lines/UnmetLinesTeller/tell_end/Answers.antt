@@ -1,23 +1,7 @@
-use Rattle.std.proofs.Common.{◌++◌, Err, None}
-use Rattle.std.specs.Prelude.{⊤}
-use Rattle.racl_io.specs.Reports.{truncation_line}
-use Rattle.racl_io.proofs.TellingLemmas.{front_of_first, put_more, told_put}
-use Rattle.expected_verdicts.specs.Meeting.{told_in}
+use Rattle.racl_io.proofs.TellingLemmas.{told_put}
 use Rattle.expected_verdicts.proofs.unmet_lines.UnmetLinesTeller.tell_end.Goals as goal
 
 pub returns : goal.returns
 returns g c =
-    let totals = c.args.totals.now in
-    let cut = truncation_line None totals.truncated totals.packets in
-    let left = told_in c.args.self.now.expectations.now totals in
-    let put = put_more g.W.Sink.bytes g.W.Sink.failures c.args.writer.now c.write_truncation.new.writer c.write_open_in.new.writer cut left
-    c.write_open_in.result c.in-Ok.ensures.0 c.in-Ok.ensures.1 c.write_open_in.ensures in
-    record { told = told_put g.W.Sink.bytes g.W.Sink.failures c.args.writer.now c.write_open_in.new.writer _ c.write_open_in.result put.0 put.1 put.2 put.3 put.4 }
-
-pub returns-in-Err : goal.returns-in-Err
-returns-in-Err g c =
-    let totals = c.args.totals.now in
-    let cut = truncation_line None totals.truncated totals.packets in
-    let left = told_in c.args.self.now.expectations.now totals in
-    let front = front_of_first (g.W.Sink.bytes c.args.writer.now) (g.W.Sink.bytes c.write_truncation.new.writer) cut left c.in-Err.ensures.4 in
-    record { told = told_put {A = ⊤} g.W.Sink.bytes g.W.Sink.failures c.args.writer.now c.write_truncation.new.writer (cut ++ left) (Err c.in-Err.fault) tt tt c.in-Err.ensures.2 c.in-Err.ensures.3 front }
+    let put = c.write_unmet_end.ensures in
+    record { told = told_put g.W.Sink.bytes g.W.Sink.failures c.args.writer.now c.write_unmet_end.new.writer _ c.write_unmet_end.result put.0 put.1 put.2 put.3 put.4 }

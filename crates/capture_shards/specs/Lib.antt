@@ -1,0 +1,4 @@
+pub mod ShardWords
+pub mod Sharing
+pub mod Shards
+pub mod inner

@@ -1,0 +1,4 @@
+pub mod PacketTexts
+pub mod PacketWords
+pub mod VerdictKinds
+pub mod inner

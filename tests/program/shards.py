@@ -1,0 +1,88 @@
+"""Shards of a capture: all packets' lines with their numbers, and totals and counts that add up to those of a run on all of it."""
+import collections
+import json
+import re
+import subprocess
+
+from support.captures import NAMES, header, parts_of, record, udp
+from support.cases import TOP, Case, bytes_of_file, each, names_in, wanted
+
+COUNTS = 1, 2, 3, 8
+UNCLEAR = "racl: --shard K/N stands first, with decimal numbers, K from 1 to N, and N at most 1024\n"
+MISFIT = "racl: --shard needs POLICY CAPTURE, and goes with none of --live, --expect, --drops and --passes\n"
+
+# Requests of 97 ends and their answers, frames of no flow, and a capture that is cut.
+MANY = header() + b"".join(udp(100 + n // 50, way, *ends) for n in range(400)
+                           for way, ends in ((True, ((1, 1000 + n % 97), (2, 53))), (False, ((2, 53), (1, 1000 + n % 97))))
+                           ) + record(200, b"short") + record(201, bytes(20)) * 5
+CUT = MANY[:-7]
+
+
+def counts(reports):
+    """How many packets each line behind the totals counts, over all these reports."""
+    found = collections.Counter()
+    for report in reports:
+        for before, count, behind in re.findall(rb"^(.+ packets )(\d+)(.*)$", report, re.M):
+            found[before + behind] += int(count)
+    return found
+
+
+class Shards(Case):
+    def reports(self, count, words, held, capture):
+        return [self.program.run(["--shard", f"{shard}/{count}", *words, held, "-"], capture) for shard in range(1, count + 1)]
+
+    @each((name, f"{TOP}/examples/{name}.racl") for name in names_in("examples", ".racl"))
+    def stored(self, path):
+        """The merged report of the shards of each example of one capture."""
+        policy, captures = parts_of(bytes_of_file(path))
+        if captures[0][0] is None:
+            self.merged(policy, captures[0][1])
+
+    def test_many(self):
+        self.merged(NAMES, MANY)
+
+    def test_cut(self):
+        self.merged(NAMES, CUT, status=3)
+
+    def merged(self, policy, capture, status=0):
+        held = self.hold("policy", policy)
+        for count in COUNTS:
+            for words in [], ["--explain"], ["--workers", "3", "--only=drop"]:
+                whole = self.program.run(["--any-length", *words, held, "-"], capture)
+                reports = self.reports(count, words, held, capture)
+                names = [self.hold(f"report{place}", it["stdout"]) for place, it in enumerate(reports)]
+                ran = subprocess.run([f"{TOP}/examples/shards/merge", *names], stdout=subprocess.PIPE)
+                self.compare({"merged": ran.stdout}, {"merged": whole["stdout"]}, count, *words)
+                self.compare({"statuses": {it["status"] for it in reports}}, {"statuses": {status}}, count, *words)
+
+    def test_objects(self):
+        held = self.hold("policy", NAMES)
+        whole = self.program.run(["--any-length", "--json", held, "-"], MANY)["stdout"].splitlines()
+        for count in COUNTS:
+            lines = [line for it in self.reports(count, ["--json"], held, MANY) for line in it["stdout"].splitlines()]
+            packets = sorted((it for it in lines if b'"number"' in it), key=lambda it: json.loads(it)["number"])
+            self.compare({"packets": packets}, {"packets": [it for it in whole if b'"number"' in it]}, count)
+
+    def test_hits(self):
+        """What each rule decided adds up."""
+        held = self.hold("policy", NAMES)
+        whole = self.program.run(["--any-length", "--summary", "--hits", held, "-"], MANY)["stdout"]
+        for count in COUNTS:
+            reports = [it["stdout"] for it in self.reports(count, ["--summary", "--hits"], held, MANY)]
+            self.compare({"counts": counts(reports)}, {"counts": counts([whole])}, count)
+
+    def test_sessions(self):
+        """Each session stands in one shard's tables."""
+        held = self.hold("policy", NAMES)
+        words = ["--summary", "--sessions"]
+        whole = self.program.run(["--any-length", *words, held, "-"], MANY)["stdout"].splitlines()[1:]
+        for count in COUNTS:
+            lines = [line for it in self.reports(count, words, held, MANY) for line in it["stdout"].splitlines()[1:]]
+            self.compare({"sessions": sorted(lines)}, {"sessions": sorted(whole)}, count)
+
+    def test_wrong_words(self):
+        for word in "", "1", "0/2", "3/2", "1/0", "1/1025", "1/2/3", "a/2", "1/+2", "1.0/2":
+            self.compare(self.program.run(["--shard", word, "policy", "capture"]), wanted(stderr=UNCLEAR, status=2), word)
+        self.compare(self.program.run(["--shard"]), wanted(stderr=UNCLEAR, status=2))
+        for words in ["--live", "p", "c"], ["--drops=d", "p", "c"], ["--passes=d", "p", "c"], ["--expect=e", "p", "c"], [], ["--interface", "1=c", "p"]:
+            self.compare(self.program.run(["--shard", "1/2", *words]), wanted(stderr=MISFIT, status=2), *words)
