@@ -98,7 +98,7 @@ class Asked(Case):
     def test_missing_words(self):
         for words in (["ask"], ["ask", "-"], ["ask", "--explain", "-"]):
             got = self.program.run(words, POLICY)
-            self.compare(got, wanted(stderr="racl: racl ask takes: [--explain] POLICY PACKET ..\n", status=2), *words)
+            self.compare(got, wanted(stderr="racl: racl ask takes: [--explain | --expect FILE] POLICY PACKET ..\n", status=2), *words)
 
     def test_wrong_policy(self):
         got = self.program.run(["ask", "-", "in udp 10.0.0.1 1 10.0.0.2 2"], b"in\n")
@@ -110,7 +110,7 @@ class Asked(Case):
         held = self.hold("expected", expected.encode())
         got = self.program.run(["ask", "--expect", held, "-", *THREE], POLICY)
         ordered = sorted(lines, key=lambda it: (int(re.search(r"packet (\d+)|$", it)[1] or 9), it))
-        self.compare(got, wanted("".join(f"{it}\n" for it in ordered), status=0 if lines[0].startswith("met") else 5))
+        self.compare(got, wanted("".join(f"{it}\n" for it in ordered).encode(), status=0 if lines[0].startswith("met") else 5))
 
     def test_wrong_expectations(self):
         held = self.hold("expected", b"1 pass\n2 maybe\n")
@@ -119,7 +119,7 @@ class Asked(Case):
                                  f"as pass, drop default or pass rule 3\nracl: that is {held}\n", status=1))
         missing = f"{held} too"
         got = self.program.run(["ask", "--expect", missing, "-", *THREE], POLICY)
-        self.compare(got, wanted(stderr=f"racl: {missing}: No such file or directory\n", status=4))
+        self.compare(got, wanted(stderr=f"racl: {missing}: No such file or directory (os error 2)\n", status=4))
 
     def test_wrong_packets_beside_expectations(self):
         held = self.hold("expected", b"1 pass\n")

@@ -18,6 +18,14 @@ MANY = header() + b"".join(udp(100 + n // 50, way, *ends) for n in range(400)
 CUT = MANY[:-7]
 
 
+def examples():
+    """Each example of one capture: its name, its policy and its capture."""
+    for name in names_in("examples", ".racl"):
+        policy, captures = parts_of(bytes_of_file(f"{TOP}/examples/{name}.racl"))
+        if captures[0][0] is None:
+            yield name, policy, captures[0][1]
+
+
 def counts(reports):
     """How many packets each line behind the totals counts, over all these reports."""
     found = collections.Counter()
@@ -31,12 +39,10 @@ class Shards(Case):
     def reports(self, count, words, held, capture):
         return [self.program.run(["--shard", f"{shard}/{count}", *words, held, "-"], capture) for shard in range(1, count + 1)]
 
-    @each((name, f"{TOP}/examples/{name}.racl") for name in names_in("examples", ".racl"))
-    def stored(self, path):
+    @each(examples())
+    def stored(self, policy, capture):
         """The merged report of the shards of each example of one capture."""
-        policy, captures = parts_of(bytes_of_file(path))
-        if captures[0][0] is None:
-            self.merged(policy, captures[0][1])
+        self.merged(policy, capture)
 
     def test_many(self):
         self.merged(NAMES, MANY)
@@ -60,8 +66,9 @@ class Shards(Case):
         whole = self.program.run(["--any-length", "--json", held, "-"], MANY)["stdout"].splitlines()
         for count in COUNTS:
             lines = [line for it in self.reports(count, ["--json"], held, MANY) for line in it["stdout"].splitlines()]
-            packets = sorted((it for it in lines if b'"number"' in it), key=lambda it: json.loads(it)["number"])
-            self.compare({"packets": packets}, {"packets": [it for it in whole if b'"number"' in it]}, count)
+            packets = sorted((it for it in lines if b'"packet":' in it), key=lambda it: json.loads(it)["packet"])
+            self.assertEqual(len(packets), 806)
+            self.compare({"packets": packets}, {"packets": [it for it in whole if b'"packet":' in it]}, count)
 
     def test_hits(self):
         """What each rule decided adds up."""
