@@ -1,7 +1,8 @@
 // Searches in a table of many pairs with keys of two words, for bench/measure_large: in a large table of the library for C,
 // or with PEER_RTE in DPDK's rte_hash, with PEER_LFHT in liburcu's cds_lfht. It enters the pairs that it is told to, as
-// many as the table takes, and writes lines: the pairs, what was searched (in bursts: 32 stored keys are looked at ahead, and
-// then each is searched), the threads, the calls of each, the microseconds that they took, and how many found a value.
+// many as the table takes, and writes lines: the pairs, what was searched (in bursts of 32 stored keys: they are looked at
+// ahead, and then each is searched, or DPDK's rte_hash_lookup_bulk_data searches them), the threads, the calls of each, the
+// microseconds that they took, and how many found a value.
 #include <pthread.h>
 #include <stdint.h>
 #include <stdio.h>
@@ -34,6 +35,17 @@ static int enter(const uint64_t *key, uint64_t value) {
 static inline int search(int thread, const uint64_t *key) {
     void *value;
     return (void)thread, rte_hash_lookup_data(table, key, &value) >= 0;
+}
+
+#define IN_BURSTS
+
+static inline uint64_t search_burst(int thread, uint64_t keys[][2]) {
+    const void *places[BURST];
+    void *values[BURST];
+    uint64_t found = 0;
+    for (int k = 0; k < BURST; k++) places[k] = keys[k];
+    rte_hash_lookup_bulk_data(table, places, BURST, &found, values);
+    return (void)thread, (uint64_t)__builtin_popcountll(found);
 }
 
 #elif defined(PEER_LFHT)
@@ -86,8 +98,6 @@ static inline int search(int thread, const uint64_t *key) {
 
 #include "bihash.h"
 
-#define LOOKS_AHEAD
-
 static bihash_handle callers[THREADS];
 
 static int make(uint64_t pairs) {
@@ -109,6 +119,17 @@ static int enter(const uint64_t *words, uint64_t value) {
 static inline int search(int thread, const uint64_t *words) {
     bihash_key key = key_of(words);
     return bihash_search_wait(&callers[thread], &key).kind == BIHASH_FOUND;
+}
+
+#define IN_BURSTS
+
+static inline uint64_t search_burst(int thread, uint64_t words[][2]) {
+    bihash_key keys[BURST];
+    uint64_t found = 0;
+    for (int k = 0; k < BURST; k++) keys[k] = key_of(words[k]);
+    bihash_look_ahead(&callers[thread], keys, BURST);
+    for (int k = 0; k < BURST; k++) found += bihash_search_wait(&callers[thread], &keys[k]).kind == BIHASH_FOUND;
+    return found;
 }
 
 #endif
@@ -142,14 +163,12 @@ static void work(struct share *share) {
     }
 }
 
-#ifdef LOOKS_AHEAD
+#ifdef IN_BURSTS
 static void work_in_bursts(struct share *share) {
-    bihash_handle *caller = &callers[share->thread];
-    bihash_key keys[BURST];
+    uint64_t keys[BURST][2];
     for (uint64_t i = 0; i < share->calls; i += BURST) {
-        for (int k = 0; k < BURST; k++) next_key(share, keys[k].words);
-        bihash_look_ahead(caller, keys, BURST);
-        for (int k = 0; k < BURST; k++) share->found += bihash_search_wait(caller, &keys[k]).kind == BIHASH_FOUND;
+        for (int k = 0; k < BURST; k++) next_key(share, keys[k]);
+        share->found += search_burst(share->thread, keys);
     }
 }
 #else
@@ -192,7 +211,7 @@ int main(int count, char **words) {
     }
     for (int threads = 1; threads <= THREADS; threads += THREADS - 1) {
         if (line(entered, threads, "hit", 0, 0) || line(entered, threads, "absent", ABSENT, 0)) return 1;
-#ifdef LOOKS_AHEAD
+#ifdef IN_BURSTS
         if (line(entered, threads, "bursts", 0, 1)) return 1;
 #endif
     }
