@@ -26,6 +26,8 @@ prove:
 
 bench: build
 	@bench/measure_filter ./racl quick
+	@bench/measure_sizes ./racl quick
+	@bench/measure_live ./racl quick
 
 # What is built is installed, and what isn't is told.
 install:
