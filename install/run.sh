@@ -6,7 +6,7 @@ run() {
     # block of 128 KiB and more, so that the peak is lower. What the user asks of it stands after that, and counts.
     export GLIBC_TUNABLES="glibc.malloc.hugetlb=1:glibc.malloc.mmap_threshold=131072${GLIBC_TUNABLES:+:$GLIBC_TUNABLES}"
     case " $* " in
-        " $1 diff "*" - "* | *" --live "*" - "* | *" - "*" --live "* | *" --any-length "*" - "* | *" - "*" --any-length "*) run_live "$@" ;;
+        " $1 diff "*" - "* | *" --live "*" - "* | *" - "*" --live "* | *" --any-length "*" - "* | *" - "*" --any-length "* | *" --shard"[\ =]*" - "* | *" - "*" --shard"[\ =]*) run_live "$@" ;;
         *) exec "$@" ;;
     esac
 }

@@ -2,7 +2,7 @@
 import os
 
 from support.captures import (CAPTURE, DEFAULTS, MOST_BYTES, MOST_KEPT, NAMES, OTHERS, PUT_TOGETHER, REFLECTED, RULES, header,
-                              parts_of, record, udp)
+                              parts_of, record, report_of, udp)
 from support.cases import TOP, Case, bytes_of_file, each, names_in, wanted
 
 SWAPPED = "racl: the file that is named as the policy is a capture; its words are: POLICY CAPTURE\n"
@@ -114,6 +114,19 @@ class Files(Case):
     def test_frames_of_other_stations(self):
         foreign = f"racl: {self.policy}: none of the first frames of interface 0 is from or to the address of its mac line\n"
         self.compare(self.run_on(NAMES.replace(b":01", b":09"), CAPTURE), wanted(DEFAULTS, foreign))
+
+    def test_frames_of_the_same_host(self):
+        """The second frame is from the host's IP address, by another Ethernet address than its own. The fourth one is to the own address,
+        as those are that a router is to forward; no host has 0.0.0.0."""
+        ends = (1, 1000), (2, 53)
+        other = udp(100, False, *ends).replace(b"\x02\0\0\0\0\x01\x02\0\0\0\0\x02", b"\x02\0\0\0\0\x02\x02\0\0\0\0\x03")
+        frames = [udp(100, True, *ends), other, udp(100, False, *reversed(ends)), udp(100, False, (1, 7), (2, 7)),
+                  *(udp(100, it, (7, 68), (9, 67)).replace(b"\x0a\0\0\x07", bytes(4)) for it in (True, False))]
+        capture = header() + b"".join(frames)
+        report = report_of(["pass rule 1 reflect", "pass session", "pass session", *["drop default"] * 3])
+        said = (f"racl: {self.policy}: interface 0: 1 of the first frames come in from an IP address from which others go out; "
+                "a host of several Ethernet addresses has one mac line\n")
+        self.compare(self.run_on(NAMES, capture), wanted(report, said))
 
     def test_frame_of_another_station_to_all(self):
         got = self.run_on(NAMES.replace(b":01", b":09"), header() + record(1, b"\xff" * 6 + CAPTURE[24 + 16 + 6:24 + 16 + 60]))

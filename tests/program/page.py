@@ -50,6 +50,9 @@ class Page(Case):
         self.compare(page["totals"], {"packets": spaced(totals["packets"]), "passed": spaced(totals["pass"]),
                                       "dropped": spaced(totals["drop"])}, "totals")
         self.compare({"rules": page["rows"][:len(rules)]}, {"rules": rules})
+        texts = [it["text"] for it in told if "line" in it and "packets" in it]
+        rows = shown(page_of([], report["stdout"])["stdout"])["rows"]
+        self.compare({"texts": [it[3] for it in rows[:len(rules)]]}, {"texts": texts}, "without the policy")
         behind = [[it[0], it[2]] for it in page["rows"][len(rules):len(rules) + len(reasons)]]
         self.compare({"verdicts": behind}, {"verdicts": reasons})
 

@@ -3,6 +3,19 @@ from program.inputs import WRONG_LINES
 from support.captures import CAPTURE, MOST_BYTES, NAMES
 from support.cases import TOP, Case, each, names_in, wanted
 
+EXPANDED = "remark: line %d is of a form that racl expand takes; a policy that is read is made by: racl expand IN > OUT\n"
+NO_START, NO_PREFIX = "begins no line: in, out, mac and interface do", "is neither `any` nor an address or a prefix of one"
+
+# Lines that `racl expand` takes or doesn't, each as the third of a policy, and what is told of it.
+FOR_EXPAND = [(line, f"line 3: `{word}` {reason}\n{EXPANDED % 3 if is_taken else ''}no policy: wrong lines 1\n".encode())
+              for line, word, reason, is_taken in (
+    ("include office.names", "include", NO_START, True), ("include a b", "include", NO_START, False),
+    ("set web", "set", NO_START, False), ("out deny ipv6 @web any", "@web", NO_PREFIX, True),
+    ("in deny ipv4 any 10.0.0.1,10.0.0.2", "10.0.0.1,10.0.0.2", NO_PREFIX, True),
+    ("in deny ipv4 any any tcp,udp", "tcp,udp", "is no protocol: any, tcp, udp, icmp or a number up to 255", True),
+    ("deny in ip any any", "deny", NO_START, False), ("in deny ip any", "ip", "is no family: ipv4 or ipv6", False),
+    ("in deny,permit ipv4 any any", "deny,permit", "is no action: deny, permit or permit+reflect", False))]
+
 # Runs of the word `check`: name, words, standard input, what is told, what is said, and the status.
 CHECKS = [
     ("check of a file that isn't there", ["check", "/nowhere"], b"", b"", "racl: /nowhere: No such file or directory (os error 2)\n", 4),
@@ -21,6 +34,12 @@ CHECKS = [
     *((f"check of {code}", ["check", "-"], mark + NAMES.decode().encode(code),
        b"line 1 is not UTF-8\nremark: the file is UTF-16; a policy that is read is made by: iconv -f UTF-16 -t UTF-8 IN > OUT\n"
        b"no policy: wrong lines 1\n", "", 1) for code, mark in (("UTF-16-LE", b"\xff\xfe"), ("UTF-16-BE", b"\xfe\xff"))),
+    ("check of a text for expand", ["check", "-"], b"# sets\nset web 192.0.2.10\nin permit ip any @web tcp dport 80,443\n",
+     b"line 2: `set` begins no line: in, out, mac and interface do\nline 3: `ip` is no family: ipv4 or ipv6\n"
+     b"remark: line 2 is of a form that racl expand takes; a policy that is read is made by: racl expand IN > OUT\n"
+     b"no policy: wrong lines 2\n", "", 1),
+    *((f"check of `{line}`", ["check", "-"], f"mac 02:00:00:00:00:01\n\n{line} # an @ and a comma, here\n".encode(), told, "", 1)
+      for line, told in FOR_EXPAND),
     ("help of check", ["check", "--help"], b"", None, "", 0),
 ]
 
@@ -37,10 +56,12 @@ class PolicyChecks(Case):
     def wrong_lines(self, line):
         """Each line that a run refuses is complained of with a reason."""
         got = self.program.run(["check", "-"], b"mac 02:00:00:00:00:01\n" + line.encode())
-        first, *rest = got["stdout"].decode().split("\n")
+        first, rest = got["stdout"].decode().split("\n", 1)
+        is_taken = " ip " in line or "," in line
         self.compare({"status": got["status"], "number": first.split(":")[0].split(" ends")[0], "rest": rest,
                       "unexplained": "is of no form" in first},
-                     {"status": 1, "number": "line 2", "rest": ["no policy: wrong lines 1", ""], "unexplained": False})
+                     {"status": 1, "number": "line 2", "rest": f"{EXPANDED % 2 if is_taken else ''}no policy: wrong lines 1\n",
+                      "unexplained": False})
 
     @each((f"policy of {it}", it) for it in names_in("examples", ".policy"))
     def examples(self, name):

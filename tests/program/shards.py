@@ -1,4 +1,5 @@
-"""Shards of a capture: all packets' lines with their numbers, and totals and counts that add up to those of a run on all of it."""
+"""Shards of a capture: all packets' lines with their numbers, totals and counts that add up to those of a run on all of it, and saved
+packets that are together those of that run."""
 import collections
 import json
 import re
@@ -8,8 +9,8 @@ from support.captures import NAMES, header, parts_of, record, udp
 from support.cases import TOP, Case, bytes_of_file, each, names_in, wanted
 
 COUNTS = 1, 2, 3, 8
-UNCLEAR = "racl: --shard K/N stands first, with decimal numbers, K from 1 to N, and N at most 1024\n"
-MISFIT = "racl: --shard needs POLICY CAPTURE, and goes with none of --live, --expect, --drops and --passes\n"
+UNCLEAR = b"error: --shard takes K/N, decimal numbers with K from 1 to N, and N at most 1024\n"
+MISFIT = b"error: --shard needs POLICY CAPTURE, and goes with neither --live nor --expect\n"
 
 # Requests of 97 ends and their answers, frames of no flow, and a capture that is cut.
 MANY = header() + b"".join(udp(100 + n // 50, way, *ends) for n in range(400)
@@ -33,6 +34,22 @@ def counts(reports):
         for before, count, behind in re.findall(rb"^(.+ packets )(\d+)(.*)$", report, re.M):
             found[before + behind] += int(count)
     return found
+
+
+def packets_of(capture):
+    """The records behind a capture's header, as they stand there; none of an empty file."""
+    records, place = [], 24
+    while place < len(capture):
+        size = 16 + int.from_bytes(capture[place + 8:place + 12], "little")
+        records.append(capture[place:place + size])
+        place += size
+    return records
+
+
+def is_within(some, many):
+    """Whether some stand in this order among many."""
+    left = iter(many)
+    return not [it for it in some if it not in left]
 
 
 class Shards(Case):
@@ -87,9 +104,35 @@ class Shards(Case):
             lines = [line for it in self.reports(count, words, held, MANY) for line in it["stdout"].splitlines()[1:]]
             self.compare({"sessions": sorted(lines)}, {"sessions": sorted(whole)}, count)
 
+    def test_saved(self):
+        """Each file is a capture of the shard's packets, in their order; those of all shards hold the packets of the one run's."""
+        held, read = self.hold("policy", NAMES), self.hold("capture", MANY)
+        whole, _ = self.saved("--any-length", held, read)
+        for count in COUNTS:
+            found = [], []
+            for shard in range(1, count + 1):
+                saved, totals = self.saved(held, read, "--shard", f"{shard}/{count}")
+                self.compare({"totals": [len(it) for it in saved]}, {"totals": totals}, shard, count)
+                self.compare({"order": [is_within(*it) for it in zip(saved, whole)]}, {"order": [True, True]}, shard, count)
+                for packets, more in zip(found, saved):
+                    packets += more
+            self.compare({"packets": [sorted(it) for it in found]}, {"packets": [sorted(it) for it in whole]}, count)
+
+    def saved(self, *words):
+        """The packets that a run saved, those that pass and those that were dropped, and their totals."""
+        names = [f"{self.folder}/{it}" for it in ("passes", "drops")]
+        report = self.program.run(["--summary", f"--passes={names[0]}", f"--drops={names[1]}", *words])["stdout"]
+        totals = [int(it) for it in re.search(rb"pass (\d+) drop (\d+)", report).groups()]
+        return [packets_of(bytes_of_file(it)) for it in names], totals
+
     def test_wrong_words(self):
-        for word in "", "1", "0/2", "3/2", "1/0", "1/1025", "1/2/3", "a/2", "1/+2", "1.0/2":
-            self.compare(self.program.run(["--shard", word, "policy", "capture"]), wanted(stderr=UNCLEAR, status=2), word)
-        self.compare(self.program.run(["--shard"]), wanted(stderr=UNCLEAR, status=2))
-        for words in ["--live", "p", "c"], ["--drops=d", "p", "c"], ["--passes=d", "p", "c"], ["--expect=e", "p", "c"], [], ["--interface", "1=c", "p"]:
-            self.compare(self.program.run(["--shard", "1/2", *words]), wanted(stderr=MISFIT, status=2), *words)
+        for word in "1", "0/2", "3/2", "1/0", "1/1025", "1/2/3", "a/2", "1/+2", "1.0/2":
+            self.refused(UNCLEAR, "--shard", word, "policy", "capture")
+        self.refused(b"a value is required for '--shard <K/N>'", "--shard")
+        for words in ["--live", "p", "c"], ["--expect=e", "p", "c"], [], ["--interface", "1=c", "p"]:
+            self.refused(MISFIT, "--shard", "1/2", *words)
+        self.refused(MISFIT, "p", "c", "--live", "--shard=1/2")
+
+    def refused(self, said, *words):
+        ran = self.program.run([*words])
+        self.compare({"status": ran["status"], "said": said in ran["stderr"]}, {"status": 2, "said": True}, *words)

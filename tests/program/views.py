@@ -2,9 +2,10 @@
 sessions the same as lines do."""
 import ipaddress
 import json
+import struct
 
 from program.hits import HITS
-from support.captures import parts_of, report_of
+from support.captures import CAPTURE, parts_of, report_of
 from support.cases import FEWER_LINES, TOP, Case, bytes_of_file, each, kept, names_in, wanted
 from support.large_inputs import many_flows
 
@@ -85,7 +86,10 @@ class Views(Case):
         policy, captures = parts_of(data)
         for workers in ("1", "4"):
             got = self.program.run(["--json", *MORE, "--workers", workers], data)
-            lines = [lines_of(json.loads(it), policy, captures[0][0] is not None) for it in got["stdout"].splitlines()]
+            objects = [json.loads(it) for it in got["stdout"].splitlines()]
+            lines = [lines_of(it, policy, captures[0][0] is not None) for it in objects]
+            self.compare({"texts": [it.get("text") for it in objects]},
+                         {"texts": [rule_in(policy, it["line"]) if "line" in it else None for it in objects]})
             plain, explained = (("".join(f"{''.join(it[:count])}\n" for it in lines)).encode() for count in (1, 2))
             self.compare({**got, "stdout": plain}, report, "--json", f"{workers} workers")
             got = self.program.run(["--explain", *MORE, "--workers", workers], data)
@@ -108,6 +112,28 @@ class Views(Case):
             b"1 pass rule 2 | interface 0 in time 100 tcp 10.0.0.1 port 5000 to 192.0.2.10 port 22 flags 02"
             b" | line 3 in permit ipv4 any 192.0.2.10 tcp dport 22 # " + written.encode() + b":4 # name: web and ssh\n"
             b"packets 1 pass 1 drop 0\n"))
+
+    @each([("low byte first", "<", 0xa1b2c3d4, 1), ("high byte first", ">", 0xa1b2c3d4, 1),
+           ("nanoseconds, low byte first", "<", 0xa1b23c4d, 1000), ("nanoseconds, high byte first", ">", 0xa1b23c4d, 1000)])
+    def microseconds(self, order, magic, parts):
+        """Objects have the microsecond of each packet, by what the capture's magic number says of its records."""
+        micros = [0, 1, 999, 1000, 999_999, 1_000_001, 4_294_966]
+        policy = self.hold("policy", b"in permit ipv4 any any\n")
+        capture = struct.pack(f"{order}IHHIIII", magic, 2, 4, 0, 0, 65535, 1)
+        capture += b"".join(struct.pack(f"{order}IIII", 7, it * parts + parts - 1, 14, 14) + bytes(14) for it in micros)
+        got = self.program.run(["--json", policy, self.hold("capture", capture)])
+        told = [json.loads(it) for it in got["stdout"].splitlines()]
+        seen = [(it["time"], it["microsecond"]) for it in told if "packet" in it]
+        self.compare({"seen": seen, "status": got["status"]}, {"seen": [(7, it) for it in micros], "status": 0})
+
+    def test_texts_in_objects(self):
+        """A rule's text stands in an object as JSON has it, without a comment that isn't shown, and cut."""
+        for comment, told in ((b'# "a\\b"\tc', 'in deny ipv4 any any # "a\\b"\tc'), ("# ü".encode(), "in deny ipv4 any any"),
+                              (b"#" * 300, "in deny ipv4 any any " + "#" * 179)):
+            policy = self.hold("policy", b"in deny ipv4 any any " + comment + b"\n")
+            got = self.program.run(["--json", "--hits", policy, self.hold("capture", CAPTURE)])
+            texts = [json.loads(it)["text"] for it in got["stdout"].splitlines() if b'"line"' in it]
+            self.compare({"status": got["status"], "texts": texts}, {"status": 0, "texts": [told] * 4}, told)
 
     def test_many_explained_lines(self):
         data, verdicts = many_flows()

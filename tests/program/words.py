@@ -3,8 +3,7 @@ from support.cases import TOP, Case, bytes_of_file, each, wanted
 
 MORE = "\nFor more information, try '--help'.\n"
 USAGE = ("\nUsage: racl [OPTIONS] POLICY CAPTURE\n       racl [OPTIONS] --interface N=CAPTURE .. POLICY\n"
-         "       racl --shard K/N [OPTIONS] POLICY CAPTURE\n       racl [OPTIONS] < INPUT\n       racl check POLICY\n"
-         "       racl expand FILE\n       racl ask [--explain | --expect FILE] POLICY PACKET ..\n       racl diff OLD NEW CAPTURE\n"
+         "       racl [OPTIONS] < INPUT\n       racl check POLICY\n       racl expand FILE\n       racl ask [--explain | --expect FILE] POLICY PACKET ..\n       racl diff OLD NEW CAPTURE\n"
          "       racl compare OLD NEW\n")
 NOT_NAMED = "error: --interface takes N=CAPTURE: the number of an interface, 0 to 255, and its capture\n" + USAGE + MORE
 ONE_STREAM = "error: only one file can be standard input\n" + USAGE + MORE

@@ -148,6 +148,11 @@ module _ (l : Layout) (times : Timeouts) (policy : PolicyFacts) (count shard : �
 
 -- ---- All shards
 
+pub shard_within : (l : Layout) (count n : ℕ) (flow : Option Flow) → 1 ≤ count → (1 ≤ shard_of l count n flow) × (shard_of l count n flow ≤ count)
+shard_within l count n None some = let less : (n - 1) % count < count = mod-lt (n - 1) some in (omega arith, omega (arith, less))
+shard_within l count n (Some flow) some =
+    let less : (home_of l flow.key).bucket % count < count = mod-lt (home_of l flow.key).bucket some in (omega arith, omega (arith, less))
+
 -- each packet is of a shard
 some_owner : (l : Layout) (count : ℕ) (owns : ℕ → Own) → 1 ≤ count → AreOwns l count owns → (n : ℕ) (p : PacketFacts)
     → HasOwner count owns n p
@@ -162,11 +167,6 @@ some_owner l count owns some are n p =
       few = few.1;
       is = are (shard_of l count n flow) few.0 few.1 n p None seen (view_shown p.frame at) ∙ eq-eqb (shard_of l count n flow) (shard_of l count n flow) refl;
     }
-  where
-    shard_within : (l : Layout) (count n : ℕ) (flow : Option Flow) → 1 ≤ count → (1 ≤ shard_of l count n flow) × (shard_of l count n flow ≤ count)
-    shard_within l count n None some = let less : (n - 1) % count < count = mod-lt (n - 1) some in (omega arith, omega (arith, less))
-    shard_within l count n (Some flow) some =
-        let less : (home_of l flow.key).bucket % count < count = mod-lt (home_of l flow.key).bucket some in (omega arith, omega (arith, less))
 
 count_of : (policy : PolicyFacts) (ps : List PacketFacts) (js : List Judged) → AreReadings policy ps (readings_of js) → length js ≡ length ps
 count_of policy [] [] read = refl

@@ -1,4 +1,4 @@
-pub mod ShardWords
+pub mod SharedSaves
 pub mod Sharing
 pub mod Shards
 pub mod inner

@@ -1,5 +1,5 @@
 -- A capture that several machines judge: each judges the packets of one shard (this project's profile).
-use Rattle.std.specs.Prelude.{◌≡◌, ◌+◌, ◌-◌, ◌%◌, ◌==◌, ◌≤◌, ℕ, Bool, if◌then◌else◌, List, [], ◌∷◌, Option, Some, None, length}
+use Rattle.std.specs.Prelude.{◌≡◌, ◌+◌, ◌-◌, ◌%◌, ◌==◌, ◌≤◌, ℕ, zero, suc, Bool, if◌then◌else◌, List, [], ◌∷◌, Option, Some, None, length}
 use Rattle.packet_view.specs.Captures.{PacketFacts}
 use Rattle.packet_view.specs.Frames.{FrameFacts}
 use Rattle.packet_view.specs.declared.tuple.Mac.{Mac}
@@ -11,6 +11,7 @@ use Rattle.session_state.specs.declared.verdict.Verdict.{Verdict}
 use Rattle.flow_filter.specs.OneThread.{AreVerdicts, Layout, home_of}
 use Rattle.flow_filter.specs.Readings.{IsSeenAt}
 use Rattle.packet_dealing.specs.Dealings.{flow_of_frame}
+use Rattle.racl_io.specs.Reports.{dropped, passed, without_pages}
 use Rattle.capture_shards.specs.declared.shard.Shard.{Shard}
 
 -- Of so many shards that of the packet with this number and this flow, or none; packets and shards have numbers from 1. A flow's
@@ -59,3 +60,15 @@ AreShardVerdicts l times policy packets count owns said = (shard : ℕ) → 1 �
 pub record AreMerged (packets : List PacketFacts) (count : ℕ) (owns : ℕ → Own) (said : ℕ → List Verdict) (verdicts : List Verdict) : Type 0 where
   pub each : length verdicts ≡ length packets
   pub at_places : (shard : ℕ) → 1 ≤ shard → shard ≤ count → own_in (owns shard) 1 packets verdicts ≡ said shard
+
+-- what there is of each of so many shards, in all
+abbrev pub over_shards : ℕ → (ℕ → ℕ) → ℕ
+over_shards zero each = 0
+over_shards (suc count) each = over_shards count each + each (suc count)
+
+-- over the verdicts of all shards there are together as many packets, that pass, are dropped, or lack pages, as over these
+pub record AddUp (count : ℕ) (said : ℕ → List Verdict) (verdicts : List Verdict) : Type 0 where
+  pub all : length verdicts ≡ over_shards count (λ shard. length (said shard))
+  pub passing : passed verdicts ≡ over_shards count (λ shard. passed (said shard))
+  pub dropping : dropped verdicts ≡ over_shards count (λ shard. dropped (said shard))
+  pub lacking : without_pages verdicts ≡ over_shards count (λ shard. without_pages (said shard))

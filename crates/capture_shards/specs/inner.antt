@@ -1,2 +1,3 @@
+pub mod FrontRecords
 pub mod OwnTests
 pub mod Spreads

@@ -1,16 +1,6 @@
 //! Shards of a capture.
 ghost use Rattle.std.specs.Prelude.{◌<◌, ◌≤◌};
 
-/// Which of the shards of a capture is asked for.
-#[derive(Clone, Copy, Debug, PartialEq, Eq)]
-pub struct ShardAsked {
-    /// From 1.
-    pub number: u64,
-    /// How many there are.
-    pub count: u64,
-    pub ghost some: { (1 ≤ number) × (1 ≤ count) },
-}
-
 /// One of the shards of a capture, and the tables by whose buckets flows fall to shards.
 #[derive(Clone, Copy, Debug, PartialEq, Eq)]
 pub struct Shard {

@@ -7,7 +7,7 @@ ghost use Rattle.acl_policy.specs.Policies.{PolicyFacts};
 ghost use Rattle.session_state.specs.declared.timeouts.Timeouts.{Timeouts};
 ghost use Rattle.session_state.specs.declared.verdict.Verdict.{Verdict};
 ghost use Rattle.flow_filter.specs.OneThread.{AreVerdicts, Layout};
-ghost use Rattle.capture_shards.specs.Shards.{AreMerged, AreOwns, AreShardVerdicts, IsOwnOf, Own, own_in, own_packets};
+ghost use Rattle.capture_shards.specs.Shards.{AddUp, AreMerged, AreOwns, AreShardVerdicts, IsOwnOf, Own, own_in, own_packets};
 
 /// The verdicts of the one-thread filter on a shard's packets alone are those that it gives to them among all packets.
 pub fn a_shard_is_judged_as_in_the_whole()
@@ -20,7 +20,7 @@ pub fn a_shard_is_judged_as_in_the_whole()
 {}
 
 /// The verdicts of the one-thread filter on the packets of each shard alone, put back at the places of their packets, are those on
-/// all packets; and they can be put back so.
+/// all packets; they can be put back so; and of these the totals are those of all shards, added up.
 pub fn shards_give_one_report()
     ensures merged { (l : Layout) (times : Timeouts) (policy : PolicyFacts) (packets : List PacketFacts) (count : ℕ) (owns : ℕ → Own) (said : ℕ → List Verdict) (verdicts : List Verdict)
         → 1 ≤ count → AreOwns l count owns → AreShardVerdicts l times policy packets count owns said
@@ -28,4 +28,6 @@ pub fn shards_give_one_report()
     ensures some { (l : Layout) (times : Timeouts) (policy : PolicyFacts) (packets : List PacketFacts) (count : ℕ) (owns : ℕ → Own) (said : ℕ → List Verdict)
         → 1 ≤ count → AreOwns l count owns → AreShardVerdicts l times policy packets count owns said
         → (verdicts : List Verdict) × AreMerged packets count owns said verdicts }
+    ensures totals { (l : Layout) (packets : List PacketFacts) (count : ℕ) (owns : ℕ → Own) (said : ℕ → List Verdict) (verdicts : List Verdict)
+        → 1 ≤ count → AreOwns l count owns → AreMerged packets count owns said verdicts → AddUp count said verdicts }
 {}

@@ -59,11 +59,12 @@ impl<A: Shape, B: Shape> Judge<A, B> {
     #[inline(always)]
     pub fn judge(&mut self, interface: u8, moment: u32, frame: &[u8]) -> Result<Judged, Contended>
         ensures { TellsJudged ⟦<A as Shape>⟧ ⟦<B as Shape>⟧
-            (record { interface = interface; moment = moment; frame = frame.now }) self.old self.new result }
+            (record { interface = interface; moment = moment; micros = 0; frame = frame.now }) self.old self.new result }
     {
         let packet = Packet {
             interface,
             moment,
+            micros: 0,
             frame,
         };
         let own = self.own_at(interface);

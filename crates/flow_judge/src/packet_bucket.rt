@@ -52,6 +52,7 @@ pub fn flow_bucket<A: Shape, B: Shape>(interface: u8, frame: &[u8]) -> Option<Fl
     let seen = see_other::<A, B>(Packet {
         interface,
         moment: 0,
+        micros: 0,
         frame,
     });
     let hash = seen.hashed.hash;

@@ -455,8 +455,8 @@ pub may_place_next : (run : RunFacts) (traces : List (List Item)) (gone : LetGo)
 may_place_next run traces gone all workers old placed k w may count below this before =
     let at = length old.verdicts + k in
     let inside : at < length run.packets = let i = may.judges.inside in omega arith in
-    let packet : PacketFacts = get_or run.packets at (record { interface = 0; moment = 0; frame = [] }) in
-    let stands = slice_get-get_or run.packets at (record { interface = 0; moment = 0; frame = [] }) inside in
+    let packet : PacketFacts = get_or run.packets at (record { interface = 0; moment = 0; micros = 0; frame = [] }) in
+    let stands = slice_get-get_or run.packets at (record { interface = 0; moment = 0; micros = 0; frame = [] }) inside in
     let at_own : Interface = record { number = packet.interface; own = (section_of packet.interface run.policy).own } in
     next_is run traces gone all may.told placed before w packet (view_of packet.frame at_own)
     (record {

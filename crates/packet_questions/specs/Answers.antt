@@ -39,7 +39,7 @@ asked_facts a = record { question = question_facts a.question; frame = a.frame.i
 
 -- the packet as it is seen
 abbrev pub packet_asked : AskedFacts → PacketFacts
-packet_asked a = record { interface = a.question.tuple.interface; moment = a.question.moment; frame = a.frame }
+packet_asked a = record { interface = a.question.tuple.interface; moment = a.question.moment; micros = 0; frame = a.frame }
 
 -- at its interface the frame says what the words say
 abbrev pub IsSeenAsked : PolicyFacts → AskedFacts → Type 0

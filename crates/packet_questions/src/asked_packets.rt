@@ -83,6 +83,7 @@ pub fn packets_of(alloc: Global, asked: &[AskedPacket]) -> Result<Vec<Packet<'_>
         packets.push(Packet {
             interface: one.question.tuple.interface,
             moment: one.question.moment,
+            micros: 0,
             frame: &one.frame,
         })?;
     }

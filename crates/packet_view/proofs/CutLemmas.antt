@@ -1,5 +1,5 @@
 -- A capture has one reading, and cut anywhere after its header it is a capture of the front of its packets.
-use Rattle.std.proofs.Common.{◌≡◌, ◌∙◌, ◌≤◌, ◌<◌, ◌+◌, ◌-◌, ℕ, List, [], ◌∷◌, ◌++◌, length, take, drop, refl, sym, ap, subst, inl, inr, arith, append_assoc}
+use Rattle.std.proofs.Common.{◌≡◌, ◌∙◌, ◌≤◌, ◌<◌, ◌+◌, ◌-◌, ℕ, List, [], ◌∷◌, ◌++◌, length, take, drop, refl, sym, ap, subst, inl, inr, ◌⊎◌, arith, append_assoc}
 use Rattle.std.proofs.lemmas.Bool.{cases_lt, cases_eq}
 use Rattle.std.proofs.lemmas.List.{drop-take, length-append, length-take-le, nil_from_length, take-append-drop, take_all}
 use Rattle.std.proofs.Math.Seq.{take-append-add, take-length}
@@ -7,25 +7,38 @@ use Rattle.std.proofs.Math.Numerals.{add-one}
 use Rattle.packet_view.specs.declared.capture.CaptureFault.{CaptureFault}
 use Rattle.packet_view.specs.declared.capture.CaptureFault.TheVariants as fault
 use Rattle.packet_view.specs.declared.capture.Order.{Order}
-use Rattle.packet_view.specs.declared.capture.Order.TheVariants.{Little, Big}
+use Rattle.packet_view.specs.declared.capture.Order.TheVariants.{Little, LittleNanos, Big, BigNanos}
 use Rattle.packet_view.specs.Bytes.{AreBytes}
-use Rattle.packet_view.specs.Captures.{AreRecords, End, HasFileHeader, HasMagic, IsCapture, IsCaptureFault, IsEnd, IsHeaderFault, IsRecord, RecordFacts, Truncated, Whole, kept_length, kept_limit, link_type, version}
+use Rattle.packet_view.specs.Captures.{AreRecords, End, HasFileHeader, HasMagic, IsCapture, IsCaptureFault, IsEnd, IsHeaderFault, IsRecord, RecordFacts, Truncated, Whole, kept_length, kept_limit, link_type, number_from, version}
 use Rattle.packet_view.proofs.CaptureLemmas.{IsHeaderOf, ended_accepts, ended_is_right}
 use Rattle.packet_view.proofs.FrontLemmas.{HaveOneHead, head_appended, header_too}
 use Rattle.packet_view.proofs.RecordLemmas.{number_from-append, number_from-take}
 
--- no four bytes are a magic number in both orders
-magic_apart : (bytes : List ℕ) → AreBytes bytes → HasMagic Little bytes → HasMagic Big bytes → ⊥
-magic_apart bytes fits (inl little) (inl big) = omega (arith, fits 0, fits 1, fits 2, fits 3)
-magic_apart bytes fits (inl little) (inr big) = omega (arith, fits 0, fits 1, fits 2, fits 3)
-magic_apart bytes fits (inr little) (inl big) = omega (arith, fits 0, fits 1, fits 2, fits 3)
-magic_apart bytes fits (inr little) (inr big) = omega (arith, fits 0, fits 1, fits 2, fits 3)
+-- no four bytes are a magic number with the low byte first and with the high byte first
+magic_apart : (bytes : List ℕ) (little big : ℕ) → AreBytes bytes → number_from Little 0 4 bytes ≡ little → number_from Big 0 4 bytes ≡ big
+    → (little ≡ 0xa1b2c3d4) ⊎ (little ≡ 0xa1b23c4d) → (big ≡ 0xa1b2c3d4) ⊎ (big ≡ 0xa1b23c4d) → ⊥
+magic_apart bytes little big fits low high (inl one) (inl other) = omega (arith, fits 0, fits 1, fits 2, fits 3)
+magic_apart bytes little big fits low high (inl one) (inr other) = omega (arith, fits 0, fits 1, fits 2, fits 3)
+magic_apart bytes little big fits low high (inr one) (inl other) = omega (arith, fits 0, fits 1, fits 2, fits 3)
+magic_apart bytes little big fits low high (inr one) (inr other) = omega (arith, fits 0, fits 1, fits 2, fits 3)
 
 pub one_order : (bytes : List ℕ) → AreBytes bytes → (order other : Order) → HasMagic order bytes → HasMagic other bytes → order ≡ other
 one_order bytes fits Little Little h g = refl
+one_order bytes fits Little LittleNanos h g = absurd (omega (arith, h, g))
+one_order bytes fits Little Big h g = absurd (magic_apart bytes _ _ fits h g (inl refl) (inl refl))
+one_order bytes fits Little BigNanos h g = absurd (magic_apart bytes _ _ fits h g (inl refl) (inr refl))
+one_order bytes fits LittleNanos Little h g = absurd (omega (arith, h, g))
+one_order bytes fits LittleNanos LittleNanos h g = refl
+one_order bytes fits LittleNanos Big h g = absurd (magic_apart bytes _ _ fits h g (inr refl) (inl refl))
+one_order bytes fits LittleNanos BigNanos h g = absurd (magic_apart bytes _ _ fits h g (inr refl) (inr refl))
+one_order bytes fits Big Little h g = absurd (magic_apart bytes _ _ fits g h (inl refl) (inl refl))
+one_order bytes fits Big LittleNanos h g = absurd (magic_apart bytes _ _ fits g h (inr refl) (inl refl))
 one_order bytes fits Big Big h g = refl
-one_order bytes fits Little Big h g = absurd (magic_apart bytes fits h g)
-one_order bytes fits Big Little h g = absurd (magic_apart bytes fits g h)
+one_order bytes fits Big BigNanos h g = absurd (omega (arith, h, g))
+one_order bytes fits BigNanos Little h g = absurd (magic_apart bytes _ _ fits g h (inl refl) (inr refl))
+one_order bytes fits BigNanos LittleNanos h g = absurd (magic_apart bytes _ _ fits g h (inr refl) (inr refl))
+one_order bytes fits BigNanos Big h g = absurd (omega (arith, h, g))
+one_order bytes fits BigNanos BigNanos h g = refl
 
 pub no_fault : (bytes : List ℕ) → AreBytes bytes → (order : Order) → HasFileHeader order bytes → (found : CaptureFault) → IsHeaderFault bytes found → ⊥
 no_fault bytes fits order header fault.Short short = omega (arith, header.whole, short)
@@ -84,9 +97,9 @@ any_cut_end order rest end kept h =
     ]
 
 -- a cut inside the first record
-cut_first : (order : Order) (header frame others : List ℕ) (moment kept : ℕ) → IsRecord order header (record { moment = moment; frame = frame }) → kept < 16 + length frame
+cut_first : (order : Order) (header frame others : List ℕ) (moment micros kept : ℕ) → IsRecord order header (record { moment = moment; micros = micros; frame = frame }) → kept < 16 + length frame
     → (last : End) × IsEnd order (take kept (header ++ (frame ++ others))) last
-cut_first order header frame others moment kept r less =
+cut_first order header frame others moment micros kept r less =
     let size : length (header ++ (frame ++ others)) ≡ 16 + (length frame + length others) = simp (length-append, r.sixteen) refl in
     let same : kept_length order (header ++ (frame ++ others)) ≡ length frame = number_from-append order 8 4 header (frame ++ others) (omega (arith, r.sixteen)) ∙ sym r.kept in
     short_front order (header ++ (frame ++ others)) kept (omega arith) (λ long. (omega (arith, r.limit), omega arith))
@@ -107,7 +120,7 @@ cut_records order [] bytes rest end kept all stop =
 cut_records order (packet ∷ packets) bytes rest end kept (others, (header, spelt, r), all) stop =
     elim (cases_lt kept (16 + length packet.frame)) [
       | inl less ↦
-          let cut = cut_first order header packet.frame others packet.moment kept r less in
+          let cut = cut_first order header packet.frame others packet.moment packet.micros kept r less in
           (0, take kept (header ++ (packet.frame ++ others)), cut.0, ap (take kept) spelt, cut.1)
       | inr enough ↦
           let more : ℕ = kept - (16 + length packet.frame) in

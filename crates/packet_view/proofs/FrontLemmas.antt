@@ -1,10 +1,10 @@
 -- Whole records and headers stay what they are with more bytes behind them, and whole records follow whole records.
-use Rattle.std.proofs.Common.{◌≡◌, ◌∙◌, ◌≤◌, ◌+◌, ◌%◌, ◌^◌, ◌⊎◌, ℕ, List, [], ◌∷◌, ◌++◌, length, drop, sym, ap, subst, arith, append_assoc}
+use Rattle.std.proofs.Common.{◌≡◌, ◌∙◌, ◌≤◌, ◌+◌, ◌%◌, ◌^◌, ℕ, List, [], ◌∷◌, ◌++◌, length, drop, sym, ap, subst, arith, append_assoc}
 use Rattle.std.proofs.lemmas.List.{drop-append-le, length-append}
 use Rattle.packet_view.specs.declared.capture.CaptureFault.{CaptureFault}
 use Rattle.packet_view.specs.declared.capture.CaptureFault.TheVariants as fault
 use Rattle.packet_view.specs.declared.capture.Order.{Order}
-use Rattle.packet_view.specs.Captures.{AreRecords, HasFileHeader, HasMagic, IsHeaderFault, IsPiece, RecordFacts, Record, number_from}
+use Rattle.packet_view.specs.Captures.{AreRecords, HasFileHeader, HasMagic, IsHeaderFault, IsPiece, RecordFacts, Record, magic_of, number_from}
 use Rattle.packet_view.proofs.CaptureLemmas.{IsHeaderOf}
 use Rattle.packet_view.proofs.RecordLemmas.{number_from-append}
 
@@ -46,7 +46,7 @@ head_appended bytes more long = record {
 }
 
 magic_too : (bytes others : List ℕ) → HaveOneHead bytes others → (order : Order) → HasMagic order bytes → HasMagic order others
-magic_too bytes others head order = subst (λ (n : ℕ). (n ≡ 0xa1b2c3d4) ⊎ (n ≡ 0xa1b23c4d)) (head.same order 0 4 (omega arith))
+magic_too bytes others head order = subst (λ (n : ℕ). n ≡ magic_of order) (head.same order 0 4 (omega arith))
 
 pub header_too : (bytes others : List ℕ) → HaveOneHead bytes others → (order : Order) → HasFileHeader order bytes → HasFileHeader order others
 header_too bytes others head order header = record {

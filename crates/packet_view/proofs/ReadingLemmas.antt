@@ -5,9 +5,9 @@ use Rattle.std.proofs.lemmas.List.{length-append}
 use Rattle.packet_view.specs.declared.capture.CaptureFault.{CaptureFault}
 use Rattle.packet_view.specs.declared.capture.CaptureFault.TheVariants as fault
 use Rattle.packet_view.specs.declared.capture.Order.{Order}
-use Rattle.packet_view.specs.declared.capture.Order.TheVariants.{Little, Big}
+use Rattle.packet_view.specs.declared.capture.Order.TheVariants.{Little, LittleNanos, Big, BigNanos}
 use Rattle.packet_view.specs.Bytes.{AreBytes}
-use Rattle.packet_view.specs.Captures.{AreRecords, Cut, End, HasFileHeader, HasMagic, IsCapture, IsCaptureFault, IsEnd, IsHeaderFault, IsPiece, IsTooLong, Nothing, PieceFacts, Record, RecordFacts, TooLong, Truncated, Whole, link_type, number_from, version}
+use Rattle.packet_view.specs.Captures.{AreRecords, Cut, End, HasFileHeader, HasMagic, IsCapture, IsCaptureFault, IsEnd, IsHeaderFault, IsPiece, IsTooLong, Nothing, PieceFacts, Record, RecordFacts, TooLong, Truncated, Whole, link_type, magic_of, number_from, version}
 use Rattle.packet_view.specs.inner.RecordSteps.{part_of}
 use Rattle.packet_view.proofs.CaptureLemmas.{fault_of_header, long_refuses}
 use Rattle.packet_view.proofs.CutLemmas.{header_of, no_fault, one_order}
@@ -28,29 +28,39 @@ after_magic bytes order long magic =
     ]
 
 magic_or_none : (order : Order) (bytes : List ℕ) → HasMagic order bytes ⊎ (HasMagic order bytes → ⊥)
-magic_or_none order bytes =
-    elim (cases_eq (number_from order 0 4 bytes) 0xa1b2c3d4) [
-      | inl micro ↦ inl (inl micro)
-      | inr other ↦ elim (cases_eq (number_from order 0 4 bytes) 0xa1b23c4d) [
-        | inl nano ↦ inl (inr nano)
-        | inr none ↦ inr (λ magic. elim magic [ inl micro ↦ other micro | inr nano ↦ none nano ])
+magic_or_none order bytes = cases_eq (number_from order 0 4 bytes) (magic_of order)
+
+no_magic : (bytes : List ℕ) → (HasMagic Little bytes → ⊥) → (HasMagic LittleNanos bytes → ⊥) → (HasMagic Big bytes → ⊥) → (HasMagic BigNanos bytes → ⊥)
+    → (order : Order) → HasMagic order bytes → ⊥
+no_magic bytes little little_nanos big big_nanos Little magic = little magic
+no_magic bytes little little_nanos big big_nanos LittleNanos magic = little_nanos magic
+no_magic bytes little little_nanos big big_nanos Big magic = big magic
+no_magic bytes little little_nanos big big_nanos BigNanos magic = big_nanos magic
+
+-- one of the orders has its magic number there, or none has
+some_magic : (bytes : List ℕ) → ((order : Order) × HasMagic order bytes) ⊎ ((order : Order) → HasMagic order bytes → ⊥)
+some_magic bytes =
+    elim (magic_or_none Little bytes) [
+      | inl magic ↦ inl (Little, magic)
+      | inr little ↦ elim (magic_or_none LittleNanos bytes) [
+        | inl magic ↦ inl (LittleNanos, magic)
+        | inr little_nanos ↦ elim (magic_or_none Big bytes) [
+          | inl magic ↦ inl (Big, magic)
+          | inr big ↦ elim (magic_or_none BigNanos bytes) [
+            | inl magic ↦ inl (BigNanos, magic)
+            | inr big_nanos ↦ inr (no_magic bytes little little_nanos big big_nanos)
+          ]
+        ]
       ]
     ]
-
-no_magic : (bytes : List ℕ) → (HasMagic Little bytes → ⊥) → (HasMagic Big bytes → ⊥) → (order : Order) → HasMagic order bytes → ⊥
-no_magic bytes little big Little magic = little magic
-no_magic bytes little big Big magic = big magic
 
 pub header_or_fault : (bytes : List ℕ) → HasHeaderOrFault bytes
 header_or_fault bytes =
     elim (cases_lt (length bytes) 24) [
       | inl short ↦ inr (fault.Short, short)
-      | inr long ↦ elim (magic_or_none Little bytes) [
-        | inl magic ↦ after_magic bytes Little long magic
-        | inr little ↦ elim (magic_or_none Big bytes) [
-          | inl magic ↦ after_magic bytes Big long magic
-          | inr big ↦ inr (fault.Magic, (long, no_magic bytes little big))
-        ]
+      | inr long ↦ elim (some_magic bytes) [
+        | inl magic ↦ after_magic bytes magic.0 long magic.1
+        | inr none ↦ inr (fault.Magic, (long, none))
       ]
     ]
 

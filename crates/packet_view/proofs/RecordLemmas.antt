@@ -4,22 +4,33 @@ use Rattle.std.proofs.lemmas.List.{drop-drop, drop-append-le, drop_at, length-ap
 use Rattle.std.proofs.lemmas.Grind.{common_steps}
 use Rattle.std.proofs.lemmas.Bool.{cond_both, eqb-true, ltb-true, ltb-false}
 use Rattle.std.proofs.lemmas.Bool.Decides.{nat_tests}
+use Rattle.byteorder.specs.Endian.{big_number, little_number}
 use Rattle.byteorder.specs.Numbers.{big_from-append, little_from-append}
 use Rattle.packet_view.specs.declared.capture.Order.{Order}
-use Rattle.packet_view.specs.declared.capture.Order.TheVariants.{Little, Big}
-use Rattle.packet_view.specs.Captures.{AreRecords, IsPiece, IsRecord, PieceFacts, Record, Nothing, Cut, TooLong, RecordFacts, kept_length, kept_limit, number_from}
+use Rattle.packet_view.specs.declared.capture.Order.TheVariants.{Little, LittleNanos, Big, BigNanos}
+use Rattle.packet_view.specs.Captures.{AreRecords, IsPiece, IsRecord, PieceFacts, Record, Nothing, Cut, TooLong, RecordFacts, kept_length, kept_limit, micros_in, micros_of, number_from}
 use Rattle.packet_view.specs.RecordLists.{front_record, record_length}
 use Rattle.packet_view.specs.inner.RecordSteps.{part_of}
+
+little_from_front : (place width : ℕ) (xs ys : List ℕ) → place + width ≤ length xs
+    → little_number width (drop place (xs ++ ys)) ≡ little_number width (drop place xs)
+little_from_front place width xs ys h =
+    let front : width ≤ length (drop place xs) = grind (arith, common_steps) in
+    rw (drop-append-le place xs ys (omega arith)) (little_from-append width (drop place xs) ys front)
+
+big_from_front : (place width : ℕ) (xs ys : List ℕ) → place + width ≤ length xs
+    → big_number width (drop place (xs ++ ys)) ≡ big_number width (drop place xs)
+big_from_front place width xs ys h =
+    let front : width ≤ length (drop place xs) = grind (arith, common_steps) in
+    rw (drop-append-le place xs ys (omega arith)) (big_from-append width (drop place xs) ys front)
 
 -- a number lies in the front that holds its bytes
 pub number_from-append : (order : Order) (place width : ℕ) (xs ys : List ℕ) → place + width ≤ length xs
     → number_from order place width (xs ++ ys) ≡ number_from order place width xs
-number_from-append Little place width xs ys h =
-    let front : width ≤ length (drop place xs) = grind (arith, common_steps) in
-    rw (drop-append-le place xs ys (omega arith)) (little_from-append width (drop place xs) ys front)
-number_from-append Big place width xs ys h =
-    let front : width ≤ length (drop place xs) = grind (arith, common_steps) in
-    rw (drop-append-le place xs ys (omega arith)) (big_from-append width (drop place xs) ys front)
+number_from-append Little place width xs ys h = little_from_front place width xs ys h
+number_from-append LittleNanos place width xs ys h = little_from_front place width xs ys h
+number_from-append Big place width xs ys h = big_from_front place width xs ys h
+number_from-append BigNanos place width xs ys h = big_from_front place width xs ys h
 
 pub number_from-take : (order : Order) (place width n : ℕ) (bytes : List ℕ) → place + width ≤ n → n ≤ length bytes
     → number_from order place width bytes ≡ number_from order place width (take n bytes)
@@ -39,12 +50,14 @@ pub record IsFront (order : Order) (bytes : List ℕ) (packet : RecordFacts) (re
   pub size : length bytes ≡ record_length order bytes + length rest
 
 -- a record that is spelt out is at the front
-spelt_front : (order : Order) (header frame rest : List ℕ) (moment : ℕ) → IsRecord order header (record { moment = moment; frame = frame })
-    → IsFront order (header ++ (frame ++ rest)) (record { moment = moment; frame = frame }) rest
-spelt_front order header frame rest moment r =
+spelt_front : (order : Order) (header frame rest : List ℕ) (moment micros : ℕ) → IsRecord order header (record { moment = moment; micros = micros; frame = frame })
+    → IsFront order (header ++ (frame ++ rest)) (record { moment = moment; micros = micros; frame = frame }) rest
+spelt_front order header frame rest moment micros r =
     let bytes : List ℕ = header ++ (frame ++ rest) in
     let kept : kept_length order bytes ≡ length frame = number_from-append order 8 4 header (frame ++ rest) (omega (arith, r.sixteen)) ∙ sym r.kept in
     let seconds : number_from order 0 4 bytes ≡ moment = number_from-append order 0 4 header (frame ++ rest) (omega (arith, r.sixteen)) ∙ sym r.moment in
+    let fraction : micros_in order bytes ≡ micros =
+    ap (micros_of order) (number_from-append order 4 4 header (frame ++ rest) (omega (arith, r.sixteen))) ∙ sym r.micros in
     let size : length bytes ≡ 16 + (length frame + length rest) = simp (length-append, r.sixteen) refl in
     let behind : drop 16 bytes ≡ frame ++ rest = drop_at header (frame ++ rest) 16 r.sixteen in
     let front : take (kept_length order bytes) (drop 16 bytes) ≡ frame = ap (take (kept_length order bytes)) behind ∙ take_at frame rest (kept_length order bytes) (sym kept) in
@@ -54,7 +67,7 @@ spelt_front order header frame rest moment r =
 
 pub part_front : (order : Order) (bytes : List ℕ) (packet : RecordFacts) (rest : List ℕ) → IsPiece order bytes (Record packet rest) → IsFront order bytes packet rest
 part_front order bytes packet rest (header, spelt, r) =
-    subst (λ (b : List ℕ). IsFront order b packet rest) (sym spelt) (spelt_front order header packet.frame rest packet.moment r)
+    subst (λ (b : List ℕ). IsFront order b packet rest) (sym spelt) (spelt_front order header packet.frame rest packet.moment packet.micros r)
 
 record_is_found : (order : Order) (bytes : List ℕ) (packet : RecordFacts) (rest : List ℕ) → IsPiece order bytes (Record packet rest) → Record packet rest ≡ part_of order bytes
 record_is_found order bytes packet rest is =
@@ -68,18 +81,20 @@ record_is_found order bytes packet rest is =
 
 number_after : (order : Order) (place width : ℕ) (bytes : List ℕ) → number_from order 0 width (drop place bytes) ≡ number_from order place width bytes
 number_after Little place width bytes = refl
+number_after LittleNanos place width bytes = refl
 number_after Big place width bytes = refl
+number_after BigNanos place width bytes = refl
 
 -- a length that was read after the first eight bytes is the one that the record's header says
 pub read_length : (order : Order) (bytes : List ℕ) (kept : ℕ) → kept ≡ number_from order 0 4 (take (length bytes - 8) (drop 8 bytes)) → kept ≡ kept_length order bytes
 read_length order bytes kept said = said ∙ ap (number_from order 0 4) (take_rest bytes 8) ∙ number_after order 8 4 bytes
 
 -- a record that is cut out of the bytes is found
-pub cut_out : (order : Order) (bytes : List ℕ) (kept moment : ℕ) → 16 ≤ length bytes → kept ≡ number_from order 0 4 (take (length bytes - 8) (drop 8 bytes))
-    → kept ≤ kept_limit → kept ≤ length bytes - 16 → moment ≡ number_from order 0 4 bytes
-    → Record (record { moment = moment; frame = take (16 + kept - 16) (drop 16 bytes) }) (take (length bytes - (16 + kept)) (drop (16 + kept) bytes))
+pub cut_out : (order : Order) (bytes : List ℕ) (kept moment micros : ℕ) → 16 ≤ length bytes → kept ≡ number_from order 0 4 (take (length bytes - 8) (drop 8 bytes))
+    → kept ≤ kept_limit → kept ≤ length bytes - 16 → moment ≡ number_from order 0 4 bytes → micros ≡ micros_in order bytes
+    → Record (record { moment = moment; micros = micros; frame = take (16 + kept - 16) (drop 16 bytes) }) (take (length bytes - (16 + kept)) (drop (16 + kept) bytes))
     ≡ part_of order bytes
-cut_out order bytes kept moment long said limit fits seconds =
+cut_out order bytes kept moment micros long said limit fits seconds fraction =
     let same = read_length order bytes kept said in
     let size : 16 + kept - 16 ≡ kept = omega arith in
     let behind : take (length bytes - (16 + kept)) (drop (16 + kept) bytes) ≡ drop (16 + kept) bytes = take_rest bytes (16 + kept) in
@@ -102,10 +117,12 @@ record_shown : (order : Order) (bytes : List ℕ) → 16 ≤ length bytes → ke
 record_shown order bytes long limit fits = (
   take 16 bytes,
   spelt order bytes (kept_length order bytes),
-  let count : length (take (kept_length order bytes) (drop 16 bytes)) ≡ kept_length order bytes = grind (arith, common_steps) in
+  let count : length (take (kept_length order bytes) (drop 16 bytes)) ≡ kept_length order bytes =
+      length-take-le (kept_length order bytes) (drop 16 bytes) (let d = length-drop 16 bytes in omega arith) in
       record {
         sixteen = length-take-le 16 bytes long;
         moment = number_from-take order 0 4 16 bytes (lit≤ tt) long;
+        micros = ap (micros_of order) (number_from-take order 4 4 16 bytes (lit≤ tt) long);
         kept = count ∙ number_from-take order 8 4 16 bytes (lit≤ tt) long;
         limit = omega arith;
       },

@@ -1,31 +1,33 @@
 -- Captures: a header of 24 bytes, and records one after another (the classic pcap format).
-use Rattle.std.specs.Prelude.{◌≡◌, ◌≢◌, ◌≤◌, ◌<◌, ◌⊎◌, ℕ, ◌+◌, ◌%◌, ◌^◌, Bool, true, false, List, [], ◌∷◌, ◌++◌, length, drop, map, Option, Some, None}
+use Rattle.std.specs.Prelude.{◌≡◌, ◌≢◌, ◌≤◌, ◌<◌, ◌⊎◌, ℕ, ◌+◌, ◌/◌, ◌%◌, ◌^◌, Bool, true, false, List, [], ◌∷◌, ◌++◌, length, drop, map, Option, Some, None}
 use Rattle.byteorder.specs.Endian.{big_number, little_number}
 use Rattle.packet_view.specs.declared.capture.Order.{Order}
-use Rattle.packet_view.specs.declared.capture.Order.TheVariants.{Little, Big}
+use Rattle.packet_view.specs.declared.capture.Order.TheVariants.{Little, LittleNanos, Big, BigNanos}
 use Rattle.packet_view.specs.declared.packet.Packet.{Packet}
 use Rattle.packet_view.specs.declared.records_at_front.Piece.{Piece}
 use Rattle.packet_view.specs.declared.records_at_front.Piece.TheVariants as piece
 use Rattle.packet_view.specs.declared.capture.CaptureFault.{CaptureFault}
 use Rattle.packet_view.specs.declared.capture.CaptureFault.TheVariants as fault
 
--- what a record of a capture says
+-- what a record of a capture says: the second, the microsecond within it, and the frame
 pub record RecordFacts : Type 0 where
   pub moment : ℕ
+  pub micros : ℕ
   pub frame : List ℕ
 
 -- a packet without where its bytes lie
 pub record PacketFacts : Type 0 where
   pub interface : ℕ
   pub moment : ℕ
+  pub micros : ℕ
   pub frame : List ℕ
 
 abbrev pub packet_facts : Packet → PacketFacts
-packet_facts packet = record { interface = packet.interface; moment = packet.moment; frame = packet.frame.now }
+packet_facts packet = record { interface = packet.interface; moment = packet.moment; micros = packet.micros; frame = packet.frame.now }
 
 -- the packet of a record whose capture was taken at the interface with this number
 abbrev pub packet_at : ℕ → RecordFacts → PacketFacts
-packet_at number seen = record { interface = number; moment = seen.moment; frame = seen.frame }
+packet_at number seen = record { interface = number; moment = seen.moment; micros = seen.micros; frame = seen.frame }
 
 abbrev pub packets_at : ℕ → List RecordFacts → List PacketFacts
 packets_at number records = map (packet_at number) records
@@ -48,11 +50,20 @@ end_of true = Truncated
 -- the number in so many bytes from this place on
 abbrev pub number_from : Order → ℕ → ℕ → List ℕ → ℕ
 number_from Little place width bytes = little_number width (drop place bytes)
+number_from LittleNanos place width bytes = little_number width (drop place bytes)
 number_from Big place width bytes = big_number width (drop place bytes)
+number_from BigNanos place width bytes = big_number width (drop place bytes)
 
--- the bytes begin with a magic number, of microseconds or nanoseconds, in this order
+-- the number that a capture of microseconds begins with, or of nanoseconds
+abbrev pub magic_of : Order → ℕ
+magic_of Little = 0xa1b2c3d4
+magic_of LittleNanos = 0xa1b23c4d
+magic_of Big = 0xa1b2c3d4
+magic_of BigNanos = 0xa1b23c4d
+
+-- the bytes begin with the magic number of this order
 abbrev pub HasMagic : Order → List ℕ → Type 0
-HasMagic order bytes = (number_from order 0 4 bytes ≡ 0xa1b2c3d4) ⊎ (number_from order 0 4 bytes ≡ 0xa1b23c4d)
+HasMagic order bytes = number_from order 0 4 bytes ≡ magic_of order
 
 -- the major version
 abbrev pub version : Order → List ℕ → ℕ
@@ -73,14 +84,26 @@ pub record HasFileHeader (order : Order) (bytes : List ℕ) : Type 0 where
 abbrev pub kept_length : Order → List ℕ → ℕ
 kept_length order header = number_from order 8 4 header
 
+-- the microseconds that a record's fraction of a second has: the number itself, or a thousandth of it
+abbrev pub micros_of : Order → ℕ → ℕ
+micros_of Little fraction = fraction
+micros_of LittleNanos fraction = fraction / 1000
+micros_of Big fraction = fraction
+micros_of BigNanos fraction = fraction / 1000
+
+-- the microseconds within the second that a record's header says
+abbrev pub micros_in : Order → List ℕ → ℕ
+micros_in order header = micros_of order (number_from order 4 4 header)
+
 -- the most bytes that a record keeps of a frame
 abbrev pub kept_limit : ℕ
 kept_limit = 262144
 
--- one record's header: it says the moment and the frame's length
+-- one record's header: it says the moment, its microseconds and the frame's length
 pub record IsRecord (order : Order) (header : List ℕ) (packet : RecordFacts) : Type 0 where
   pub sixteen : length header ≡ 16
   pub moment : packet.moment ≡ number_from order 0 4 header
+  pub micros : packet.micros ≡ micros_in order header
   pub kept : length packet.frame ≡ kept_length order header
   pub limit : length packet.frame ≤ kept_limit
 
@@ -103,7 +126,7 @@ pub data PieceFacts : Type 0 where
 
 -- what `next_record` answers, as a value
 abbrev pub piece_facts : Piece → PieceFacts
-piece_facts (piece.Whole moment frame rest) = Record (record { moment = moment; frame = frame.now }) rest.now
+piece_facts (piece.Whole moment micros frame rest) = Record (record { moment = moment; micros = micros; frame = frame.now }) rest.now
 piece_facts piece.End = Nothing
 piece_facts piece.Truncated = Cut
 piece_facts piece.TooLong = TooLong

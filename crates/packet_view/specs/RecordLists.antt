@@ -1,7 +1,7 @@
 -- Records that are known to be whole, as a list.
 use Rattle.std.specs.Prelude.{ℕ, zero, suc, ◌+◌, List, [], ◌∷◌, take, drop}
 use Rattle.packet_view.specs.declared.capture.Order.{Order}
-use Rattle.packet_view.specs.Captures.{RecordFacts, kept_length, number_from}
+use Rattle.packet_view.specs.Captures.{RecordFacts, kept_length, micros_in, number_from}
 
 -- how many bytes the record at the front has
 abbrev pub record_length : Order → List ℕ → ℕ
@@ -9,7 +9,11 @@ record_length order bytes = 16 + kept_length order bytes
 
 -- what it says
 abbrev pub front_record : Order → List ℕ → RecordFacts
-front_record order bytes = record { moment = number_from order 0 4 bytes; frame = take (kept_length order bytes) (drop 16 bytes) }
+front_record order bytes = record {
+  moment = number_from order 0 4 bytes;
+  micros = micros_in order bytes;
+  frame = take (kept_length order bytes) (drop 16 bytes);
+}
 
 -- how many bytes so many records have
 abbrev pub bytes_of : Order → ℕ → List ℕ → ℕ

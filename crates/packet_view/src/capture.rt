@@ -1,5 +1,5 @@
 //! Captures of the classic pcap format: a header, and records one after another.
-ghost use Rattle.std.specs.Prelude.{◌≡◌, ◌≤◌, ◌⊎◌, ◌≢◌, length, List, Ok, Err, IsTrue, ◌↔◌, IfOk, IfErr, MatchResult, map};
+ghost use Rattle.std.specs.Prelude.{◌≡◌, ◌≤◌, ◌⊎◌, ◌≢◌, length, List, Ok, Err, IsTrue, ◌↔◌, IfOk, IfErr, IfSome, IfNone, MatchResult, map};
 ghost use Rattle.packet_view.specs.Captures.{
   End,
   HasFileHeader,
@@ -12,6 +12,8 @@ ghost use Rattle.packet_view.specs.Captures.{
   PacketFacts,
   RecordFacts,
   end_of,
+  magic_of,
+  micros_in,
   number_from,
   packet_facts,
 };
@@ -27,11 +29,14 @@ use crate::records_at_front::{Front, Stop, front_records};
 use byteorder::{BigEndian, ByteOrder, LittleEndian};
 use std::alloc::{AllocError, AllocFailed, Global};
 
-/// Which byte of a number in a capture comes first: its lowest or its highest.
+/// Which byte of a number in a capture comes first, its lowest or its highest; and what its records count within a second,
+/// microseconds or, with `Nanos`, nanoseconds.
 #[derive(Clone, Copy, Debug, PartialEq, Eq)]
 pub enum Order {
     Little,
+    LittleNanos,
     Big,
+    BigNanos,
 }
 
 /// Why a capture isn't read, in the order of the checks.
@@ -94,8 +99,8 @@ fn u16_in(order: Order, bytes: &[u8]) -> u16
     ensures { result ≡ number_from order 0 2 bytes.now }
 {
     match order {
-        Order::Little => LittleEndian::read_u16(bytes),
-        Order::Big => BigEndian::read_u16(bytes),
+        Order::Little | Order::LittleNanos => LittleEndian::read_u16(bytes),
+        Order::Big | Order::BigNanos => BigEndian::read_u16(bytes),
     }
 }
 
@@ -106,21 +111,63 @@ pub fn u32_in(order: Order, bytes: &[u8]) -> u32
     ensures { result ≡ number_from order 0 4 bytes.now }
 {
     match order {
-        Order::Little => LittleEndian::read_u32(bytes),
-        Order::Big => BigEndian::read_u32(bytes),
+        Order::Little | Order::LittleNanos => LittleEndian::read_u32(bytes),
+        Order::Big | Order::BigNanos => BigEndian::read_u32(bytes),
     }
 }
 
-/// Whether a capture's bytes begin with a magic number in this order.
+/// The microseconds within its second that the record's header at the front of these bytes says.
+#[inline]
+pub fn micros_in(order: Order, bytes: &[u8]) -> u32
+    requires { 8 ≤ length bytes.now }
+    ensures { result ≡ micros_in order bytes.now }
+{
+    let fraction = u32_in(order, &bytes[4..]);
+    let thousandth = fraction / 1000;
+    match order {
+        Order::Little | Order::Big => fraction,
+        Order::LittleNanos | Order::BigNanos => thousandth,
+    }
+}
+
+// The number that a capture in this order begins with.
+fn magic_of(order: Order) -> u32
+    ensures { result ≡ magic_of order }
+{
+    match order {
+        Order::Little | Order::Big => 0xa1b2c3d4,
+        Order::LittleNanos | Order::BigNanos => 0xa1b23c4d,
+    }
+}
+
+/// Whether a capture's bytes begin with the magic number of this order.
 fn has_magic(order: Order, bytes: &[u8]) -> bool
     requires { 4 ≤ length bytes.now }
     ensures { IsTrue result ↔ HasMagic order bytes.now }
 {
-    let magic = u32_in(order, bytes);
-    magic == 0xa1b2c3d4 || magic == 0xa1b23c4d
+    u32_in(order, bytes) == magic_of(order)
 }
 
-/// The byte order of the capture whose header these bytes begin with.
+/// The order whose magic number these bytes begin with, if they do.
+fn magic_order(bytes: &[u8]) -> Option<Order>
+    requires { 4 ≤ length bytes.now }
+    ensures some { IfSome result (λ order. HasMagic order bytes.now) }
+    ensures none { IfNone result ((order : Order) → HasMagic order bytes.now → ⊥) }
+{
+    if has_magic(Order::Little, bytes) {
+        Some(Order::Little)
+    } else if has_magic(Order::LittleNanos, bytes) {
+        Some(Order::LittleNanos)
+    } else if has_magic(Order::Big, bytes) {
+        Some(Order::Big)
+    } else if has_magic(Order::BigNanos, bytes) {
+        Some(Order::BigNanos)
+    } else {
+        None
+    }
+}
+
+/// The byte order, and what is counted within a second, of the capture whose header these bytes begin with.
 pub fn capture_header(bytes: &[u8]) -> Result<Order, CaptureFault>
     ensures ok { IfOk result (λ order. HasFileHeader order bytes.now) }
     ensures fault { IfErr result (λ fault. IsHeaderFault bytes.now fault) }
@@ -130,11 +177,7 @@ pub fn capture_header(bytes: &[u8]) -> Result<Order, CaptureFault>
     if bytes.len() < 24 {
         return Err(CaptureFault::Short);
     }
-    let order = if has_magic(Order::Little, bytes) {
-        Order::Little
-    } else if has_magic(Order::Big, bytes) {
-        Order::Big
-    } else {
+    let Some(order) = magic_order(bytes) else {
         return Err(CaptureFault::Magic);
     };
     if u16_in(order, &bytes[4..]) != 2 {

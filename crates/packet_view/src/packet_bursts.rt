@@ -39,6 +39,7 @@ impl<'a> PacketBursts<'a> {
         let unused = Packet {
             interface: 0,
             moment: 0,
+            micros: 0,
             frame: &[],
         };
         PacketBursts {

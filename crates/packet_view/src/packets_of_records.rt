@@ -3,7 +3,7 @@ ghost use Rattle.std.specs.Prelude.{◌≡◌, ◌≤◌, length, drop};
 ghost use Rattle.packet_view.specs.Captures.{kept_length, packet_at, packet_facts};
 ghost use Rattle.packet_view.specs.RecordLists.{bytes_of, front_record, record_length};
 
-use crate::capture::{Order, u32_in};
+use crate::capture::{Order, micros_in, u32_in};
 use crate::packet::Packet;
 
 // How many bytes of its frame the record keeps whose packet is taken next.
@@ -26,6 +26,7 @@ fn front_of<'a>(bytes: &'a [u8], order: Order, interface: u8, kept: usize) -> (P
     let packet = Packet {
         interface,
         moment: u32_in(order, bytes),
+        micros: micros_in(order, bytes),
         frame: &bytes[16..16 + kept],
     };
     (packet, &bytes[16 + kept..])

@@ -7,7 +7,7 @@ ghost use Rattle.packet_view.specs.Marks.{IsMark};
 ghost use Rattle.packet_view.specs.RecordLists.{front_record};
 ghost use Rattle.packet_view.specs.inner.RecordSteps.{part_of};
 
-use crate::capture::{Order, u32_in};
+use crate::capture::{Order, micros_in, u32_in};
 use crate::packets_of_records::Records;
 use crate::record_marks::{MARKS, Mark, MarkNotes};
 
@@ -20,6 +20,7 @@ pub enum Piece<'a> {
     /// A record, and the bytes after it.
     Whole {
         moment: u32,
+        micros: u32,
         frame: &'a [u8],
         rest: &'a [u8],
     },
@@ -51,6 +52,7 @@ fn front_piece(rest: &[u8], order: Order) -> Piece<'_>
     }
     Piece::Whole {
         moment: u32_in(order, rest),
+        micros: micros_in(order, rest),
         frame: &rest[16..16 + kept],
         rest: &rest[16 + kept..],
     }

@@ -1,6 +1,7 @@
 pub mod CheckLaws
 pub mod ForeignLemmas
 pub mod FormLemmas
+pub mod HostLemmas
 pub mod ReaderLemmas
 pub mod RemarkLemmas
 pub mod ShadowLemmas

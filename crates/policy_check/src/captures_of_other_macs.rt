@@ -13,8 +13,8 @@ use thiserror::Error;
 #[error("none of the first frames of interface {0} is from or to the address of its mac line")]
 pub struct ForeignMac(pub u8);
 
-// Whether bytes of a captured frame begin with the MAC address of a `mac` line.
-fn begins_with(bytes: &[u8], own: Mac) -> bool
+/// Whether bytes of a captured frame begin with the MAC address of a `mac` line.
+pub fn begins_with(bytes: &[u8], own: Mac) -> bool
     ensures yes { IsTrue result → take 6 bytes.now ≡ own.0 }
     ensures no { result ≡ false → take 6 bytes.now ≡ own.0 → ⊥ }
 {

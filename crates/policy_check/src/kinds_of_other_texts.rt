@@ -2,6 +2,7 @@
 ghost use Rattle.std.specs.Prelude.{◌≡◌, ℕ, IfSome, IsTrue, None, false, take};
 ghost use Rattle.policy_check.specs.TextKinds.{BeginsAsUtf16, IsMarkedAt, IsOfKind};
 
+use crate::lines_for_expand::line_for_expand;
 use crate::policy_checking::line_in_checked_policy;
 use racl_io::{is_capture, split_input};
 use thiserror::Error;
@@ -16,6 +17,9 @@ pub enum TextKind {
     /// The line with this number is the first marker line.
     #[error("the file is an input with its capture behind line {0}; the policy is what stands before that line")]
     Input(u64),
+    /// The line with this number is the first of a form that `racl expand` takes and no policy has.
+    #[error("line {0} is of a form that racl expand takes; a policy that is read is made by: racl expand IN > OUT")]
+    ForExpand(u64),
 }
 
 // Whether a text that may be no policy begins with this byte order mark.
@@ -56,8 +60,9 @@ pub fn kind_of_other(text: &[u8]) -> Option<TextKind>
     if begins_as_utf16(text) {
         return Some(TextKind::Utf16);
     }
-    match marked_line(text) {
-        Some(number) => Some(TextKind::Input(number)),
-        None => None,
+    match (marked_line(text), line_for_expand(text)) {
+        (Some(number), _) => Some(TextKind::Input(number)),
+        (None, Some(number)) => Some(TextKind::ForExpand(number)),
+        (None, None) => None,
     }
 }

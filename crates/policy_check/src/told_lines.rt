@@ -110,14 +110,12 @@ fn push_told_rule(
     alloc: Global,
     out: &mut Vec<u8>,
     line: u64,
-    text: &[u8],
+    text: &str,
 ) -> Result<(), AllocError> {
     if line == 0 {
         return Ok(());
     }
-    push_told_text(out, format!(in alloc; " | line {line} ")?.as_str())?;
-    out.extend_from_slice(text)?;
-    Ok(())
+    push_told_text(out, format!(in alloc; " | line {line} {text}")?.as_str())
 }
 
 // How many rules a policy has, which the text of a check tells in its last line.

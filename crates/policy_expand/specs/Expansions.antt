@@ -1,6 +1,7 @@
 -- What a written policy's lines stand for (this project's profile).
 use Rattle.std.specs.Prelude.{◌≡◌, ℕ, List, [], ◌∷◌, ◌++◌, map}
 use Rattle.policy_words.specs.Words.{without_comment, words_of}
+use Rattle.policy_expand.specs.IcmpParts.{IsOfOneIcmp}
 use Rattle.policy_expand.specs.Meaning.{MatchAlike}
 use Rattle.policy_expand.specs.Sections.{BeginAlike}
 use Rattle.policy_expand.specs.Sources.{SourceFacts}
@@ -11,11 +12,13 @@ use Rattle.policy_expand.specs.declared.named_set.NamedSet.{NamedSet}
 use Rattle.policy_expand.specs.declared.visible_word.Word.{Word}
 
 -- A line behind these sets is read as what is written, behind it there are those sets, and the text that is added is of
--- plain lines that match and begin sections as it does, each with a comment that names the line's place.
+-- plain lines that match and begin sections as it does, each with a comment that names the line's place; a rule for both
+-- families names no message of ICMP, which would be another one in each.
 pub record IsLineExpanded (sets : List NamedSet) (line : SourceFacts) (news : List NamedSet) (written : LineWritten) (rows : List (List Word)) (added : List ℕ) : Type 0 where
   pub words : List Word
   pub said : map word_text words ≡ words_of (without_comment line.text)
   pub read : IsReadAs sets words written news
+  pub icmp : IsOfOneIcmp written
   pub alike : MatchAlike written rows
   pub begin : BeginAlike written rows
   pub spells : added ≡ plain_text (place_mark line) rows

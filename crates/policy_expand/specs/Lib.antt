@@ -1,6 +1,7 @@
 pub mod Expansions
 pub mod Families
 pub mod FirstMatch
+pub mod IcmpParts
 pub mod Inclusions
 pub mod Lists
 pub mod Meaning

@@ -1,12 +1,14 @@
 //! The plain policy that written lines stand for.
 ghost use Rattle.std.specs.Prelude.{◌≡◌, ◌++◌, ◌∷◌, [], List, ℕ, IfErr, IfOk, IsTrue, OnOk, map};
 ghost use Rattle.policy_expand.specs.Expansions.{IsBehindExpanded, IsExpansion, IsLineExpanded};
+ghost use Rattle.policy_expand.specs.IcmpParts.{IsOfOneIcmp};
 ghost use Rattle.policy_expand.specs.Sources.{source_facts};
 ghost use Rattle.policy_expand.specs.Written.{LineWritten, list_words};
 ghost use Rattle.policy_expand.specs.WrittenLines.{line_written};
 ghost use Rattle.policy_expand.specs.inner.Rows;
 ghost use Rattle.policy_expand.specs.declared.visible_word.Word.{Word};
 
+use crate::icmp_of_both_families::icmp_part_of_both;
 use crate::named_set::NamedSet;
 use crate::plain_text::{mark_of, push_plain_lines};
 use crate::rows_of_rule::rule_rows;
@@ -29,7 +31,8 @@ pub struct Expansion {
 
 // The plain lines that a written one stands for, each as its words.
 fn plain_rows<'a>(alloc: Global, written: Written<'a>) -> Result<Vec<WordList<'a>>, LineFault<'a>>
-    ensures { IfOk result (λ rows. Rows.line_rows (line_written written.entry) ≡ map list_words rows.items) }
+    ensures rows { IfOk result (λ rows. Rows.line_rows (line_written written.entry) ≡ map list_words rows.items) }
+    ensures icmp { IfOk result (λ _. IsOfOneIcmp (line_written written.entry)) }
 {
     match written {
         Written::Nothing => Ok(Vec::new(alloc)),
@@ -39,6 +42,9 @@ fn plain_rows<'a>(alloc: Global, written: Written<'a>) -> Result<Vec<WordList<'a
             Ok(rows)
         }
         Written::Rule(rule) => {
+            if let Some(part) = icmp_part_of_both(&rule) {
+                return Err(wrong(WrittenReason::IcmpOfBoth, part.bytes));
+            }
             let rows = rule_rows(alloc, &rule)?;
             if rows.is_empty() {
                 return Err(wrong(WrittenReason::NoFamily, b""));

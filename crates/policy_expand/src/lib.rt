@@ -4,6 +4,7 @@
 mod expansion;
 mod file_lines;
 mod first_match_laws;
+mod icmp_of_both_families;
 mod included_name;
 mod inclusion;
 mod missing;

@@ -22,8 +22,8 @@ fn other_family(family: Family) -> Family
     }
 }
 
-// Whether a word is an address of the other family, or a prefix of one, and none of this one.
-fn is_of_other(family: Family, word: &[u8]) -> bool
+/// Whether a word is an address of the other family, or a prefix of one, and none of this one.
+pub fn is_of_other(family: Family, word: &[u8]) -> bool
     ensures { result ≡ Families.is_of_other family word.now }
 {
     prefix_of(family, word).is_none() && prefix_of(other_family(family), word).is_some()

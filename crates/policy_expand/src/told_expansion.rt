@@ -1,5 +1,5 @@
 //! What is told of a written policy: the plain one, or what is wrong.
-ghost use Rattle.std.specs.Prelude.{◌≡◌, IfNone, IfOk, map};
+ghost use Rattle.std.specs.Prelude.{◌≢◌, IfNone, IfOk, map};
 ghost use Rattle.acl_policy.specs.Policies.{IsPolicyText, PolicyFacts};
 ghost use Rattle.policy_expand.specs.Sources.{source_facts};
 ghost use Rattle.policy_expand.specs.ToldExpansions.{IsToldOf};
@@ -49,7 +49,9 @@ fn push_told_fault<R: Display>(
 }
 
 /// What is told of a written line that is wrong. An `Err` says that memory ran out.
-pub fn told_fault(alloc: Global, found: WrongLine<'_>) -> Result<String, AllocError> {
+pub fn told_fault(alloc: Global, found: WrongLine<'_>) -> Result<String, AllocError>
+    ensures { IfOk result (λ _. found.entry.fault ≢ LineFault.Memory) }
+{
     let LineFault::Wrong(reason, word) = found.fault else {
         return Err(AllocError);
     };

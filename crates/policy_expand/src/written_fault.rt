@@ -22,6 +22,8 @@ pub enum WrittenReason {
     Missing,
     #[error("stands for no rule: no family has an address of each side")]
     NoFamily,
+    #[error("means another message in each family: write a rule for ipv4 and one for ipv6")]
+    IcmpOfBoth,
     #[error("stands for more than 4096 rules of a family")]
     TooMany,
     #[error("stands behind the name of a file: include NAME")]
@@ -45,7 +47,9 @@ pub enum LineFault<'a> {
 }
 
 /// A written line is wrong for this reason, which is said of this word.
-pub fn wrong(reason: WrittenReason, word: &[u8]) -> LineFault<'_> {
+pub fn wrong(reason: WrittenReason, word: &[u8]) -> LineFault<'_>
+    ensures { result ≡ LineFault.Wrong reason word.entry }
+{
     LineFault::Wrong(reason, word)
 }
 

@@ -4,9 +4,8 @@ use expected_verdicts::{read_expectations, status_behind};
 use packet_questions::{
     Ask, AskedAbout, QuestionFault, answer_questions, answer_status, asked_about, compare_answers,
 };
-use racl_io::{Device, MOST_BYTES, read_until};
-use racl_options::{Interfaces, Origin};
-use racl_system::{Output, Parts, live_policy_text, opened_input, say_wrong_expectations};
+use racl_io::Device;
+use racl_system::{Output, live_policy_text, policy_text, say_wrong_expectations};
 use std::alloc::Global;
 use std::io;
 use std::sync::Wait;
@@ -40,20 +39,11 @@ fn status_of_ask<T: Threads + Wait + Sync>(
     alloc: Global,
     ask: &Ask<'_>,
 ) -> io::Result<u8> {
-    let origin = Origin::Interfaces(Interfaces {
-        policy: ask.policy,
-        captures: Vec::new(alloc),
-    });
-    let policy = match opened_input(rt, alloc, &origin) {
-        Ok(Ok(Parts { policy, .. })) => policy,
+    let text = match policy_text(rt, alloc, ask.policy) {
+        Ok(Ok(text)) => text,
         Ok(Err(status)) => return Ok(status),
         Err(error) => return Err(error),
     };
-    let mut text = Vec::new(alloc);
-    match read_until(&mut Device::new(policy), &mut text, MOST_BYTES) {
-        Ok(_) => {}
-        Err(fault) => return said(rt, &QuestionFault::Run(fault)),
-    }
     if let Some(name) = ask.expected {
         return status_of_comparison(rt, threads, alloc, ask, &text, name);
     }

@@ -6,23 +6,23 @@ ghost use Rattle.std.specs.Prelude.{◌<◌, ◌-◌, ◌^◌};
 
 mod ask;
 mod compare;
-mod shard;
 
 use expected_verdicts::{read_expectations, status_behind as status_of_compared};
 use racl_cli::{
-    DiffFault, ExpectingAsked, LiveAsked, LiveSaves, PolicyTexts, run, run_diff, run_expecting,
-    run_interfaces, run_live, run_saving,
+    DiffFault, ExpectingAsked, LiveAsked, LiveSaves, PolicyTexts, ShardRunAsked, run, run_diff,
+    run_expecting, run_interfaces, run_live, run_saving, run_shard,
 };
-use racl_io::{Device, Fault, FrontKept, Joined, Source};
-use racl_options::{Asked, DiffFiles, Files, Interfaces, Origin, diff_options};
+use racl_io::{Device, Fault, FrontKept, Source};
+use racl_options::{Asked, DiffFiles, Files, Interfaces, Options, Origin, diff_options};
 use racl_system::{
-    DiffInput, ExpectingInput, LiveFiles, LiveInput, Output, Parts, Ran, Watched, asked_or_status,
+    DiffInput, ExpectingInput, LiveFiles, Output, Ran, SeenFiles, Watched, asked_or_status,
     diff_or_status, expansion_status, failure_status, opened_diff, opened_expecting, opened_input,
     opened_live, read_interface_input, saves_to, say_capture_fault, say_end_of_interfaces,
-    say_end_of_live, say_end_of_run, say_policy_fault, say_unsaved, say_used_twice,
-    say_wrong_expectations, settled, texts_of, watched_where, words_of,
+    say_end_of_live, say_end_of_run, say_outcome, say_policy_fault, say_unsaved, say_used_twice,
+    say_wrong_expectations, settled, standard_source, texts_of, watched_where,
 };
 use std::alloc::Global;
+use std::env::args;
 use std::io;
 use std::process::ExitCode;
 use std::sync::Wait;
@@ -44,7 +44,7 @@ fn status_of_main<T: Threads + Wait + Sync>(
     threads: &T,
     alloc: Global,
 ) -> io::Result<u8> {
-    let words = words_of(rt, alloc)?;
+    let words: Vec<String> = args(rt)?.collect(alloc)?;
     let texts = texts_of(alloc, words.as_slice())?;
     if let Some(status) = expansion_status(rt, alloc, texts.as_slice())? {
         return Ok(status);
@@ -59,11 +59,6 @@ fn status_of_main<T: Threads + Wait + Sync>(
         Ok(Some(status)) => return Ok(status),
         Err(error) => return Err(error),
     }
-    match shard::sharded(rt, threads, alloc, texts.as_slice()) {
-        Ok(None) => {}
-        Ok(Some(status)) => return Ok(status),
-        Err(error) => return Err(error),
-    }
     match diff_or_status(rt, alloc, texts.as_slice())? {
         Ok(Some(files)) => return status_of_diff(rt, threads, alloc, &files),
         Ok(None) => {}
@@ -74,42 +69,70 @@ fn status_of_main<T: Threads + Wait + Sync>(
             (Origin::Files(files), Some(name)) => {
                 status_of_expecting(rt, threads, alloc, &asked, files, name)
             }
-            (Origin::Files(files), None) if asked.options.live || asked.options.any_length => {
+            (Origin::Files(files), None) if is_told_early(&asked) => {
                 status_of_live(rt, threads, alloc, &asked, files)
             }
+            (Origin::Files(files), None) => status_of_files(rt, threads, alloc, &asked, files),
             (Origin::Interfaces(interfaces), _) => {
-                status_of_interfaces(rt, threads, alloc, &asked, interfaces)
+                status_of_interfaces(rt, threads, alloc, &asked.options, interfaces)
             }
-            (_, _) => status_of_run(rt, threads, alloc, &asked),
+            (Origin::Standard, _) => status_of_standard(rt, threads, alloc, &asked.options),
         },
         Ok(Err(status)) => Ok(status),
         Err(error) => Err(error),
     }
 }
 
-// Runs the main program on the whole input that its words ask for, tells how that ended, and answers the exit status.
-fn status_of_run<T: Threads + Wait + Sync>(
+// Whether what is asked for is told while the capture is read.
+fn is_told_early(asked: &Asked<'_>) -> bool {
+    asked.options.live || asked.options.any_length || asked.shard.is_some()
+}
+
+// Runs the main program on all that standard input has, tells how that ended, and answers the exit status.
+fn status_of_standard<T: Threads + Wait + Sync>(
+    rt: &HostRuntime,
+    threads: &T,
+    alloc: Global,
+    options: &Options,
+) -> io::Result<u8> {
+    let mut reader = Watched::new(rt, standard_source(rt));
+    let mut writer = Device::new(Output::new(rt.stdout()));
+    let outcome = run(threads, alloc, options, &mut reader, &mut writer);
+    reader.progress.end();
+    say_outcome(rt, &outcome)
+}
+
+// Runs the main program on the files of a policy and of a capture, tells how that ended, and answers the exit status.
+fn status_of_files<T: Threads + Wait + Sync>(
     rt: &HostRuntime,
     threads: &T,
     alloc: Global,
     asked: &Asked<'_>,
+    files: &Files<'_>,
 ) -> io::Result<u8> {
-    match say_used_twice(rt, alloc, asked) {
+    match say_used_twice(rt, alloc, files, &asked.saved) {
         Ok(None) => {}
         Ok(Some(status)) => return Ok(status),
         Err(error) => return Err(error),
     }
-    let Parts { policy, captures } = match opened_input(rt, alloc, &asked.origin) {
-        Ok(Ok(parts)) => parts,
+    let source = match opened_input(rt, alloc, files) {
+        Ok(Ok(source)) => source,
         Ok(Err(status)) => return Ok(status),
         Err(error) => return Err(error),
     };
-    let mut reader = Watched::new(rt, Joined::new(policy, captures));
-    match run_main_program(rt, threads, alloc, asked, &mut reader) {
-        Ok(Some(ran)) => say_end_of_run(rt, alloc, asked, &mut reader, &ran),
-        Ok(None) => Ok(4),
-        Err(error) => Err(error),
-    }
+    let mut reader = Watched::new(rt, source);
+    let ran = match run_main_program(rt, threads, alloc, asked, &mut reader) {
+        Ok(Some(ran)) => ran,
+        Ok(None) => return Ok(4),
+        Err(error) => return Err(error),
+    };
+    reader.progress.end();
+    let input = SeenFiles {
+        files: *files,
+        text: reader.source.text(),
+        front: reader.source.front(),
+    };
+    say_end_of_run(rt, alloc, &asked.options, input, &ran)
 }
 
 // Runs the main program from this source to standard output, and saves packets where that is asked for. Where these
@@ -144,6 +167,7 @@ fn run_main_program<T: Threads + Wait + Sync, R: Source + Send>(
     };
     Ok(Some(Ran {
         outcome,
+        faulty: None,
         is_closed: writer.inner.is_closed,
         reason: writer.inner.reason,
     }))
@@ -154,7 +178,7 @@ fn status_of_interfaces<T: Threads + Wait + Sync>(
     rt: &HostRuntime,
     threads: &T,
     alloc: Global,
-    asked: &Asked<'_>,
+    options: &Options,
     interfaces: &Interfaces<'_>,
 ) -> io::Result<u8> {
     let input = match read_interface_input(rt, rt, alloc, interfaces) {
@@ -163,26 +187,21 @@ fn status_of_interfaces<T: Threads + Wait + Sync>(
         Err(error) => return Err(error),
     };
     let mut writer = Device::new(Output::new(rt.stdout()));
-    let (outcome, faulty) = match run_interfaces(
-        threads,
-        alloc,
-        &asked.options,
-        &input,
-        &mut writer,
-    ) {
+    let (outcome, faulty) = match run_interfaces(threads, alloc, options, &input, &mut writer) {
         Ok(totals) => (Ok(totals), None),
         Err(found) => (Err(found.fault), found.place),
     };
     let ran = Ran {
         outcome,
+        faulty,
         is_closed: writer.inner.is_closed,
         reason: writer.inner.reason,
     };
-    say_end_of_interfaces(rt, alloc, asked, &input, &ran, faulty)
+    say_end_of_interfaces(rt, alloc, options, interfaces, &input, &ran)
 }
 
-// Runs the main program on the capture of a file while it is read, saves packets of it where that is asked for, tells how that
-// ended, and answers the exit status. What was saved stays, however it ended.
+// Runs the main program on the capture of a file, or on a shard of that, while it is read, saves packets where that is asked for,
+// tells how that ended, and answers the exit status. What was saved stays, however it ended.
 fn status_of_live<T: Threads + Wait + Sync>(
     rt: &HostRuntime,
     threads: &T,
@@ -190,7 +209,7 @@ fn status_of_live<T: Threads + Wait + Sync>(
     asked: &Asked<'_>,
     files: &Files<'_>,
 ) -> io::Result<u8> {
-    match say_used_twice(rt, alloc, asked) {
+    match say_used_twice(rt, alloc, files, &asked.saved) {
         Ok(None) => {}
         Ok(Some(status)) => return Ok(status),
         Err(error) => return Err(error),
@@ -202,21 +221,28 @@ fn status_of_live<T: Threads + Wait + Sync>(
     };
     let text = text.as_slice();
     let source = Device::new(FrontKept::new(capture));
-    let mut reader = watched_where(rt, asked.options.any_length, source);
+    let is_long = asked.options.any_length || asked.shard.is_some();
+    let mut reader = watched_where(rt, is_long, source);
     let mut writer = Device::new(rt.stdout());
     let mut saves = LiveSaves {
         files: saves_to(rt, &asked.saved),
     };
-    let live = LiveAsked {
+    let run = LiveAsked {
         options: &asked.options,
         text,
     };
-    let outcome = run_live(threads, alloc, live, &mut reader, &mut writer, &mut saves);
+    let outcome = match asked.shard {
+        Some(shard) => {
+            let asked = ShardRunAsked { run, shard };
+            run_shard(threads, alloc, asked, &mut reader, &mut writer, &mut saves)
+        }
+        None => run_live(threads, alloc, run, &mut reader, &mut writer, &mut saves),
+    };
     reader.progress.end();
     if say_unsaved(rt, settled(saves.files, true))? {
         return Ok(4);
     }
-    let input = LiveInput {
+    let input = SeenFiles {
         files: *files,
         text,
         front: reader.source.inner.front(),
@@ -257,7 +283,7 @@ fn status_of_expecting<T: Threads + Wait + Sync>(
     match run_expecting(threads, alloc, compared, &mut reader, &mut writer) {
         Ok(compared) => Ok(status_of_compared(compared.met, compared.truncated)),
         Err(fault) => {
-            let input = LiveInput {
+            let input = SeenFiles {
                 files: *files,
                 text: text.as_slice(),
                 front: reader.inner.front(),

@@ -64,9 +64,9 @@ impl Content {
         requires { HasJudge self.old }
         ensures { Calls self.old self.new
             (JudgeTold ⟦<ShapeV4 as Shape>⟧ ⟦<ShapeV6 as Shape>⟧
-            (record { interface = interface; moment = moment; frame = frame.now }) result)
+            (record { interface = interface; moment = moment; micros = 0; frame = frame.now }) result)
             (JudgeTold ⟦<LargeV4 as Shape>⟧ ⟦<LargeV6 as Shape>⟧
-            (record { interface = interface; moment = moment; frame = frame.now }) result) }
+            (record { interface = interface; moment = moment; micros = 0; frame = frame.now }) result) }
     {
         match self {
             Content::Standard(judge) => judged_answer(judge.judge(interface, moment, frame)),

@@ -60,9 +60,9 @@ pub extern "C" fn racl_judge(
     requires { HasJudge (content_in handle.old.place) }
     ensures { Calls (content_in handle.old.place) (content_in handle.new.place)
         (JudgeTold ⟦<ShapeV4 as Shape>⟧ ⟦<ShapeV6 as Shape>⟧
-        (record { interface = interface; moment = moment; frame = frame.now }) result)
+        (record { interface = interface; moment = moment; micros = 0; frame = frame.now }) result)
         (JudgeTold ⟦<LargeV4 as Shape>⟧ ⟦<LargeV6 as Shape>⟧
-        (record { interface = interface; moment = moment; frame = frame.now }) result) }
+        (record { interface = interface; moment = moment; micros = 0; frame = frame.now }) result) }
 {
     let mut place = handle.take(alloc);
     let answer = place.as_mut().content.judge(interface, moment, frame);

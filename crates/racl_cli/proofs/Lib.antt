@@ -16,4 +16,5 @@ pub mod RunLemmas
 pub mod SavingLemmas
 pub mod ShardEndLemmas
 pub mod ShardRunLemmas
+pub mod ShardSaveLemmas
 pub mod StoredLaws

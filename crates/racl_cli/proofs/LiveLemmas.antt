@@ -169,12 +169,14 @@ explained_as_asked options text policy lines form shown same table says =
 -- in objects
 pub objects_as_asked : (options : Options) (text : List ℕ) (policy : PolicyFacts) (lines : ObjectLines) → options.lines ≡ Json → lines.shown ≡ options.shown
     → policy_facts lines.policy.now ≡ policy → IsTableOf text lines.table → IsPolicyText text policy
-    → TellsAsAsked options text policy (objects_wording lines.shown (policy_facts lines.policy.now) lines.table.rules.items)
+    → TellsAsAsked options text policy (objects_wording lines.shown (policy_facts lines.policy.now) lines.table.rules.items (map shown_of lines.table.texts.items))
 objects_as_asked options text policy lines form shown same table says =
     let rules = lines.table.rules.items in
-    subst (λ (s : Shown). TellsAsAsked options text policy (objects_wording s (policy_facts lines.policy.now) rules)) (sym shown)
-    (subst (λ (p : PolicyFacts). TellsAsAsked options text policy (objects_wording options.shown p rules)) (sym same)
-    (in_form options text policy Json _ form (objects_tell (told_by options text policy) rules (table policy says).0)))
+    let is = table policy says in
+    subst (λ (s : Shown). TellsAsAsked options text policy (objects_wording s (policy_facts lines.policy.now) rules (map shown_of lines.table.texts.items))) (sym shown)
+    (subst (λ (p : PolicyFacts). TellsAsAsked options text policy (objects_wording options.shown p rules (map shown_of lines.table.texts.items))) (sym same)
+    (subst (λ (t : List (List ℕ)). TellsAsAsked options text policy (objects_wording options.shown policy rules t)) (sym is.1)
+    (in_form options text policy Json _ form (objects_tell (told_by options text policy) rules is.0))))
 
 -- there is a way, in each form
 pub some_way : (options : Options) (text : List ℕ) (policy : PolicyFacts) (form : Lines) → options.lines ≡ form → IsPolicyText text policy

@@ -3,7 +3,7 @@ use Rattle.std.proofs.Common.{◌≡◌, ◌∙◌, ◌++◌, ◌≤◌, ℕ, Bo
 use Rattle.std.proofs.KnownBytes.{Appends-trans}
 use Rattle.std.proofs.lemmas.List.{length-map}
 use Rattle.std.specs.Io.KnownBytes.{Appends}
-use Rattle.std.specs.Prelude.{◌⊎◌, ⊤}
+use Rattle.std.specs.Prelude.{◌⊎◌}
 use Rattle.packet_view.specs.Captures.{PacketFacts, packet_at, packets_at}
 use Rattle.packet_view.specs.declared.capture.Order.{Order}
 use Rattle.acl_policy.specs.Policies.{PolicyFacts}
@@ -18,7 +18,7 @@ use Rattle.racl_io.proofs.ReportLemmas.{passed_or_dropped}
 use Rattle.racl_io.proofs.TellingLemmas.{alone_truncated, front_on}
 use Rattle.racl_options.specs.declared.settings.Options.{Options}
 use Rattle.capture_stream.specs.Lives.{HasJudgedAll, HasToldSome}
-use Rattle.capture_stream.specs.Savings.{outputs}
+use Rattle.capture_stream.specs.Savings.{manner_of, outputs}
 use Rattle.capture_stream.specs.inner.Tellings.{totals_with}
 use Rattle.capture_stream.proofs.TellLemmas.{totals_alone}
 use Rattle.capture_shards.specs.Shards.{Own, own_packets}
@@ -34,7 +34,8 @@ module _ {J : Type 0} {Judged : J → List PacketFacts → List Verdict → Type
     (said : List Verdict) (spread : IsSpread own 1 (packets_at 0 all.packets) said all.verdicts)
     (first : AreFirstOwn T options own policy (packets_at 0 all.packets) all.verdicts)
     (wrote : Appends old mid (lines_in (shard_wording own wording) 1 (packets_at 0 all.packets) all.verdicts))
-    (whole : List ℕ) (spelt : all.read ≡ whole ++ all.rest) (count : ℕ) (owned : count ≡ length (own_packets own 1 (packets_at 0 all.packets))) where
+    {K : Type 0} (Saved : K → Order → List ℕ → List Verdict → K → Type 0) (first_saver last_saver : K) (whole : List ℕ) (spelt : all.read ≡ whole ++ all.rest)
+    (kept : Saved first_saver order whole all.verdicts last_saver) (count : ℕ) (owned : count ≡ length (own_packets own 1 (packets_at 0 all.packets))) where
   abbrev packets : List PacketFacts
   packets = packets_at 0 all.packets
 
@@ -48,7 +49,7 @@ module _ {J : Type 0} {Judged : J → List PacketFacts → List Verdict → Type
   lines_are = shard_lines own wording 1 packets all.verdicts each ∙ ap (lines_at wording (own_numbers own 1 packets) (own_packets own 1 packets)) spread.mine
 
   -- of all packets their lines were written, and no more
-  some_told : (new : Option (List ℕ)) → new ≡ mid → HasToldSome (AreFirstOwn T options own) (own_manner own wording) policy order before after (outputs old tt) (outputs new tt) all.rest
+  some_told : (new : Option (List ℕ)) → new ≡ mid → HasToldSome (AreFirstOwn T options own) (own_manner own (manner_of wording Saved)) policy order before after (outputs old first_saver) (outputs new last_saver) all.rest
   some_told new same = record {
     read = all.read;
     consumed = all.consumed;
@@ -60,11 +61,11 @@ module _ {J : Type 0} {Judged : J → List PacketFacts → List Verdict → Type
     text = subst (λ b. Appends old b lines) (sym same) wrote;
     whole = whole;
     spelt = spelt;
-    saved = tt;
+    saved = kept;
   }
 
   -- memory ran out
-  pub own_unwritten : IsOwnFault T options wording policy own order before after old mid fault.Memory
+  pub own_unwritten : IsOwnFault T options (manner_of wording Saved) policy own order before after (outputs old first_saver) (outputs mid last_saver) fault.Memory
   own_unwritten = (all.rest, some_told mid refl)
 
   said_count : length said ≡ count
@@ -109,23 +110,28 @@ module _ {J : Type 0} {Judged : J → List PacketFacts → List Verdict → Type
     all_lines = ap (λ (l : List ℕ). l ++ (wording.end over ++ behind)) lines_are
 
     told_whole : (new : Option (List ℕ)) (at : Wording) → at ≡ shard_wording own wording → Appends mid new (at.end over ++ behind)
-        → HasToldOwn options text wording policy own order before after old new over
+        → HasToldOwn options text (manner_of wording Saved) policy own order before after (outputs old first_saver) (outputs new last_saver) over
     told_whole new at same more = record {
       report = report;
       is = is_report;
       written = subst (λ (b : List ℕ). Appends old new b) all_lines
           (Appends-trans old mid new lines (wording.end over ++ behind) wrote
           (subst (λ (w : Wording). Appends mid new (w.end over ++ behind)) same more));
+      whole = whole;
+      spelt = spelt;
+      verdicts = all.verdicts;
+      spread = spread;
+      saved = kept;
     }
 
     pub own_end_told : (new : Option (List ℕ)) (at : Wording) (told_over : Totals) → told_over ≡ over → at ≡ shard_wording own wording → Appends mid new (at.end told_over ++ behind)
-        → HasToldOwn options text wording policy own order before after old new told_over
+        → HasToldOwn options text (manner_of wording Saved) policy own order before after (outputs old first_saver) (outputs new last_saver) told_over
     own_end_told new at told_over is same more =
-        subst (λ (t : Totals). Appends mid new (at.end t ++ behind) → HasToldOwn options text wording policy own order before after old new t) (sym is)
+        subst (λ (t : Totals). Appends mid new (at.end t ++ behind) → HasToldOwn options text (manner_of wording Saved) policy own order before after (outputs old first_saver) (outputs new last_saver) t) (sym is)
         (told_whole new at same) more
 
     fault_at_end : (new : Option (List ℕ)) (found : Fault) → IsTellingFault mid new (wording.end over ++ behind) found
-        → IsOwnFault T options wording policy own order before after old new found ⊎ HasCutOwn options text wording policy own order before after old new found
+        → IsOwnFault T options (manner_of wording Saved) policy own order before after (outputs old first_saver) (outputs new last_saver) found ⊎ HasCutOwn options text wording policy own order before after old new found
     fault_at_end new fault.Memory same = inl (all.rest, some_told new same)
     fault_at_end new fault.Write front = inr (record {
       failed = refl;
@@ -138,7 +144,7 @@ module _ {J : Type 0} {Judged : J → List PacketFacts → List Verdict → Type
 
     pub own_end_fault : (new : Option (List ℕ)) (found : Fault) (at : Wording) (told_over : Totals) → told_over ≡ over → at ≡ shard_wording own wording
         → IsTellingFault mid new (at.end told_over ++ behind) found
-        → IsOwnFault T options wording policy own order before after old new found ⊎ HasCutOwn options text wording policy own order before after old new found
+        → IsOwnFault T options (manner_of wording Saved) policy own order before after (outputs old first_saver) (outputs new last_saver) found ⊎ HasCutOwn options text wording policy own order before after old new found
     own_end_fault new found at told_over is same why =
         fault_at_end new found (subst (λ (w : Wording). IsTellingFault mid new (w.end over ++ behind) found) same
         (subst (λ (t : Totals). IsTellingFault mid new (at.end t ++ behind) found) is why))

@@ -8,5 +8,6 @@ pub mod Reads
 pub mod Runs
 pub mod SavingRuns
 pub mod ShardRuns
+pub mod ShardSaves
 pub mod StoredRuns
 pub mod inner

@@ -39,4 +39,4 @@ pub use racl_options::{Lines, Options, TableSize};
 pub use racl_report::{InterfaceInput, PlacedFault, Saves, remark, status};
 pub use run_laws::{each_input_has_one_outcome, told_sessions_are_those_of_one_thread};
 pub use runs_end_to_end::{run, run_saving};
-pub use shard_run::run_shard;
+pub use shard_run::{ShardRunAsked, run_shard};

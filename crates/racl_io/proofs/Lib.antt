@@ -2,7 +2,6 @@ pub mod BufferLemmas
 pub mod FaultLemmas
 pub mod FrontLemmas
 pub mod InputLemmas
-pub mod JoinedLemmas
 pub mod NumeralLemmas
 pub mod PartingLemmas
 pub mod PieceLemmas

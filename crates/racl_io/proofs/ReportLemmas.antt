@@ -1,11 +1,11 @@
 -- The report on verdicts is that on the first of them, and after it that on the others.
-use Rattle.std.proofs.Common.{◌≡◌, ◌∙◌, ◌+◌, ◌-◌, ◌++◌, ℕ, Bool, true, false, not, cond, List, [], ◌∷◌, Option, length, take, drop, arith, append_assoc, refl, sym, ap, ap₂}
+use Rattle.std.proofs.Common.{◌≡◌, ◌∙◌, ◌+◌, ◌-◌, ◌++◌, ℕ, Bool, true, false, not, cond, List, [], ◌∷◌, Option, length, arith, append_assoc, refl, sym, ap, ap₂}
 use Rattle.std.proofs.KnownBytes.{Appends-trans}
 use Rattle.std.specs.Io.KnownBytes.{Appends}
 use Rattle.std.proofs.lemmas.List.Sums.{sum_by-append, sum_by-cons}
 use Rattle.session_state.specs.Passes.{passes}
 use Rattle.session_state.specs.declared.verdict.Verdict.{Verdict}
-use Rattle.racl_io.specs.Reports.{captures_from, dropped, is_truncated, lacks_pages, line_of, lines_from, packets_in, passed, totals_of, truncation_line, without_pages}
+use Rattle.racl_io.specs.Reports.{dropped, is_truncated, lacks_pages, line_of, lines_from, packets_in, passed, totals_of, without_pages}
 use Rattle.racl_io.specs.Sinks.{GotFront}
 use Rattle.racl_io.specs.declared.totals_and_truncation.Captured.{Captured}
 use Rattle.racl_io.specs.declared.totals_and_truncation.Totals.{Totals}
@@ -49,21 +49,6 @@ cut_at a b c front piece behind text whole wrote (part, rest, same, got) = (
       ∙ append_assoc (front ++ part) rest behind,
   Appends-trans a b c front part wrote got,
 )
-
--- what is written where a further capture is
-pub more_captures : (front text : List ℕ) (n m : ℕ) (rest xs ys : List Verdict) (captured : Captured) (left after : List Captured) → front ++ captures_from n rest left ≡ text
-    → left ≡ captured ∷ after → xs ≡ take captured.packets rest → ys ≡ drop captured.packets rest → m ≡ n + captured.packets
-    → (front ++ (lines_from captured.named n xs ++ truncation_line captured.named captured.truncated captured.packets)) ++ captures_from m ys after ≡ text
-more_captures front text n m rest xs ys captured left after told parted first behind next =
-    let lines = lines_from captured.named n in
-    let end = truncation_line captured.named captured.truncated captured.packets in
-    append_assoc front (lines xs ++ end) (captures_from m ys after)
-    ∙ ap (λ t. front ++ t) (append_assoc (lines xs) end (captures_from m ys after)
-    ∙ ap (λ vs. lines vs ++ (end ++ captures_from m ys after)) first
-    ∙ ap (λ vs. lines (take captured.packets rest) ++ (end ++ captures_from m vs after)) behind
-    ∙ ap (λ k. lines (take captured.packets rest) ++ (end ++ captures_from k (drop captured.packets rest) after)) next
-    ∙ ap (captures_from n rest) (sym parted))
-    ∙ told
 
 -- the captures behind the first have the packets behind its
 pub counted_behind : (rest : List Verdict) (captured : Captured) (left after : List Captured) → packets_in left ≡ length rest → left ≡ captured ∷ after

@@ -1,11 +1,11 @@
 -- The report with the lines of some packets is that on the first of them, and after it that on the others.
-use Rattle.std.proofs.Common.{◌≡◌, ◌∙◌, ◌+◌, ◌++◌, ℕ, List, [], ◌∷◌, Option, length, take, drop, arith, append_assoc, refl, sym, ap, ap₂}
+use Rattle.std.proofs.Common.{◌≡◌, ◌∙◌, ◌+◌, ◌++◌, ℕ, List, [], ◌∷◌, Option, length, take, drop, arith, append_assoc, refl, sym, ap}
 use Rattle.session_state.specs.declared.verdict.Verdict.{Verdict}
 use Rattle.racl_io.specs.declared.totals_and_truncation.Captured.{Captured}
 use Rattle.session_state.specs.declared.shown_verdicts.Shown.{Shown}
 use Rattle.session_state.specs.declared.shown_verdicts.Shown.TheVariants.{Every}
-use Rattle.racl_io.specs.Reports.{captures_from, line_of, lines_from, report_of, totals_line, totals_of, truncation_line}
-use Rattle.racl_io.specs.ShownReports.{captures_shown, line_shown, lines_shown, report_shown}
+use Rattle.racl_io.specs.Reports.{line_of, lines_from, truncation_line}
+use Rattle.racl_io.specs.ShownReports.{captures_shown, line_shown, lines_shown}
 
 shown_of_both : (shown : Shown) (named : Option ℕ) (n m : ℕ) (xs ys : List Verdict) → m ≡ n + length xs
     → lines_shown shown named n (xs ++ ys) ≡ lines_shown shown named n xs ++ lines_shown shown named m ys
@@ -37,16 +37,7 @@ more_captures_shown shown front text n m rest xs ys captured left after told par
     ∙ ap (captures_shown shown n rest) (sym parted))
     ∙ told
 
+-- where every packet has a line, they are those of all packets
 pub every_line : (named : Option ℕ) (n : ℕ) (verdicts : List Verdict) → lines_shown Every named n verdicts ≡ lines_from named n verdicts
 every_line named n [] = refl
 every_line named n (v ∷ vs) = ap (λ l. line_of named n v ++ l) (every_line named (n + 1) vs)
-
-every_capture : (n : ℕ) (verdicts : List Verdict) (captures : List Captured) → captures_shown Every n verdicts captures ≡ captures_from n verdicts captures
-every_capture n verdicts [] = refl
-every_capture n verdicts (c ∷ cs) =
-    ap₂ (λ lines rest. lines ++ (truncation_line c.named c.truncated c.packets ++ rest)) (every_line c.named n (take c.packets verdicts))
-    (every_capture (n + c.packets) (drop c.packets verdicts) cs)
-
--- where every packet has a line, it is the whole report
-pub every_shown : (verdicts : List Verdict) (captures : List Captured) → report_shown Every verdicts captures ≡ report_of verdicts captures
-every_shown verdicts captures = ap (λ text. text ++ totals_line (totals_of verdicts captures)) (every_capture 1 verdicts captures)

@@ -10,5 +10,4 @@ pub mod ShownReports
 pub mod Sinks
 pub mod Tellings
 pub mod Transfers
-pub mod Writings
 pub mod inner

@@ -1,5 +1,5 @@
--- The report: for one capture after the other a line for each packet, and the totals over all (this project's profile).
-use Rattle.std.specs.Prelude.{ℕ, ◌+◌, Bool, true, false, not, List, [], ◌∷◌, ◌++◌, Option, None, Some, length, take, drop, codes, decimal, count_by}
+-- The report's lines: of packets, of a truncation, and the totals over all captures (this project's profile).
+use Rattle.std.specs.Prelude.{ℕ, ◌+◌, Bool, true, false, not, List, [], ◌∷◌, ◌++◌, Option, None, Some, length, codes, decimal, count_by}
 use Rattle.std.specs.List.{list_any}
 use Rattle.session_state.specs.Passes.{passes}
 use Rattle.session_state.specs.declared.verdict.Verdict.{Verdict}
@@ -44,15 +44,6 @@ abbrev pub packets_in : List Captured → ℕ
 packets_in [] = 0
 packets_in (captured ∷ captures) = captured.packets + packets_in captures
 
--- What is told of captures, one after the other, of whose packets the first has the number n. Each has its packets' verdicts
--- from the front of the list.
-abbrev pub captures_from : ℕ → List Verdict → List Captured → List ℕ
-captures_from n verdicts [] = []
-captures_from n verdicts (captured ∷ captures) =
-    lines_from captured.named n (take captured.packets verdicts)
-    ++ (truncation_line captured.named captured.truncated captured.packets
-    ++ captures_from (n + captured.packets) (drop captured.packets verdicts) captures)
-
 abbrev pub passed : List Verdict → ℕ
 passed verdicts = count_by passes verdicts
 
@@ -83,6 +74,3 @@ totals_of verdicts captures =
 
 abbrev pub totals_line : Totals → List ℕ
 totals_line t = codes "packets " ++ (decimal t.packets ++ (codes " pass " ++ (decimal t.passed ++ (codes " drop " ++ (decimal t.dropped ++ codes "\n")))))
-
-abbrev pub report_of : List Verdict → List Captured → List ℕ
-report_of verdicts captures = captures_from 1 verdicts captures ++ totals_line (totals_of verdicts captures)

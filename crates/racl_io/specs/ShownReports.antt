@@ -1,5 +1,5 @@
--- The report with the lines of some packets alone: their numbers, what is told of truncations, and the totals are those of
--- all packets (this project's profile).
+-- The report: for one capture after the other the lines of the packets that are shown, what is told of a truncation, and the
+-- totals; their numbers and the totals are those of all packets (this project's profile).
 use Rattle.std.specs.Prelude.{ℕ, ◌+◌, List, [], ◌∷◌, ◌++◌, Option, take, drop, if◌then◌else◌}
 use Rattle.session_state.specs.Passes.{is_shown}
 use Rattle.session_state.specs.declared.verdict.Verdict.{Verdict}
@@ -16,7 +16,8 @@ abbrev pub lines_shown : Shown → Option ℕ → ℕ → List Verdict → List 
 lines_shown shown named n [] = []
 lines_shown shown named n (verdict ∷ verdicts) = line_shown shown named n verdict ++ lines_shown shown named (n + 1) verdicts
 
--- what is told of captures, one after the other, of whose packets the first has the number n
+-- What is told of captures, one after the other, of whose packets the first has the number n. Each has its packets' verdicts
+-- from the front of the list.
 abbrev pub captures_shown : Shown → ℕ → List Verdict → List Captured → List ℕ
 captures_shown shown n verdicts [] = []
 captures_shown shown n verdicts (captured ∷ captures) =

@@ -1,78 +1,45 @@
-//! A policy and captures from readers as one source.
-ghost use Rattle.std.specs.Prelude.{◌≡◌, IfOk, map, option_map};
-ghost use Rattle.std.specs.Io.Chain.{chain_first};
-ghost use Rattle.racl_io.specs.Joined as joining;
-ghost use Rattle.racl_io.specs.Joined.{joined_bytes, marked_bytes};
-ghost use Rattle.racl_io.specs.Writings.{front_at, joined_left, marked_left};
+//! A policy's text and a capture from a reader as one source.
+ghost use Rattle.std.specs.Prelude.{◌≡◌};
+ghost use Rattle.racl_io.specs.Fronts.{front_of};
+ghost use Rattle.racl_io.specs.Joined.{capture_of, joined_bytes, joined_left, text_of};
 
-use crate::capture_as_written::Written;
 use crate::device::{Device, DeviceFault, Source};
-use crate::marker_line::Form;
-use crate::readers_in_turn::InTurn;
-use itoa::Buffer;
-use std::alloc::{AllocError, Global};
+use crate::front_kept::FrontKept;
 use std::io::{Chain, Cursor, Read};
 
-/// What gives a marker line, and behind it a capture in the line's form.
-pub type Marked<R> = Chain<Cursor<Vec<u8>>, Written<R>>;
+/// The marker line of a capture as it is, behind a line feed that ends the line before.
+const MARKER: &[u8] = b"\npcap\n";
 
-// The marker line that a joined source has before a capture, behind the line feed that ends the line before.
-fn joined_marker_line(alloc: Global, form: Form) -> Result<Vec<u8>, AllocError>
-    ensures { IfOk result (λ line. line.items ≡ joining.marker_line form) }
-{
-    match form {
-        Form::Binary => Vec::from_slice(alloc, b"\npcap\n"),
-        Form::Hexadecimal => Vec::from_slice(alloc, b"\nhex\n"),
-        Form::Numbered(number) => {
-            let mut line = Vec::from_slice(alloc, b"\nhex ")?;
-            line.extend_from_slice(Buffer::new().format(number).as_bytes())?;
-            line.extend_from_slice(b"\n")?;
-            Ok(line)
-        }
-    }
-}
-
-/// A capture from a reader behind its marker line, as it is joined to a policy in one source.
-pub fn joined_capture<R: Read + Drop>(
-    alloc: Global,
-    form: Form,
-    capture: R,
-) -> Result<Marked<R>, AllocError>
-    ensures { IfOk result (λ marked. marked_left R.remaining marked ≡ marked_bytes form (R.remaining capture)) }
-{
-    let line = joined_marker_line(alloc, form)?;
-    Ok(Cursor::new(line).chain(Written::new(form, capture)))
-}
-
-/// What gives the bytes of a policy, and then those of captures behind their marker lines.
+/// What gives the bytes of a policy's text, and then those of a capture as it is behind its marker line.
 #[derive(Drop)]
 pub struct Joined<R> {
-    device: Device<Chain<R, InTurn<Marked<R>>>>,
+    device: Device<Chain<Cursor<Vec<u8>>, Chain<&'static [u8], FrontKept<R>>>>,
 }
 
 impl<R: Read> Joined<R> {
-    pub fn new(policy: R, captures: Vec<Marked<R>>) -> Joined<R>
-        ensures bytes { joined_left R.remaining result ≡ joined_bytes (R.remaining policy) (map (marked_left R.remaining) captures.items) }
+    pub fn new(text: Vec<u8>, capture: R) -> Joined<R>
+        ensures bytes { joined_left R.remaining result ≡ joined_bytes text.items (R.remaining capture) }
+        ensures text { text_of result ≡ text.items }
         ensures sound { result.device.failures ≡ 0 }
     {
+        let marked = MARKER.chain(FrontKept::new(capture));
         Joined {
-            device: Device::new(policy.chain(InTurn::new(captures))),
+            device: Device::new(Cursor::new(text).chain(marked)),
         }
     }
 
-    /// What the policy comes from.
-    pub fn policy(&self) -> &R
-        ensures { result.now ≡ chain_first self.now.device.inner }
+    /// The policy's text.
+    pub fn text(&self) -> &[u8]
+        ensures { result.now ≡ text_of self.now }
     {
-        self.device.inner.get_ref().0
+        self.device.inner.get_ref().0.get_ref().as_slice()
     }
 
-    /// The first bytes of the capture at this place that were read, up to 4096; None where there are no so many captures.
-    pub fn front(&self, place: usize) -> Option<&[u8]>
-        ensures { option_map (λ front. front.now) result ≡ front_at self.now place }
+    /// The first bytes of the capture that were read, up to 4096.
+    pub fn front(&self) -> &[u8]
+        ensures { result.now ≡ front_of (capture_of self.now) }
     {
-        let capture = self.device.inner.get_ref().1.readers.get(place)?;
-        Some(capture.get_ref().1.reader.front())
+        self.device.inner.get_ref().1.get_ref().1.front()
     }
 }
 

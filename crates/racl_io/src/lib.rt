@@ -2,7 +2,6 @@
 //! faults.
 #![tactic(auto)]
 
-mod capture_as_written;
 mod device;
 mod digit_decoding;
 mod fault;
@@ -16,13 +15,12 @@ mod number_printing;
 mod packet_lines;
 mod plain_lines;
 mod read_buffer;
-mod readers_in_turn;
 mod reading_and_writing;
 mod report_piece;
-mod shown_lines_report;
+mod shown_report;
 mod teller;
 mod totals_and_truncation;
-mod whole_report;
+mod whole_lines;
 
 pub use device::{Device, DeviceFault, Sink, Source};
 pub use digit_decoding::{decode_digits, is_blank};
@@ -30,16 +28,15 @@ pub use fault::Fault;
 pub use file_kind::{Other, is_capture, other_file};
 pub use front_kept::FrontKept;
 pub use interface_name::push_name;
-pub use joined_source::{Joined, Marked, joined_capture};
+pub use joined_source::Joined;
 pub use marker_line::{Digits, Form, Input, Numbered, cut_at_numbered_marker, split_input};
 pub use number_printing::Numeral;
 pub use plain_lines::PlainLines;
 pub use read_buffer::ReadBuffer;
 pub use reading_and_writing::{MOST_BYTES, drain, read_until, write_all};
 pub use report_piece::Piece;
-pub use shown_lines_report::write_shown;
+pub use shown_report::write_shown;
 pub use teller::Teller;
 pub use totals_and_truncation::{
     Captured, Totals, totals_on, without_pages, write_end, write_totals, write_truncation,
 };
-pub use whole_report::{Place, write_lines_whole, write_report};

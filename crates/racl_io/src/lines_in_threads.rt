@@ -10,7 +10,7 @@ use crate::number_printing::Counter;
 use crate::packet_lines::{LINES, push_lines};
 use crate::reading_and_writing::write_all;
 use crate::report_piece::Piece;
-use crate::whole_report::{Place, write_lines_whole};
+use crate::whole_lines::{Place, write_lines_whole};
 use session_state::Verdict;
 use std::alloc::{AllocError, Global};
 use std::thread::{Threads, join_mut};

@@ -19,10 +19,12 @@ use Rattle.clap.proofs.SimpleLemmas.{all_simple, plain_fields, simple_groups}
 use Rattle.clap.proofs.WalkLemmas.{first_value-rows, one_text-rows, raw_values-rows}
 use Rattle.racl_options.specs.Asking.{AskBy, AskForRun, AskedFacts, fit_together}
 use Rattle.racl_options.specs.Origins.{Name}
+use Rattle.racl_options.specs.ShardWords.{AskForShard}
 use Rattle.racl_options.specs.CommandLine.{HoldsNumber, HoldsNumbers, OptionFacts, OptionName, Workers, Established, Transient, Udp, SetOptions, Spells, Values, most_of, name_of, number_of, number_rule, racl, values_at}
 use Rattle.racl_options.specs.inner.Naming.{values_in}
 use Rattle.racl_options.proofs.NameLemmas.{one_origin}
 use Rattle.racl_options.proofs.NumberLemmas.{number_held, option_by_rule}
+use Rattle.racl_options.proofs.ShardWordLemmas.{one_shard}
 
 racl_is_simple : is_simple racl ≡ true
 unfolding clap_on_literals
@@ -56,39 +58,39 @@ module _ (c : Command) (is : app_of c ≡ racl) where
   rules_are : map rule_of (args_of c) ≡ racl.top.rules
   rules_are = ap (λ (a : App). a.top.rules) is
 
-  twenty : length (args_of c) ≡ 20
-  twenty = sym (length-map (args_of c) rule_of) ∙ ap length rules_are
+  all_args : length (args_of c) ≡ 21
+  all_args = sym (length-map (args_of c) rule_of) ∙ ap length rules_are
 
-  rule_at : (k : ℕ) (d : Arg) → k < 20 → rule_of (slice_index_or (args_of c) k d) ≡ slice_index_or racl.top.rules k (rule_of d)
+  rule_at : (k : ℕ) (d : Arg) → k < 21 → rule_of (slice_index_or (args_of c) k d) ≡ slice_index_or racl.top.rules k (rule_of d)
   rule_at k d lt =
-      let below : k < length (args_of c) = rw twenty lt in
+      let below : k < length (args_of c) = rw all_args lt in
       sym (get_or-map rule_of (args_of c) k d (rule_of d) below) ∙ ap (λ rs. slice_index_or rs k (rule_of d)) rules_are
 
   -- where the id of an argument stands among the ids
-  id_at : (k : ℕ) (d : Arg) (t : Text) → k < 20 → slice_index_or ids (suc (suc (suc k))) t ≡ (slice_index_or (args_of c) k d).id.now
+  id_at : (k : ℕ) (d : Arg) (t : Text) → k < 21 → slice_index_or ids (suc (suc (suc k))) t ≡ (slice_index_or (args_of c) k d).id.now
   id_at k d t lt = get_or-map (λ (r : Rule). r.id) racl.top.rules k (rule_of d) t lt ∙ sym (ap (λ (r : Rule). r.id) (rule_at k d lt))
 
   -- no argument has the id of one that stands elsewhere
-  unique : (j k : ℕ) (d e : Arg) → j < 20 → k < 20 → (slice_index_or (args_of c) j e).id.now ≡ (slice_index_or (args_of c) k d).id.now → j ≡ k
+  unique : (j k : ℕ) (d e : Arg) → j < 21 → k < 21 → (slice_index_or (args_of c) j e).id.now ≡ (slice_index_or (args_of c) k d).id.now → j ≡ k
   unique j k d e j_in k_in same =
       let places : suc (suc (suc j)) ≡ suc (suc (suc k)) = same_place _ _ [] (omega arith) (omega arith) (id_at j e [] j_in ∙ same ∙ sym (id_at k d [] k_in)) in
       omega arith
 
   -- nor one of the ids that stand before the options'
-  own : (j k : ℕ) (d : Arg) → j < 3 → k < 20 → (slice_index_or (args_of c) k d).id.now ≡ slice_index_or ids j [] → ⊥
+  own : (j k : ℕ) (d : Arg) → j < 3 → k < 21 → (slice_index_or (args_of c) k d).id.now ≡ slice_index_or ids j [] → ⊥
   own j k d j_in k_in same =
       let places : j ≡ suc (suc (suc k)) = same_place _ _ [] (omega arith) (omega arith) (sym same ∙ sym (id_at k d [] k_in)) in
       absurd (omega arith)
 
   -- the matches hold a number for the option at a place
-  held_at : (m : ArgMatches) → IsParsedFrom c m → (k : ℕ) (d : Arg) (o : OptionName) → k < 20 → slice_index_or racl.top.rules k (rule_of d) ≡ number_rule o
+  held_at : (m : ArgMatches) → IsParsedFrom c m → (k : ℕ) (d : Arg) (o : OptionName) → k < 21 → slice_index_or racl.top.rules k (rule_of d) ≡ number_rule o
       → HoldsNumber (most_of o) (one_text (found_of m) (name_of o))
   held_at m p k d o lt here =
       let plain = plain_fields c (ap (λ (a : App). a.top.is_plain) is) in
       let simple : all_simple (shape_of c).rules ≡ true = ap (λ (a : App). all_simple a.top.rules) is in
       let option = option_by_rule o (slice_index_or (args_of c) k d) (rule_at k d lt ∙ here) in
-      number_held c m p plain.globals (simple_groups c simple) plain.groups k d o option (rw twenty lt)
-      (λ j e low same. unique j k d e (rw twenty at low) lt ((bytes_eq-Decides _ (name_of o)).0 same ∙ sym option.name))
+      number_held c m p plain.globals (simple_groups c simple) plain.groups k d o option (rw all_args lt)
+      (λ j e low same. unique j k d e (rw all_args at low) lt ((bytes_eq-Decides _ (name_of o)).0 same ∙ sym option.name))
       (λ empty. own 0 k d (omega arith) lt (option.name ∙ empty))
       (λ auto. elim auto [ inl h ↦ own 1 k d (omega arith) lt h | inr h ↦ own 2 k d (omega arith) lt h ])
 
@@ -99,7 +101,7 @@ numbers_held c m is p = go (args_of c) refl
     go : (xs : List Arg) → args_of c ≡ xs → HoldsNumbers (one_text (found_of m))
     go [] e =
         let none : length (args_of c) ≡ 0 = ap length e in
-        absurd (omega (arith, twenty c is))
+        absurd (omega (arith, all_args c is))
     go (d ∷ rest) e = record {
       workers = held_at c is m p 0 d Workers (omega arith) refl;
       established = held_at c is m p 1 d Established (omega arith) refl;
@@ -157,20 +159,23 @@ one_saying values a b p q =
     let drops = sym p.drops ∙ q.drops in
     let passes = sym p.passes ∙ q.passes in
     let expected = sym p.expected ∙ q.expected in
-    λ i. record { options = options i; origin = origin i; drops = drops i; passes = passes i; expected = expected i }
+    let shard = one_shard _ a.shard b.shard p.shard q.shard in
+    λ i. record { options = options i; origin = origin i; drops = drops i; passes = passes i; expected = expected i; shard = shard i }
 
 -- nothing is asked for where what is read of the words doesn't go together
 pub none_asks : (values : Values) (b : AskedFacts) → SetOptions values b.options
     → Name (values.first (codes "POLICY")) (values.first (codes "CAPTURE")) (values.all (codes "interface")) b.origin
     → values.first (codes "drops") ≡ b.drops → values.first (codes "passes") ≡ b.passes → values.first (codes "expect") ≡ b.expected
+    → AskForShard (values.first (codes "shard")) b.shard
     → fit_together b ≡ false → (a : AskedFacts) → AskBy values a → ⊥
-none_asks values b set names saved_drops saved_passes is_expected unfit a p =
+none_asks values b set names saved_drops saved_passes is_expected is_shared unfit a p =
     let options = one_setting values a.options b.options p.options set in
     let origin = one_origin _ _ _ a.origin b.origin p.names names in
     let drops = sym p.drops ∙ saved_drops in
     let passes = sym p.passes ∙ saved_passes in
     let expected = sym p.expected ∙ is_expected in
-    let same : a ≡ b = (λ i. record { options = options i; origin = origin i; drops = drops i; passes = passes i; expected = expected i }) in
+    let shard = one_shard _ a.shard b.shard p.shard is_shared in
+    let same : a ≡ b = (λ i. record { options = options i; origin = origin i; drops = drops i; passes = passes i; expected = expected i; shard = shard i }) in
     true≢false (sym p.fit ∙ ap fit_together same ∙ unfit)
 
 -- words ask for one run

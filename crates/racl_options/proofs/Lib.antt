@@ -7,3 +7,4 @@ pub mod NumberLemmas
 pub mod SettingDefaults
 pub mod SettingLemmas
 pub mod SettingWalks
+pub mod ShardWordLemmas

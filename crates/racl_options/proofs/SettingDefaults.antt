@@ -16,7 +16,7 @@ use Rattle.clap.specs.declared.parser.matches.ValueSource.TheVariants.{DefaultVa
 use Rattle.clap.proofs.OnLiterals.{clap_on_literals}
 use Rattle.racl_options.specs.CommandLine.{OptionName, Workers, Established, Transient, Udp, default_of, name_of, racl}
 use Rattle.racl_options.specs.Selections.{FlagName, Summary, Hits, Sessions, Explain, JsonLines, Live, AnyLength, Age, flag_id}
-use Rattle.racl_options.specs.inner.Commands.{drops_id, expect_id, only_id, passes_id, tables_id}
+use Rattle.racl_options.specs.inner.Commands.{drops_id, expect_id, only_id, passes_id, shard_id, tables_id}
 use Rattle.racl_options.proofs.NameWalks.{has_row_behind}
 use Rattle.racl_options.proofs.SettingWalks.{at_row_missing, between, capture_filled, default_row, filled_rule, flag_filled, interface_filled, policy_filled, top, value_filled}
 
@@ -89,14 +89,20 @@ files_pass : PassEach files
 files_pass = (none_passes policy_filled refl, (none_passes capture_filled refl, (none_passes (filled help_rule) refl, (none_passes (filled version_rule) refl, tt))))
 
 abbrev others : List Rule
-others = value_filled tables_id ∷ interface_filled ∷ value_filled only_id ∷ value_filled drops_id ∷ value_filled passes_id ∷ value_filled expect_id ∷ []
+others = value_filled tables_id ∷ interface_filled ∷ value_filled only_id ∷ value_filled drops_id ∷ value_filled passes_id ∷ value_filled expect_id ∷ value_filled shard_id ∷ []
 
 others_pass : (rs : List Rule) → PassEach rs → PassEach (others ++ rs)
 others_pass rs pass = (
   none_passes (value_filled tables_id) refl,
   (
     none_passes interface_filled refl,
-    (none_passes (value_filled only_id) refl, (none_passes (value_filled drops_id) refl, (none_passes (value_filled passes_id) refl, (none_passes (value_filled expect_id) refl, pass)))),
+    (
+      none_passes (value_filled only_id) refl,
+      (
+        none_passes (value_filled drops_id) refl,
+        (none_passes (value_filled passes_id) refl, (none_passes (value_filled expect_id) refl, (none_passes (value_filled shard_id) refl, pass))),
+      ),
+    ),
   ),
 )
 
@@ -288,7 +294,7 @@ all_filled rows other none = each_keeps files _
           none_keeps (value_filled only_id) refl,
           (
             none_keeps (value_filled drops_id) refl,
-            (none_keeps (value_filled passes_id) refl, (none_keeps (value_filled expect_id) refl, tt)),
+            (none_keeps (value_filled passes_id) refl, (none_keeps (value_filled expect_id) refl, (none_keeps (value_filled shard_id) refl, tt))),
           ),
         ),
       ),

@@ -21,7 +21,7 @@ use Rattle.racl_options.specs.Selections.{FlagName, Summary, Hits, Sessions, Exp
 use Rattle.racl_options.specs.Sizes.{size_by}
 use Rattle.racl_options.specs.Options.{AreNames, AreSettings, Setting, Use, asked_as, sets, value_at, values_of, words_as}
 use Rattle.racl_options.specs.Origins.{Name, OriginFacts}
-use Rattle.racl_options.specs.inner.Commands.{capture_id, drops_id, expect_id, interface_id, only_id, passes_id, policy_id, tables_id}
+use Rattle.racl_options.specs.inner.Commands.{capture_id, drops_id, expect_id, interface_id, only_id, passes_id, policy_id, shard_id, tables_id}
 use Rattle.racl_options.proofs.NameLemmas.{plain_uses}
 use Rattle.racl_options.proofs.NameWalks.{Ends, has_row_behind, names_end, rows_of_names, rows_of_uses, uses_go_on, words_of_use}
 use Rattle.racl_options.proofs.SettingWalks.{AreNew, GoesOn, Holds, IsFit, between, default_row, row_of, settings_go_on, top, words_of}
@@ -209,6 +209,12 @@ no_expect Established = refl
 no_expect Transient = refl
 no_expect Udp = refl
 
+no_shard : IsOther shard_id
+no_shard Workers = refl
+no_shard Established = refl
+no_shard Transient = refl
+no_shard Udp = refl
+
 no_flag : (f : FlagName) → IsOther (flag_id f)
 no_flag Summary Workers = refl
 no_flag Summary Established = refl
@@ -347,6 +353,7 @@ words_ask program ss uses names origin are named says = record {
     drops = no_value drops_id no_drops refl (refl, refl, refl);
     passes = no_value passes_id no_passes refl (refl, refl, refl);
     expected = no_value expect_id no_expect refl (refl, refl, refl);
+    shard = rw (no_value shard_id no_shard refl (refl, refl, refl)) tt;
     fit = refl;
   };
 }

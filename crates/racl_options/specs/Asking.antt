@@ -1,5 +1,5 @@
 -- What the words ask for in all, and what of it doesn't go together (this project's profile).
-use Rattle.std.specs.Prelude.{◌≡◌, ◌==◌, ◌&&◌, ◌||◌, Bool, true, false, not, is_some, List, [], Option, None, Some, option_map, codes}
+use Rattle.std.specs.Prelude.{◌≡◌, ◌==◌, ◌&&◌, ◌||◌, Bool, true, false, not, is_none, is_some, List, [], Option, None, Some, option_map, codes}
 use Rattle.std.specs.Str.{bytes_eq}
 use Rattle.clap.specs.Words.{Text, fault_of}
 use Rattle.racl_options.specs.CommandLine.{OptionFacts, SetOptions, Values, option_facts, racl, values_at}
@@ -9,15 +9,17 @@ use Rattle.session_state.specs.declared.shown_verdicts.Shown.TheVariants.{Every,
 use Rattle.racl_options.specs.declared.settings.Asked.{Asked}
 use Rattle.racl_options.specs.declared.settings.Lines.{Lines}
 use Rattle.racl_options.specs.declared.settings.Lines.TheVariants.{Plain, Explained, Json}
+use Rattle.racl_options.specs.ShardWords.{AskForShard, ShardFacts, shard_facts}
 
 -- all that is asked for, as a value: with the names of the files that get the packets that were dropped, and those that passed,
--- and of the one that says what is expected
+-- and of the one that says what is expected, and the shard whose packets alone are judged
 pub record AskedFacts : Type 0 where
   pub options : OptionFacts
   pub origin : OriginFacts
   pub drops : Option Text
   pub passes : Option Text
   pub expected : Option Text
+  pub shard : Option ShardFacts
 
 abbrev pub asked_facts : Asked → AskedFacts
 asked_facts a = record {
@@ -26,6 +28,7 @@ asked_facts a = record {
   drops = option_map (λ t. t.now) a.saved.drops;
   passes = option_map (λ t. t.now) a.saved.passes;
   expected = option_map (λ t. t.now) a.expected;
+  shard = option_map shard_facts a.shard;
 }
 
 -- ---- what goes together
@@ -75,11 +78,17 @@ can_be_expected None asked = true
 can_be_expected (Some name) asked = is_beside name asked.origin
     && ((asked.options.workers == 1) && (are_verdicts_told asked.options && not (is_saved asked)))
 
--- Packets are saved of the capture in a file, and in two files. Lines are written early of the capture in a file, and
--- `--expect` is asked for only where what is expected can be compared.
+-- a shard's packets can be judged: those of the capture in a file, at whose end it is known, and of which nothing is expected
+abbrev pub can_be_shared : Option ShardFacts → AskedFacts → Bool
+can_be_shared None asked = true
+can_be_shared (Some shard) asked = are_files asked.origin && (not asked.options.live && is_none asked.expected)
+
+-- Packets are saved of the capture in a file, and in two files. Lines are written early of the capture in a file, a shard is asked
+-- for only where its packets can be judged, and `--expect` only where what is expected can be compared.
 abbrev pub fit_together : AskedFacts → Bool
 fit_together asked = (not (is_saved asked) || are_files asked.origin)
-    && (not (is_shared asked.drops asked.passes) && ((not (is_told_early asked.options) || are_files asked.origin) && can_be_expected asked.expected asked))
+    && (not (is_shared asked.drops asked.passes) && ((not (is_told_early asked.options) || are_files asked.origin)
+    && (can_be_shared asked.shard asked && can_be_expected asked.expected asked)))
 
 -- what a parse holds asks for this
 pub record AskBy (values : Values) (asked : AskedFacts) : Type 0 where
@@ -88,6 +97,7 @@ pub record AskBy (values : Values) (asked : AskedFacts) : Type 0 where
   pub drops : values.first (codes "drops") ≡ asked.drops
   pub passes : values.first (codes "passes") ≡ asked.passes
   pub expected : values.first (codes "expect") ≡ asked.expected
+  pub shard : AskForShard (values.first (codes "shard")) asked.shard
   pub fit : fit_together asked ≡ true
 
 -- ---- words
@@ -98,7 +108,7 @@ pub record AskForRun (words : List Text) (asked : AskedFacts) : Type 0 where
   pub asks : AskBy (values_at words) asked
 
 -- the command finds no fault in the words, and yet there is nothing that they ask for: no size of tables, no packets to be
--- shown, no input, or these don't go together
+-- shown, no shard, no input, or these don't go together
 pub record AskForNothing (words : List Text) : Type 0 where
   pub faultless : fault_of racl words ≡ []
   pub nothing : (asked : AskedFacts) → AskBy (values_at words) asked → ⊥

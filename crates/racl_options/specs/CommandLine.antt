@@ -67,7 +67,7 @@ abbrev pub racl : App
 racl = fold with_rule (on_top (λ s. record s { has_version = true }) (new_app (codes "racl")))
     (number_rule Workers ∷ number_rule Established ∷ number_rule Transient ∷ number_rule Udp
     ∷ long_rule (codes "tables") Set 1 ∷ long_rule (codes "interface") Append 1 ∷ long_rule (codes "only") Set 1
-    ∷ long_rule (codes "drops") Set 1 ∷ long_rule (codes "passes") Set 1 ∷ long_rule (codes "expect") Set 1
+    ∷ long_rule (codes "drops") Set 1 ∷ long_rule (codes "passes") Set 1 ∷ long_rule (codes "expect") Set 1 ∷ long_rule (codes "shard") Set 1
     ∷ flag_rule Summary ∷ flag_rule Hits ∷ flag_rule Sessions ∷ flag_rule Explain ∷ flag_rule JsonLines ∷ flag_rule Live ∷ flag_rule AnyLength ∷ flag_rule Age
     ∷ file_rule (codes "POLICY") ∷ file_rule (codes "CAPTURE") ∷ [])
 

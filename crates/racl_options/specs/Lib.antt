@@ -5,5 +5,6 @@ pub mod Diffs
 pub mod Options
 pub mod Origins
 pub mod Selections
+pub mod ShardWords
 pub mod Sizes
 pub mod inner

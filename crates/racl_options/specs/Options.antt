@@ -61,7 +61,7 @@ values_of [] = None
 values_of (u ∷ rest) = Some (map (λ v. v.value) (u ∷ rest))
 
 -- What settings, uses and names ask for, where they name this input: the options are the numbers to which they are set, the
--- tables are standard, every packet has a plain line, no flag is given, and nothing is saved or expected.
+-- tables are standard, every packet has a plain line, no flag is given, nothing is saved or expected, and no shard is chosen.
 abbrev pub asked_as : List Setting → OriginFacts → AskedFacts
 asked_as settings origin = record {
   options = record {
@@ -82,6 +82,7 @@ asked_as settings origin = record {
   drops = None;
   passes = None;
   expected = None;
+  shard = None;
 }
 
 -- the settings, then the captures of interfaces, and then the names of files

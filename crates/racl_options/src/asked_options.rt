@@ -13,6 +13,7 @@ ghost use Rattle.racl_options.specs.inner.Naming.{IsRefused, SpellOptions, value
 use crate::named_files::{Refusal, origin_named};
 use crate::selected_output::{is_given, lines_named, saved_named, shown_named};
 use crate::settings::{Asked, Lines, Options, Origin, Saved, TableSize};
+use crate::shard_word::shard_asked;
 use crate::table_size::size_named;
 use clap::ArgMatches;
 use session_state::{Shown, Timeouts};
@@ -31,6 +32,8 @@ const NOT_EXPECTED: &str =
 
 const NOT_LIVE: &str = "--live and --any-length need POLICY CAPTURE";
 
+const NOT_SHARED: &str = "--shard needs POLICY CAPTURE, and goes with neither --live nor --expect";
+
 /// What the matches ask for.
 pub fn asked_by<'a>(alloc: Global, matches: &ArgMatches<'a>) -> Result<Asked<'a>, Refusal>
     requires { HoldsNumbers (one_text (found_of matches.now)) }
@@ -42,6 +45,10 @@ pub fn asked_by<'a>(alloc: Global, matches: &ArgMatches<'a>) -> Result<Asked<'a>
     let Some(shown) = shown_named(matches) else {
         return Err(Refusal::Mistake(NOT_SHOWN));
     };
+    let shard = match shard_asked(matches.get_str("shard")) {
+        Ok(shard) => shard,
+        Err(refusal) => return Err(refusal),
+    };
     let origin = match origin_named(alloc, matches) {
         Ok(origin) => origin,
         Err(refusal) => return Err(refusal),
@@ -51,6 +58,7 @@ pub fn asked_by<'a>(alloc: Global, matches: &ArgMatches<'a>) -> Result<Asked<'a>
         origin,
         saved: saved_named(matches),
         expected: matches.get_str("expect"),
+        shard,
     };
     match misfit(&asked) {
         Some(mistake) => Err(Refusal::Mistake(mistake)),
@@ -125,6 +133,14 @@ fn can_be_expected(asked: &Asked<'_>) -> bool
         && !is_saved(&asked.saved)
 }
 
+// Whether a shard of the capture goes with all else that is asked for.
+fn can_be_shared(asked: &Asked<'_>) -> bool
+    ensures { let facts = asked_facts asked.now in result ≡ asking.can_be_shared facts.shard facts }
+{
+    asked.shard.is_none()
+        || are_files_asked(&asked.origin) && !asked.options.live && asked.expected.is_none()
+}
+
 // Why what is asked for doesn't go together.
 fn misfit(asked: &Asked<'_>) -> Option<&'static str>
     ensures { is_none result ≡ fit_together (asked_facts asked.now) }
@@ -137,6 +153,9 @@ fn misfit(asked: &Asked<'_>) -> Option<&'static str>
     }
     if is_told_early(&asked.options) && !are_files_asked(&asked.origin) {
         return Some(NOT_LIVE);
+    }
+    if !can_be_shared(asked) {
+        return Some(NOT_SHARED);
     }
     if !can_be_expected(asked) {
         return Some(NOT_EXPECTED);

@@ -68,7 +68,6 @@ const ABOUT: &str = "Judges the packets of a capture by ordered rules and by ses
 
 const USAGE: &str = "racl [OPTIONS] POLICY CAPTURE
        racl [OPTIONS] --interface N=CAPTURE .. POLICY
-       racl --shard K/N [OPTIONS] POLICY CAPTURE
        racl [OPTIONS] < INPUT
        racl check POLICY
        racl expand FILE
@@ -79,11 +78,8 @@ const USAGE: &str = "racl [OPTIONS] POLICY CAPTURE
 // The help of the command line below the options. A function of its own, so that no proof of a caller has the text.
 fn after_help() -> &'static str {
     "INPUT is a policy, a line `pcap` or `hex`, and the capture in that form; POLICY and CAPTURE are such \
-    a policy and a capture's bytes. Except with --live and --any-length they have at most 67108864 bytes in all. The \
-    report goes to standard output. --drops, --passes, --expect, --live and --any-length need POLICY CAPTURE.
-
-The first words may be:
-      --shard <K/N>                The packets of shard K of N of POLICY CAPTURE alone, as with --any-length
+    a policy and a capture's bytes. Except with --live, --any-length and --shard they have at most 67108864 bytes in \
+    all. The report goes to standard output. --drops, --passes, --expect, --shard, --live and --any-length need POLICY CAPTURE.
 
 Examples:
   racl check host.policy
@@ -203,6 +199,12 @@ fn command_with_values<'a>(alloc: Global) -> Result<Command<'a>, AllocError>
             "expect",
             "FILE",
             "Tells which verdicts aren't as FILE expects in lines such as `7 drop`",
+        ))?
+        .arg(value_option(
+            alloc,
+            "shard",
+            "K/N",
+            "The packets of shard K of N alone; it implies --any-length",
         ))
 }
 

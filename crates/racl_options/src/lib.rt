@@ -9,6 +9,7 @@ mod files_of_diff;
 mod named_files;
 mod selected_output;
 mod settings;
+mod shard_word;
 mod table_size;
 
 pub use check_command::check_name;
@@ -16,5 +17,5 @@ pub use command_line::{options, words_status};
 pub use diff_command::{diff_files, diff_options};
 pub use files_of_diff::DiffFiles;
 pub use settings::{
-    Asked, CaptureFile, Files, Interfaces, Lines, Options, Origin, Saved, TableSize,
+    Asked, CaptureFile, Files, Interfaces, Lines, Options, Origin, Saved, ShardAsked, TableSize,
 };

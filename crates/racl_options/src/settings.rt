@@ -84,6 +84,16 @@ pub struct Saved<'a> {
     pub passes: Option<&'a str>,
 }
 
+/// Which of the shards of a capture is asked for.
+#[derive(Clone, Copy, Debug, PartialEq, Eq)]
+pub struct ShardAsked {
+    /// From 1.
+    pub number: u64,
+    /// How many there are.
+    pub count: u64,
+    pub ghost some: { (1 ≤ number) × (1 ≤ count) },
+}
+
 /// What the words of the command line ask for.
 #[derive(Drop)]
 pub struct Asked<'a> {
@@ -92,4 +102,6 @@ pub struct Asked<'a> {
     pub saved: Saved<'a>,
     /// The name of the file that says which verdicts are expected, where they are to be compared.
     pub expected: Option<&'a str>,
+    /// The shard whose packets alone are to be judged, where it isn't all of them.
+    pub shard: Option<ShardAsked>,
 }

@@ -8,12 +8,7 @@ use Rattle.racl_io.specs.declared.device.Device.{Device}
 use Rattle.racl_io.specs.declared.fault.Fault.{Fault}
 use Rattle.racl_io.specs.declared.fault.Fault.TheVariants as fault
 use Rattle.racl_report.specs.Statuses.{status_of_fault}
-use Rattle.clap.specs.Words.{Text}
-use Rattle.racl_options.specs.Origins.{origin_facts}
-use Rattle.racl_options.specs.declared.settings.Origin.{Origin}
-use Rattle.racl_options.specs.declared.settings.Origin.TheVariants.{Standard, Files, Interfaces}
 use Rattle.racl_system.specs.MarkedPolicies.{IsFileFault, IsFileStatus, IsMarkedFault, IsUnheld}
-use Rattle.racl_system.specs.NamedFiles.{IsInputStatus, policy_of}
 use Rattle.racl_system.specs.Readers.{IsLiveStatus}
 
 -- what was read up to so many bytes is the front of all
@@ -103,10 +98,3 @@ status_of_unheld text why status same (inr (inr refused)) = go (status_is why)
     go : (status_of_fault why ≡ 4) ⊎ (status_of_fault why ≡ 1) → IsFileStatus text status
     go (inl four) = inl (same ∙ four)
     go (inr one) = inr (same ∙ one, known text refused)
-
--- so of the policy's file of an input
-pub status_of_input : (named : Text → Option (List ℕ)) (origin : Origin) (why : Fault) (status : ℕ) → (origin ≡ Standard → ⊥)
-    → status ≡ status_of_fault why → IsUnheld (named (policy_of (origin_facts origin))) why → IsInputStatus named (origin_facts origin) status
-status_of_input named Standard why status not same unheld = absurd (not refl)
-status_of_input named (Files files) why status not same unheld = status_of_unheld _ why status same unheld
-status_of_input named (Interfaces interfaces) why status not same unheld = status_of_unheld _ why status same unheld

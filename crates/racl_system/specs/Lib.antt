@@ -1,9 +1,8 @@
 pub mod CheckStatuses
+pub mod Drafts
 pub mod Expands
-pub mod FaultyCaptures
 pub mod InterfaceFiles
 pub mod MarkedPolicies
-pub mod NamedFiles
 pub mod Places
 pub mod Readers
 pub mod SaveFiles

@@ -15,13 +15,7 @@ use std::alloc::Global;
 use std::io;
 use std::io::{Eprint, Print};
 
-/// The words that the program was called with. No clause says which these are, since they are the system's.
-pub fn words_of(rt: &HostRuntime, alloc: Global) -> io::Result<Vec<String>> {
-    let words: Vec<String> = std::env::args(rt)?.collect(alloc)?;
-    Ok(words)
-}
-
-/// The words that the program was called with as texts.
+/// The words of a command line as texts.
 pub fn texts_of<'a>(alloc: Global, words: &'a [String]) -> io::Result<Vec<&'a str>>
     ensures { IfOk result (λ found. texts found.items ≡ map string_bytes words.now) }
 {

@@ -1,6 +1,8 @@
 //! Files that are written beside those that they become, so that what fails leaves a file as it was.
-ghost use Rattle.std.specs.Prelude.{◌↔◌, IfErr, IsTrue};
+ghost use Rattle.std.specs.Prelude.{◌≡◌, ◌↔◌, IfErr, IfOk, IfSome, IsTrue, None, option_map, string_bytes};
 ghost use Rattle.std.specs.IoError.{raw_os_error};
+ghost use Rattle.racl_options.specs.Checks.{text_behind};
+ghost use Rattle.racl_system.specs.Drafts.{IsBeside};
 ghost use Rattle.racl_system.specs.Syncs.{IsNeverSynced};
 
 use std::alloc::Global;
@@ -97,7 +99,10 @@ fn takes_after(file: &File, found: &Metadata) -> io::Result<bool> {
 }
 
 // The draft of a target. None where there can be none in its folder, or none that takes after it.
-fn draft_beside(rt: &HostRuntime, alloc: Global, target: Target) -> io::Result<Option<Draft>> {
+fn draft_beside(rt: &HostRuntime, alloc: Global, target: Target) -> io::Result<Option<Draft>>
+    ensures { IfOk result (λ draft. IfSome draft (λ made. IfSome made.names (λ names.
+        IsBeside (string_bytes names.target) (string_bytes names.beside)))) }
+{
     let Target {
         name: target,
         found,
@@ -122,7 +127,10 @@ fn draft_beside(rt: &HostRuntime, alloc: Global, target: Target) -> io::Result<O
 }
 
 // The draft of a file, None where there can be none.
-fn draft_of(rt: &HostRuntime, alloc: Global, name: &str) -> io::Result<Option<Draft>> {
+fn draft_of(rt: &HostRuntime, alloc: Global, name: &str) -> io::Result<Option<Draft>>
+    ensures { IfOk result (λ draft. IfSome draft (λ made. IfSome made.names (λ names.
+        IsBeside (string_bytes names.target) (string_bytes names.beside)))) }
+{
     match draft_target(rt, alloc, name)? {
         Some(target) => draft_beside(rt, alloc, target),
         None => Ok(None),
@@ -131,7 +139,9 @@ fn draft_of(rt: &HostRuntime, alloc: Global, name: &str) -> io::Result<Option<Dr
 
 /// The file of a name to be written: a draft; or the file itself, which is created or emptied, where there can be no draft
 /// or memory runs out. No clause says what becomes of files, since that is the system's: `tests/run` looks at it.
-pub fn created_draft(rt: &HostRuntime, alloc: Global, name: &str) -> io::Result<Draft> {
+pub fn created_draft(rt: &HostRuntime, alloc: Global, name: &str) -> io::Result<Draft>
+    ensures { IfOk result (λ made. IfSome made.names (λ names. IsBeside (string_bytes names.target) (string_bytes names.beside))) }
+{
     match draft_of(rt, alloc, name) {
         Ok(Some(draft)) => return Ok(draft),
         Err(reason) if reason.kind() != ErrorKind::OutOfMemory => return Err(reason),
@@ -144,23 +154,24 @@ pub fn created_draft(rt: &HostRuntime, alloc: Global, name: &str) -> io::Result<
 }
 
 impl Draft {
-    /// Removes what was written beside a file, which stays as it was.
-    pub fn discard(&self, rt: &HostRuntime) {
-        if let Some(names) = &self.names {
-            let _ = remove_file(rt, names.beside.as_str());
+    /// The name of the file beside the one that it becomes, where there is one: who gives the draft up removes it.
+    pub fn beside(&self) -> Option<&str>
+        ensures { text_behind result ≡ option_map (λ names. string_bytes names.beside) self.now.names }
+    {
+        match &self.names {
+            Some(names) => Some(names.beside.as_str()),
+            None => None,
         }
     }
 
-    /// Syncs what was written, and has it become the file of its name; where that fails it is removed.
-    pub fn settle(&self, rt: &HostRuntime) -> io::Result<()> {
-        let settled = match (sync_written(&self.file), &self.names) {
+    /// Syncs what was written, and has it become the file of its name.
+    pub fn settle(&self, rt: &HostRuntime) -> io::Result<()>
+        ensures { self.now.names ≡ None → IfErr result (λ reason. IsNeverSynced (raw_os_error reason) → ⊥) }
+    {
+        match (sync_written(&self.file), &self.names) {
             (Ok(()), Some(names)) => rename(rt, names.beside.as_str(), names.target.as_str()),
             (result, _) => result,
-        };
-        if settled.is_err() {
-            self.discard(rt);
         }
-        settled
     }
 }
 

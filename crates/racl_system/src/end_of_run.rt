@@ -1,20 +1,19 @@
 //! What is said behind a run of the files that it was on, and of how it ended.
-ghost use Rattle.std.specs.Prelude.{◌≡◌, IfOk};
+ghost use Rattle.std.specs.Prelude.{◌≡◌, IfOk, IsTrue, false};
+ghost use Rattle.racl_io.specs.Faults.{IsFaultOfCapture};
 ghost use Rattle.racl_report.specs.Statuses.{status_of};
 
-use crate::faulty_capture::faulty;
-use crate::input_files::{input_interface_at, input_name_at, input_policy_name};
-use crate::named_reader::Reader;
-use crate::progress::Watched;
 use crate::say_and_answer_status::say_ending;
 use crate::say_policy_remarks::{Seen, say_foreign, say_unlooked};
-use racl_io::{Fault, Joined, Totals};
-use racl_options::{Asked, Files, Options, Origin, TableSize};
+use packet_view::check_capture;
+use racl_io::{Fault, Totals};
+use racl_options::{Files, Interfaces, Options, TableSize};
 use racl_report::{InterfaceInput, Remark, ending, hint, remark, shortage, shown_name};
 use racl_views::CaptureBytes;
 use std::alloc::Global;
+use std::fs::metadata;
 use std::io;
-use std::io::{Eprint, Read};
+use std::io::Eprint;
 
 /// How many first bytes of a capture are looked at for notes on it.
 const FRONT: usize = 4096;
@@ -24,54 +23,61 @@ const FRONT: usize = 4096;
 #[derive(Drop)]
 pub struct Ran {
     pub outcome: Result<Totals, Fault>,
+    /// The place of the capture that has the fault, where one of several interfaces has it.
+    pub faulty: Option<usize>,
     pub is_closed: bool,
     pub reason: Option<i32>,
 }
 
-// The first bytes of a run's captures, for the notes on these, as far as there is memory for their list.
-fn seen_at_run_end<'a, S: Read, F: Read>(
-    alloc: Global,
-    origin: &Origin<'_>,
-    reader: &'a Joined<Reader<S, F>>,
-) -> Vec<Seen<'a>> {
-    let mut seen = Vec::new(alloc);
-    for place in 0..256 {
-        let (Some(interface), Some(front)) = (
-            input_interface_at(origin, place),
-            reader.front(place),
-        ) else {
-            return seen;
-        };
-        if seen.push(Seen { interface, front }).is_err() {
-            return seen;
-        }
-    }
-    seen
+/// What a run on files was on: their names, the policy's text, and the first bytes of the capture.
+#[derive(Clone, Copy)]
+pub struct SeenFiles<'a> {
+    pub files: Files<'a>,
+    pub text: &'a [u8],
+    pub front: &'a [u8],
 }
 
-// Notes on a run that ended with a fault of the capture at this place, which begins with these bytes: says which capture has
-// the fault, and what that is where it isn't read for what it is.
+// Whether a capture that begins with these bytes has this fault there.
+fn has_fault(front: &[u8], fault: Fault) -> bool
+    ensures yes { IsTrue result → IsFaultOfCapture front.now fault }
+    ensures no { result ≡ false → IsFaultOfCapture front.now fault → ⊥ }
+{
+    match check_capture(front, 0) {
+        Ok(_) => false,
+        Err(found) => Fault::from(found) == fault,
+    }
+}
+
+// Whether a run's fault is told to be of its only capture, in the file of this name: it is in the first bytes, or it is a
+// record behind them, in a file that can be looked at.
+fn is_told_of_capture(rt: &HostRuntime, name: &str, front: &[u8], fault: Fault) -> bool {
+    if has_fault(front, fault) {
+        return true;
+    }
+    matches!(fault, Fault::LongRecord(_))
+        && name != "-"
+        && matches!(metadata(rt, name), Ok(found) if found.is_file())
+}
+
+// Says that a capture in the file of this name, which begins with these bytes, has the fault: of which interface it is, where
+// there are several, or what the file is where it isn't read for what it is.
 fn say_remark(
     rt: &impl Eprint,
-    origin: &Origin<'_>,
-    place: usize,
+    name: &str,
+    interface: Option<u8>,
     front: &[u8],
     fault: Fault,
 ) -> io::Result<()> {
-    let (Some(name), Some(interface)) = (
-        input_name_at(origin, place),
-        input_interface_at(origin, place),
-    ) else {
-        return Ok(());
-    };
     if let Some(other) = remark(&Err(fault), front) {
         return rt.eprintln(&Remark { name, other });
     }
     let shown = shown_name(name);
-    if input_name_at(origin, 1).is_none() {
-        return rt.eprintln(format_args!("racl: that is {shown}"));
+    match interface {
+        None => rt.eprintln(format_args!("racl: that is {shown}")),
+        Some(number) => rt.eprintln(format_args!(
+            "racl: that is {shown}, the capture of interface {number}"
+        )),
     }
-    rt.eprintln(format_args!("racl: that is {shown}, the capture of interface {interface}"))
 }
 
 // Says behind a report how many packets found no pages, where some did, and what helps. Where standard error fails, the
@@ -82,39 +88,31 @@ fn say_shortage(rt: &impl Eprint, outcome: &Result<Totals, Fault>, ages: bool, t
     }
 }
 
-// What is said of a run on files behind its ending: the policy's text, and the captures' first bytes.
+// What is looked at for notes on a run on files: the name of the policy's file, its text, and the captures' first bytes.
 #[derive(Clone, Copy)]
 struct Noted<'a> {
+    policy: &'a str,
     text: &'a [u8],
     seen: &'a [Seen<'a>],
-    /// The place of the capture that has the fault, where there is one.
-    faulty: Option<usize>,
 }
 
 // Says the notes behind a run on files: what is likely to be wrong with them.
 fn say_run_notes(
-    rt: &HostRuntime,
+    rt: &impl Eprint,
     alloc: Global,
-    asked: &Asked<'_>,
+    options: &Options,
     noted: Noted<'_>,
     outcome: &Result<Totals, Fault>,
 ) -> io::Result<()> {
-    let Noted { text, seen, faulty } = noted;
+    let Noted { policy, text, seen } = noted;
     if outcome.is_ok() {
-        let name = input_policy_name(&asked.origin);
-        say_unlooked(rt, alloc, name, text, seen);
-        say_foreign(rt, alloc, name, text, seen);
-    }
-    if let (Err(fault), Some(place)) = (outcome, faulty)
-        && !matches!(fault, Fault::Twice(_))
-        && let Some(capture) = seen.get(place)
-    {
-        say_remark(rt, &asked.origin, place, capture.front, *fault)?;
+        say_unlooked(rt, alloc, policy, text, seen);
+        say_foreign(rt, alloc, policy, text, seen);
     }
     if let Some(hint) = hint(outcome, text) {
         rt.eprintln(&hint)?;
     }
-    say_shortage(rt, outcome, asked.options.ages, asked.options.tables);
+    say_shortage(rt, outcome, options.ages, options.tables);
     Ok(())
 }
 
@@ -129,12 +127,12 @@ fn say_unwritten(rt: &impl Eprint, ran: &Ran) -> io::Result<()> {
     }
 }
 
-// Says how a run ended, but for the notes on its files; and answers the status.
-fn say_ran(rt: &HostRuntime, asked: &Asked<'_>, ran: &Ran) -> io::Result<u8>
+// Says how a run on files ended, but for the notes on these; and answers the status.
+fn say_ran(rt: &impl Eprint, ran: &Ran) -> io::Result<u8>
     ensures { IfOk result (λ status. status ≡ status_of ran.now.outcome) }
 {
     let mut end = ending(&ran.outcome);
-    if ran.is_closed && !matches!(asked.origin, Origin::Standard) {
+    if ran.is_closed {
         // Who asked for a report of files took as much of it as was wanted.
         end.message = None;
     }
@@ -142,43 +140,48 @@ fn say_ran(rt: &HostRuntime, asked: &Asked<'_>, ran: &Ran) -> io::Result<u8>
         Ok(status) => status,
         Err(error) => return Err(error),
     };
-    if !matches!(asked.origin, Origin::Standard) {
-        say_unwritten(rt, ran)?;
-    }
+    say_unwritten(rt, ran)?;
     Ok(status)
 }
 
-/// Says how a run ended, with notes on what is likely to be wrong with its files; and answers the status. No more is
-/// shown of how much was read.
-pub fn say_end_of_run<S: Read, F: Read>(
+/// Says how a run on files ended, with notes on what is likely to be wrong with them; and answers the status.
+pub fn say_end_of_run(
     rt: &HostRuntime,
     alloc: Global,
-    asked: &Asked<'_>,
-    reader: &mut Watched<'_, Joined<Reader<S, F>>>,
+    options: &Options,
+    input: SeenFiles<'_>,
     ran: &Ran,
 ) -> io::Result<u8>
     ensures { IfOk result (λ status. status ≡ status_of ran.now.outcome) }
 {
-    reader.progress.end();
-    let status = match say_ran(rt, asked, ran) {
+    let status = match say_ran(rt, ran) {
         Ok(status) => status,
         Err(error) => return Err(error),
     };
-    let source = &reader.source;
-    if let Reader::Held(policy) = source.policy() {
-        let seen = seen_at_run_end(alloc, &asked.origin, source);
-        let faulty = match ran.outcome {
-            Ok(_) => None,
-            Err(fault) => faulty(rt, alloc, &asked.origin, source, fault),
-        };
-        let noted = Noted {
-            text: policy.get_ref().as_slice(),
-            seen: seen.as_slice(),
-            faulty,
-        };
-        say_run_notes(rt, alloc, asked, noted, &ran.outcome)?;
+    let SeenFiles { files, text, front } = input;
+    if let Err(fault) = ran.outcome
+        && is_told_of_capture(rt, files.capture, front, fault)
+    {
+        say_remark(rt, files.capture, None, front, fault)?;
     }
+    let seen = Seen {
+        interface: 0,
+        front,
+    };
+    let noted = Noted {
+        policy: files.policy,
+        text,
+        seen: &[seen],
+    };
+    say_run_notes(rt, alloc, options, noted, &ran.outcome)?;
     Ok(status)
+}
+
+/// Says how a run on standard input alone ended, and answers the status.
+pub fn say_outcome(rt: &impl Eprint, outcome: &Result<Totals, Fault>) -> io::Result<u8>
+    ensures { IfOk result (λ status. status ≡ status_of outcome.now) }
+{
+    say_ending(rt, &ending(outcome))
 }
 
 // The first bytes of captures, for the notes on these, as far as there is memory for their list.
@@ -194,52 +197,65 @@ fn seen_of_interfaces(alloc: Global, captures: &[CaptureBytes]) -> Vec<Seen<'_>>
     seen
 }
 
-/// Says how a run on captures of interfaces ended, of which the one at this place has the fault, where there is one; with
-/// notes, as behind other runs. Answers the status.
+// Says which of the captures of interfaces has the fault with which a run ended, where one has it.
+fn say_faulty(
+    rt: &impl Eprint,
+    interfaces: &Interfaces<'_>,
+    seen: &[Seen<'_>],
+    ran: &Ran,
+) -> io::Result<()> {
+    let (Err(fault), Some(place)) = (ran.outcome, ran.faulty) else {
+        return Ok(());
+    };
+    let (Some(file), Some(capture)) = (interfaces.captures.get(place), seen.get(place)) else {
+        return Ok(());
+    };
+    let is_one = interfaces.captures.len() == 1;
+    let interface = if is_one { None } else { Some(file.interface) };
+    match fault {
+        Fault::Twice(_) => Ok(()),
+        _ => say_remark(rt, file.name, interface, capture.front, fault),
+    }
+}
+
+/// Says how a run on captures of interfaces ended, with notes, as behind other runs; and answers the status.
 pub fn say_end_of_interfaces(
-    rt: &HostRuntime,
+    rt: &impl Eprint,
     alloc: Global,
-    asked: &Asked<'_>,
+    options: &Options,
+    interfaces: &Interfaces<'_>,
     input: &InterfaceInput,
     ran: &Ran,
-    faulty: Option<usize>,
 ) -> io::Result<u8>
     ensures { IfOk result (λ status. status ≡ status_of ran.now.outcome) }
 {
-    let status = match say_ran(rt, asked, ran) {
+    let status = match say_ran(rt, ran) {
         Ok(status) => status,
         Err(error) => return Err(error),
     };
     let seen = seen_of_interfaces(alloc, &input.captures);
+    say_faulty(rt, interfaces, seen.as_slice(), ran)?;
     let noted = Noted {
+        policy: interfaces.policy,
         text: &input.text,
         seen: seen.as_slice(),
-        faulty,
     };
-    say_run_notes(rt, alloc, asked, noted, &ran.outcome)?;
+    say_run_notes(rt, alloc, options, noted, &ran.outcome)?;
     Ok(status)
-}
-
-/// What a live run was on: its files, the policy's text, and the first bytes of the capture.
-#[derive(Clone, Copy)]
-pub struct LiveInput<'a> {
-    pub files: Files<'a>,
-    pub text: &'a [u8],
-    pub front: &'a [u8],
 }
 
 /// Says how a live run ended, with notes on what is likely to be wrong with its files; and answers the status.
 pub fn say_end_of_live(
-    rt: &HostRuntime,
+    rt: &impl Eprint,
     alloc: Global,
     options: &Options,
-    input: LiveInput<'_>,
+    input: SeenFiles<'_>,
     outcome: &Result<Totals, Fault>,
 ) -> io::Result<u8>
     ensures { IfOk result (λ status. status ≡ status_of outcome.now) }
 {
-    let LiveInput { files, text, front } = input;
-    let status = match say_ending(rt, &ending(outcome)) {
+    let SeenFiles { files, text, front } = input;
+    let status = match say_outcome(rt, outcome) {
         Ok(status) => status,
         Err(error) => return Err(error),
     };

@@ -8,7 +8,6 @@ mod draft;
 mod end_of_run;
 mod expand_words;
 mod expecting_input;
-mod faulty_capture;
 mod file_checking;
 mod file_expanding;
 mod input_files;
@@ -25,12 +24,14 @@ mod say_and_answer_status;
 mod say_policy_remarks;
 mod system_files;
 
-pub use command_words::{asked_or_status, diff_or_status, texts_of, words_of};
+pub use command_words::{asked_or_status, diff_or_status, texts_of};
 pub use diff_input::{DiffInput, opened_diff, say_capture_fault, say_policy_fault};
-pub use end_of_run::{LiveInput, Ran, say_end_of_interfaces, say_end_of_live, say_end_of_run};
+pub use end_of_run::{
+    Ran, SeenFiles, say_end_of_interfaces, say_end_of_live, say_end_of_run, say_outcome,
+};
 pub use expecting_input::{ExpectingInput, opened_expecting, say_wrong_expectations};
 pub use file_expanding::expansion_status;
-pub use input_files::{Parts, opened_input};
+pub use input_files::{opened_input, policy_text, standard_source};
 pub use interface_files::read_interface_input;
 pub use live_files::{LiveFiles, live_policy_text, opened_live};
 pub use named_reader::Reader;

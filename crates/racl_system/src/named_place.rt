@@ -1,5 +1,5 @@
 //! Where a name leads, so that two names of one file are known as such.
-ghost use Rattle.std.specs.Prelude.{◌≡◌, ◌≢◌, MatchResult};
+ghost use Rattle.std.specs.Prelude.{◌≡◌, ◌≢◌, IfErr, MatchResult};
 ghost use Rattle.std.specs.IoError.{error_kind};
 ghost use Rattle.racl_system.specs.Places;
 
@@ -69,7 +69,9 @@ fn place_refused(error: io::Error) -> io::Result<Place>
 }
 
 // Where a file of this path would be created, which is none and no link.
-fn place_in_folder(rt: &HostRuntime, alloc: Global, path: &PathBuf) -> io::Result<Place> {
+fn place_in_folder(rt: &HostRuntime, alloc: Global, path: &PathBuf) -> io::Result<Place>
+    ensures { IfErr result (λ told. error_kind told ≡ ErrorKind.OutOfMemory) }
+{
     let (Some(folder), Some(name)) = (path.parent(), path.file_name()) else {
         return Ok(Place::Unknown);
     };
@@ -81,7 +83,9 @@ fn place_in_folder(rt: &HostRuntime, alloc: Global, path: &PathBuf) -> io::Resul
 }
 
 // Where a file of this name would be created, which is none: behind links that lead to none, where the name is one.
-fn unmade_place(rt: &HostRuntime, alloc: Global, name: &str) -> io::Result<Place> {
+fn unmade_place(rt: &HostRuntime, alloc: Global, name: &str) -> io::Result<Place>
+    ensures { IfErr result (λ told. error_kind told ≡ ErrorKind.OutOfMemory) }
+{
     let mut path = PathBuf::from_str(alloc, name)?;
     for _ in 0..MOST_LINKS {
         match read_link(rt, path.as_str()) {
@@ -97,8 +101,11 @@ fn unmade_place(rt: &HostRuntime, alloc: Global, name: &str) -> io::Result<Place
     Ok(Place::Unknown)
 }
 
-/// Where this name leads. No clause says that, since it is the system's: `tests/run` looks at it.
-pub fn place_of(rt: &HostRuntime, alloc: Global, name: &str) -> io::Result<Place> {
+/// Where this name leads. An `Err` says that memory ran out. No clause says where names lead, since that is the system's:
+/// `tests/run` looks at it.
+pub fn place_of(rt: &HostRuntime, alloc: Global, name: &str) -> io::Result<Place>
+    ensures { IfErr result (λ told. error_kind told ≡ ErrorKind.OutOfMemory) }
+{
     match metadata(rt, name) {
         Ok(found) if found.is_file() => Ok(Place::Standing(number_of(&found))),
         Ok(_) => Ok(Place::Unknown),

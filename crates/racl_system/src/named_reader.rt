@@ -9,14 +9,13 @@ use racl_io::{Device, Fault, MOST_BYTES, read_until};
 use racl_report::Unopened;
 use std::alloc::Global;
 use std::io;
-use std::io::{Cursor, Eprint, Read};
+use std::io::{Eprint, Read};
 
-/// Standard input, a file, or what one of these had.
+/// Standard input or a file.
 #[derive(Drop)]
 pub enum Reader<S, F> {
     Standard(S),
     File(F),
-    Held(Cursor<Vec<u8>>),
 }
 
 impl<S: Read, F: Read> Read for Reader<S, F> {
@@ -26,7 +25,6 @@ impl<S: Read, F: Read> Read for Reader<S, F> {
         match self {
             Reader::Standard(standard) => standard.read(buf),
             Reader::File(file) => file.read(buf),
-            Reader::Held(bytes) => bytes.read(buf),
         }
     }
 }

@@ -1,5 +1,5 @@
 //! How much of a long input was read, on a terminal.
-ghost use Rattle.std.specs.Prelude.{◌≡◌, None};
+ghost use Rattle.std.specs.Prelude.{◌≡◌, None, false};
 
 use racl_io::{DeviceFault, Source};
 use std::io::IsTerminal;
@@ -26,7 +26,10 @@ fn progress_due_in(rt: &HostRuntime, seconds: u64) -> Option<Instant> {
 
 impl<'a> Progress<'a> {
     /// Nothing was read. No clause says when the line is written, since that is the clock's and the terminal's.
-    pub fn new(rt: &'a HostRuntime) -> Progress<'a> {
+    pub fn new(rt: &'a HostRuntime) -> Progress<'a>
+        ensures bytes { result.bytes ≡ 0 }
+        ensures unshown { result.is_shown ≡ false }
+    {
         let due = if rt.stderr().is_terminal() {
             progress_due_in(rt, 2)
         } else {
@@ -73,7 +76,10 @@ impl<'a> Progress<'a> {
     }
 
     /// Removes the line, and writes none any more. No clause says what a terminal shows.
-    pub fn end(&mut self) {
+    pub fn end(&mut self)
+        ensures unshown { self.new.is_shown ≡ false }
+        ensures ended { self.new.due ≡ None }
+    {
         if self.is_shown {
             let _ = self.rt.eprint("\r\x1b[K");
         }

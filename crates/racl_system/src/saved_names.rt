@@ -2,9 +2,8 @@
 ghost use Rattle.std.specs.Prelude.{◌≡◌, ◌<◌, IfOk, IfSome, None, Ok, length, position};
 ghost use Rattle.racl_system.specs.Places;
 
-use crate::input_files::{input_name_at, input_policy_name};
 use crate::named_place::{Place, is_one_file, place_of};
-use racl_options::{Asked, Origin};
+use racl_options::{Files, Saved};
 use racl_report::shown_name;
 use std::alloc::Global;
 use std::io;
@@ -52,14 +51,10 @@ fn used_input<'a>(rt: &HostRuntime, alloc: Global, name: &'a str) -> io::Result<
 fn used_besides<'a>(
     rt: &HostRuntime,
     alloc: Global,
-    origin: &Origin<'a>,
+    files: &Files<'a>,
 ) -> io::Result<Vec<Used<'a>>> {
     let mut used = Vec::new(alloc);
-    used.push(used_input(rt, alloc, input_policy_name(origin))?)?;
-    for place in 0..256 {
-        let Some(name) = input_name_at(origin, place) else {
-            break;
-        };
+    for name in [files.policy, files.capture] {
         used.push(used_input(rt, alloc, name)?)?;
     }
     for (name, stream) in [("standard output", OUTPUT), ("standard error", MESSAGES)] {
@@ -74,15 +69,19 @@ fn used_besides<'a>(
 
 /// Says which file that packets are to be saved in is another one of the run, under whatever name, and answers the
 /// status then. Nothing is opened. No clause says which files names lead to, as of `place_of`.
-pub fn say_used_twice(rt: &HostRuntime, alloc: Global, asked: &Asked<'_>) -> io::Result<Option<u8>>
+pub fn say_used_twice<'a>(
+    rt: &HostRuntime,
+    alloc: Global,
+    files: &Files<'a>,
+    saved: &Saved<'a>,
+) -> io::Result<Option<u8>>
     ensures status { IfOk result (λ found. IfSome found (λ status. status ≡ 2)) }
-    ensures unsaved { asked.now.saved.drops ≡ None → asked.now.saved.passes ≡ None → result ≡ Ok None }
+    ensures unsaved { saved.now.drops ≡ None → saved.now.passes ≡ None → result ≡ Ok None }
 {
-    let saved = asked.saved;
     if saved.drops.is_none() && saved.passes.is_none() {
         return Ok(None);
     }
-    let mut used = used_besides(rt, alloc, &asked.origin)?;
+    let mut used = used_besides(rt, alloc, files)?;
     for asked_name in [saved.drops, saved.passes] {
         let Some(name) = asked_name else {
             continue;

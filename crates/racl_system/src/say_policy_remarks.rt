@@ -1,6 +1,6 @@
 //! What is said of a policy that is right, and unlikely to be meant.
 
-use policy_check::{Checked, check_policy, foreign_mac, no_mac, unruled};
+use policy_check::{Checked, check_policy, foreign_mac, no_mac, other_mac, unruled};
 use racl_report::shown_name;
 use std::alloc::Global;
 use std::io::Eprint;
@@ -42,7 +42,8 @@ pub fn say_unlooked(rt: &impl Eprint, alloc: Global, name: &str, text: &[u8], se
 }
 
 /// Says a remark on the policy for each capture whose first frames have nothing to do with the own address of their
-/// interface. Nothing is said where `say_unlooked` could say nothing. No clause says it, as of `say_unlooked`.
+/// interface, and for each in which the host sends from another address too. Nothing is said where `say_unlooked` could say
+/// nothing. No clause says it, as of `say_unlooked`.
 pub fn say_foreign(rt: &impl Eprint, alloc: Global, name: &str, text: &[u8], seen: &[Seen<'_>]) {
     let Some(checked) = policy_for_remarks(alloc, text) else {
         return;
@@ -53,6 +54,10 @@ pub fn say_foreign(rt: &impl Eprint, alloc: Global, name: &str, text: &[u8], see
                 continue;
             }
             if let Some(remark) = foreign_mac(section, capture.front) {
+                let shown = shown_name(name);
+                let _ = rt.eprintln(format_args!("racl: {shown}: {remark}"));
+            }
+            if let Some(remark) = other_mac(section, capture.front) {
                 let shown = shown_name(name);
                 let _ = rt.eprintln(format_args!("racl: {shown}: {remark}"));
             }

@@ -3,7 +3,7 @@ ghost use Rattle.std.specs.Prelude.{◌≡◌, ℕ, List, Option, None, IfOk, Is
 ghost use Rattle.racl_options.specs.Origins.{is_standard};
 
 use crate::draft::{Draft, created_draft};
-use std::fs::File;
+use std::fs::{File, remove_file};
 use std::io;
 use std::io::{IsTerminal, Read, Stdin, Stdout, Write};
 
@@ -93,10 +93,16 @@ impl SystemFiles for HostRuntime {
 
     // The toolchain tells nothing of how closing ends.
     fn settle(&self, file: &mut Draft) -> io::Result<()> {
-        file.settle(self)
+        let settled = file.settle(self);
+        if settled.is_err() {
+            self.discard(file);
+        }
+        settled
     }
 
     fn discard(&self, file: &Draft) {
-        file.discard(self);
+        if let Some(beside) = file.beside() {
+            let _ = remove_file(self, beside);
+        }
     }
 }

@@ -19,7 +19,7 @@ pub all_entries : (policy : PolicyFacts) (rules : List RuleLine) (packets : List
 all_entries policy rules [] verdicts = refl
 all_entries policy rules (packet ∷ packets) [] = refl
 all_entries policy rules (packet ∷ packets) (verdict ∷ verdicts) =
-    (record { verdict = refl; interface = refl; moment = refl; bytes = refl; seen = at_seen policy packet; line = refl }, all_entries policy rules packets verdicts)
+    (record { verdict = refl; interface = refl; moment = refl; micros = refl; bytes = refl; seen = at_seen policy packet; line = refl }, all_entries policy rules packets verdicts)
 
 -- without verdicts there are none
 pub no_entries : (policy : PolicyFacts) (rules : List RuleLine) (packets : List PacketFacts) → entries_on policy rules packets [] ≡ []

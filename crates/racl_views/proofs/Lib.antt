@@ -14,3 +14,4 @@ pub mod ObjectLemmas
 pub mod PartLemmas
 pub mod PutLemmas
 pub mod RuleTextLemmas
+pub mod ShownTexts

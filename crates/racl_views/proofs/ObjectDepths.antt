@@ -19,7 +19,7 @@ use Rattle.session_state.specs.declared.timeouts.Timeouts.{Timeouts}
 use Rattle.racl_views.specs.Entries.{EntryFacts}
 use Rattle.racl_views.specs.Hits.{hit_object}
 use Rattle.racl_views.specs.Objects.{Field, ReadsBack, members_of, object_of}
-use Rattle.racl_views.specs.PacketObjects.{carried_fields, dest_fields, frame_way, line_field, packet_object, rule_fields, source_fields, totals_object, truncation_object, verdict_fields, way_field}
+use Rattle.racl_views.specs.PacketObjects.{carried_fields, decided_fields, dest_fields, frame_way, line_fields, packet_object, rule_fields, source_fields, totals_object, truncation_object, verdict_fields, way_field}
 use Rattle.racl_views.specs.SessionLines.{FlowFacts, end_fields, ends_field, has_ports, is_tcp, session_object}
 use Rattle.racl_views.specs.declared.hit.Hit.{Hit}
 use Rattle.racl_views.specs.declared.hit.Hit.TheVariants as hit
@@ -56,9 +56,9 @@ before n field fields small rest = let few = rest.few in record { few = omega (a
 one : {n : ℕ} (field : Field) (fields : List Field) → depth field.1 ≡ 0 → NestUpTo n fields → NestUpTo n (field ∷ fields)
 one {n} field fields flat rest = before n field fields (omega (arith, flat)) rest
 
-where_kept : (b : Bool) (field : Field) → depth field.1 ≡ 0 → NestUpTo 0 (cond b [] (field ∷ []))
-where_kept true field flat = record { few = omega arith }
-where_kept false field flat = record { few = omega (arith, flat) }
+where_kept : (b : Bool) (fields : List Field) → NestUpTo 0 fields → NestUpTo 0 (cond b [] fields)
+where_kept true fields flat = none 0
+where_kept false fields flat = flat
 
 where_has : (b : Bool) (field : Field) → depth field.1 ≡ 0 → NestUpTo 0 (cond b (field ∷ []) [])
 where_has true field flat = record { few = omega (arith, flat) }
@@ -102,10 +102,13 @@ carried_flat Malformed = record { few = omega arith }
 carried_flat Short = record { few = omega arith }
 carried_flat (Ip direction tuple) = one _ _ refl (one _ _ refl (both 0 (source_fields tuple.fields) _ (source_flat tuple.fields) (one _ _ refl (dest_flat tuple.family tuple.proto tuple.fields))))
 
-pub packet_read_back : (n : ℕ) (entry : EntryFacts) → HasNumbers (packet_object n entry) → ReadsBack (packet_object n entry)
-packet_read_back n entry =
-    let seen = one _ _ refl (both 0 (frame_way entry.view) _ (way_flat entry.view) (one _ _ refl (one _ _ refl (carried_flat entry.view)))) in
-    let line = both 0 (line_field entry.line) _ (where_kept (entry.line == 0) _ refl) seen in
+line_flat : (texts : List (List ℕ)) (line : ℕ) (others : List Field) → NestUpTo 0 others → NestUpTo 0 (line_fields texts line ++ others)
+line_flat texts line others flat = both 0 (line_fields texts line) others (one _ _ refl (one _ _ refl (none 0))) flat
+
+pub packet_read_back : (texts : List (List ℕ)) (n : ℕ) (entry : EntryFacts) → HasNumbers (packet_object texts n entry) → ReadsBack (packet_object texts n entry)
+packet_read_back texts n entry =
+    let seen = one _ _ refl (both 0 (frame_way entry.view) _ (way_flat entry.view) (one _ _ refl (one _ _ refl (one _ _ refl (carried_flat entry.view))))) in
+    let line = both 0 (decided_fields texts entry.line) _ (where_kept (entry.line == 0) (line_fields texts entry.line) (one _ _ refl (one _ _ refl (none 0)))) seen in
     flat_read_back _ (one _ _ refl (both 0 (verdict_fields entry.verdict) _ (one _ _ refl (one _ _ refl (rule_flat entry.verdict))) line))
 
 rule_hit_flat : (at : RuleLine) (fields : List Field) → NestUpTo 0 fields → NestUpTo 0 (way_field at.rule.direction ∷ fields)
@@ -115,12 +118,13 @@ rule_hit_flat at fields rest = go at.rule.direction
     go Inbound = one (way_field Inbound) fields refl rest
     go Outbound = one (way_field Outbound) fields refl rest
 
-pub hit_read_back : (it : Hit) → HasNumbers (hit_object it) → ReadsBack (hit_object it)
-hit_read_back (hit.Rule at count) = flat_read_back _ (one _ _ refl (rule_hit_flat at _ (one _ _ refl (one _ _ refl (one _ _ refl (none 0))))))
-hit_read_back (hit.Unruled why count) = flat_read_back _ (one _ _ refl (one _ _ refl (none 0)))
-hit_read_back (hit.Entered count) = flat_read_back _ (one _ _ refl (none 0))
-hit_read_back (hit.Matched count) = flat_read_back _ (one _ _ refl (none 0))
-hit_read_back (hit.Expired count) = flat_read_back _ (one _ _ refl (none 0))
+pub hit_read_back : (texts : List (List ℕ)) (it : Hit) → HasNumbers (hit_object texts it) → ReadsBack (hit_object texts it)
+hit_read_back texts (hit.Rule at count) =
+    flat_read_back _ (one _ _ refl (rule_hit_flat at _ (one _ _ refl (line_flat texts at.line _ (one _ _ refl (none 0))))))
+hit_read_back texts (hit.Unruled why count) = flat_read_back _ (one _ _ refl (one _ _ refl (none 0)))
+hit_read_back texts (hit.Entered count) = flat_read_back _ (one _ _ refl (none 0))
+hit_read_back texts (hit.Matched count) = flat_read_back _ (one _ _ refl (none 0))
+hit_read_back texts (hit.Expired count) = flat_read_back _ (one _ _ refl (none 0))
 
 end_flat : (proto : ℕ) (end : End) (flags : ℕ) → NestUpTo 0 (end_fields proto end flags)
 end_flat proto end flags = both 0 _ _ (where_has (has_ports proto) _ refl) (where_has (is_tcp proto) _ refl)

@@ -84,7 +84,7 @@ explained_tells by rules are = record {
 
 -- objects, by the rules of the text
 pub objects_tell : (by : ToldBy) (rules : List RuleLine) → AreRules by.text rules
-    → TellsRun AreObjectLines IsToldInObjects by (objects_wording by.shown by.policy rules)
+    → TellsRun AreObjectLines IsToldInObjects by (objects_wording by.shown by.policy rules (rule_texts by.text))
 objects_tell by rules are = record {
   lines = λ packets verdicts each. (
     entries_on by.policy rules packets verdicts,
@@ -98,11 +98,11 @@ objects_tell by rules are = record {
   );
 }
   where
-    packets_told : (packets : List PacketFacts) (verdicts : List Verdict) → lines_in (objects_wording by.shown by.policy rules) 1 packets verdicts
-        ≡ object_lines (told_from (packet_objects by.shown) 1 (entries_on by.policy rules packets verdicts))
+    packets_told : (packets : List PacketFacts) (verdicts : List Verdict) → lines_in (objects_wording by.shown by.policy rules (rule_texts by.text)) 1 packets verdicts
+        ≡ object_lines (told_from (packet_objects by.shown (rule_texts by.text)) 1 (entries_on by.policy rules packets verdicts))
     packets_told packets verdicts =
-        lines_by by.policy rules (λ n entry. object_lines (packet_objects by.shown n entry)) end_objects 1 packets verdicts
-        ∙ sym (lines_from (packet_objects by.shown) 1 (entries_on by.policy rules packets verdicts))
+        lines_by by.policy rules (λ n entry. object_lines (packet_objects by.shown (rule_texts by.text) n entry)) end_objects 1 packets verdicts
+        ∙ sym (lines_from (packet_objects by.shown (rule_texts by.text)) 1 (entries_on by.policy rules packets verdicts))
 
     end_told : (verdicts : List Verdict) (n : ℕ) (truncated : Bool) → length verdicts ≡ n
         → truncation_by (captured_at (totals_of verdicts (told_alone n truncated))) ≡ truncation_by (record { named = None; packets = n; truncated = truncated })
@@ -110,23 +110,23 @@ objects_tell by rules are = record {
         ap₂ (λ t m. truncation_by (record { named = None; packets = m; truncated = t })) (sym (alone_truncated n truncated)) count
 
     whole : (packets : List PacketFacts) (verdicts : List Verdict) (truncated : Bool) → length verdicts ≡ length packets
-        → lines_in (objects_wording by.shown by.policy rules) 1 packets verdicts ++ end_objects (totals_of verdicts (told_alone (length packets) truncated))
-        ≡ object_lines (captures_told (λ captured. packet_objects by.shown) truncation_objects 1 (entries_on by.policy rules packets verdicts) (told_alone (length packets) truncated)
+        → lines_in (objects_wording by.shown by.policy rules (rule_texts by.text)) 1 packets verdicts ++ end_objects (totals_of verdicts (told_alone (length packets) truncated))
+        ≡ object_lines (captures_told (λ captured. packet_objects by.shown (rule_texts by.text)) truncation_objects 1 (entries_on by.policy rules packets verdicts) (told_alone (length packets) truncated)
         ++ totals_object (totals_of verdicts (told_alone (length packets) truncated)) ∷ [])
     whole packets verdicts truncated each =
         let n = length packets in
         let captured : Captured = record { named = None; packets = n; truncated = truncated } in
         let entries = entries_on by.policy rules packets verdicts in
-        let told = told_from (packet_objects by.shown) 1 entries in
+        let told = told_from (packet_objects by.shown (rule_texts by.text)) 1 entries in
         let cut = truncation_objects captured in
         let totals = totals_object (totals_of verdicts (told_alone n truncated)) in
         let last = object_line totals in
         ap₂ (λ a b. a ++ (b ++ last)) (packets_told packets verdicts) (end_told verdicts n truncated each)
         ∙ sym (append_assoc (object_lines told) (object_lines cut) last)
         ∙ ap₂ (λ a b. a ++ b) (sym (object_lines-append told cut)) (sym (append-nil last))
-        ∙ ap (λ o. object_lines o ++ object_lines (totals ∷ [])) (sym (capture_alone (λ captured. packet_objects by.shown) truncation_objects captured entries
+        ∙ ap (λ o. object_lines o ++ object_lines (totals ∷ [])) (sym (capture_alone (λ captured. packet_objects by.shown (rule_texts by.text)) truncation_objects captured entries
         (few_entries by.policy rules packets verdicts)))
-        ∙ sym (object_lines-append (captures_told (λ captured. packet_objects by.shown) truncation_objects 1 entries (captured ∷ [])) (totals ∷ []))
+        ∙ sym (object_lines-append (captures_told (λ captured. packet_objects by.shown (rule_texts by.text)) truncation_objects 1 entries (captured ∷ [])) (totals ∷ []))
 
 -- the rules that a text says
 pub said_rules : (by : ToldBy) → IsPolicyText by.text by.policy → AreRules by.text (rules_from [] (map said (lines by.text)))

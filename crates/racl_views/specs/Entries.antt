@@ -10,12 +10,13 @@ use Rattle.racl_views.specs.declared.rule_name.RuleLine.{RuleLine}
 use Rattle.racl_views.specs.declared.rule_name.RuleName.{RuleName}
 use Rattle.racl_views.specs.Deciding.{rule_on, same_rule}
 
--- The verdict, where and when the packet was seen, how many bytes of it were kept, what its frame is there, and the line of the rule that decided it: 0 where
+-- The verdict, where the packet was seen, in which second and how many microseconds after it began, how many bytes of it were kept, what its frame is there, and the line of the rule that decided it: 0 where
 -- none did.
 pub record EntryFacts : Type 0 where
   pub verdict : Verdict
   pub interface : ℕ
   pub moment : ℕ
+  pub micros : ℕ
   pub bytes : ℕ
   pub view : FrameFacts
   pub line : ℕ
@@ -23,7 +24,7 @@ pub record EntryFacts : Type 0 where
 -- what an entry says
 abbrev pub entry_facts : Entry → EntryFacts
 entry_facts e =
-    record { verdict = e.verdict; interface = e.interface; moment = e.moment; bytes = e.bytes; view = frame_facts e.frame; line = e.line }
+    record { verdict = e.verdict; interface = e.interface; moment = e.moment; micros = e.micros; bytes = e.bytes; view = frame_facts e.frame; line = e.line }
 
 -- the line of the first of these rules that is this one, and 0 where none is
 abbrev pub line_among : List RuleLine → RuleName → ℕ
@@ -40,6 +41,7 @@ pub record IsEntry (policy : PolicyFacts) (rules : List RuleLine) (packet : Pack
   pub verdict : entry.verdict ≡ given
   pub interface : entry.interface ≡ packet.interface
   pub moment : entry.moment ≡ packet.moment
+  pub micros : entry.micros ≡ packet.micros
   pub bytes : entry.bytes ≡ length packet.frame
   pub seen : IsSeen policy packet entry.view
   pub line : entry.line ≡ line_deciding rules (rule_on packet.interface entry.view given)

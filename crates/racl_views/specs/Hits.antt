@@ -21,7 +21,7 @@ use Rattle.racl_views.specs.declared.text_or_json.View.{View}
 use Rattle.racl_views.specs.declared.text_or_json.View.TheVariants as form
 use Rattle.racl_views.specs.Deciding.{AreDecided, hits_on}
 use Rattle.racl_views.specs.Objects.{number, object_line, object_of, string}
-use Rattle.racl_views.specs.PacketObjects.{way_field}
+use Rattle.racl_views.specs.PacketObjects.{line_fields, way_field}
 use Rattle.packet_words.specs.PacketWords.{numbered}
 use Rattle.racl_views.specs.RuleLines.{AreRules}
 use Rattle.racl_views.specs.RuleTexts.{rule_texts}
@@ -113,17 +113,17 @@ hit_line texts (hit.Entered count) = numbered (codes "sessions entered ") count 
 hit_line texts (hit.Matched count) = numbered (codes "sessions matched ") count ++ codes "\n"
 hit_line texts (hit.Expired count) = numbered (codes "sessions expired ") count ++ codes "\n"
 
-abbrev pub hit_object : Hit → Json
-hit_object (hit.Rule at count) = object_of (number (codes "interface") at.rule.interface ∷ way_field at.rule.direction
-    ∷ number (codes "rule") at.rule.number ∷ number (codes "line") at.line ∷ number (codes "packets") count ∷ [])
-hit_object (hit.Unruled why count) = object_of (string (codes "reason") (word_of why) ∷ number (codes "packets") count ∷ [])
-hit_object (hit.Entered count) = object_of (number (codes "sessions_entered") count ∷ [])
-hit_object (hit.Matched count) = object_of (number (codes "sessions_matched") count ∷ [])
-hit_object (hit.Expired count) = object_of (number (codes "sessions_expired") count ∷ [])
+abbrev pub hit_object : List (List ℕ) → Hit → Json
+hit_object texts (hit.Rule at count) = object_of (number (codes "interface") at.rule.interface ∷ way_field at.rule.direction
+    ∷ number (codes "rule") at.rule.number ∷ (line_fields texts at.line ++ number (codes "packets") count ∷ []))
+hit_object texts (hit.Unruled why count) = object_of (string (codes "reason") (word_of why) ∷ number (codes "packets") count ∷ [])
+hit_object texts (hit.Entered count) = object_of (number (codes "sessions_entered") count ∷ [])
+hit_object texts (hit.Matched count) = object_of (number (codes "sessions_matched") count ∷ [])
+hit_object texts (hit.Expired count) = object_of (number (codes "sessions_expired") count ∷ [])
 
 abbrev pub hit_told : View → List (List ℕ) → Hit → List ℕ
 hit_told form.Text texts it = hit_line texts it
-hit_told form.Json texts it = object_line (hit_object it)
+hit_told form.Json texts it = object_line (hit_object texts it)
 
 -- ---- all of it
 

@@ -1,5 +1,5 @@
 -- What a run's packets, captures and totals are as objects of JSON; what isn't known has no key (this project's profile).
-use Rattle.std.specs.Prelude.{◌≡◌, ℕ, ◌==◌, ◌||◌, true, List, [], ◌∷◌, ◌++◌, codes, unwrap_or, if◌then◌else◌}
+use Rattle.std.specs.Prelude.{◌≡◌, ℕ, ◌==◌, ◌-◌, ◌||◌, true, List, [], ◌∷◌, ◌++◌, codes, get_or, unwrap_or, if◌then◌else◌}
 use Rattle.json.specs.Json.{Json, boolean}
 use Rattle.packet_view.specs.Addresses.{icmp_of}
 use Rattle.packet_view.specs.Frames.{FrameFacts, Ip, Malformed, NotIp, Short}
@@ -20,6 +20,7 @@ use Rattle.session_state.specs.Passes.{is_shown}
 use Rattle.racl_views.specs.Entries.{EntryFacts}
 use Rattle.racl_views.specs.Objects.{Field, number, object_lines, object_of, string}
 use Rattle.packet_words.specs.PacketWords.{address_text}
+use Rattle.racl_views.specs.RuleTexts.{rule_texts}
 use Rattle.racl_views.specs.RunEntries.{HasEntries, RunFacts, captures_told}
 
 -- what became of a packet
@@ -58,9 +59,13 @@ rule_fields verdict.Short = []
 abbrev pub verdict_fields : Verdict → List Field
 verdict_fields verdict = string (codes "verdict") (effect_word verdict) ∷ string (codes "reason") (reason_word verdict) ∷ rule_fields verdict
 
--- the deciding rule's line, which is 0 where none did
-abbrev pub line_field : ℕ → List Field
-line_field line = if line == 0 then [] else number (codes "line") line ∷ []
+-- a rule's line, and its text, which is one of these
+abbrev pub line_fields : List (List ℕ) → ℕ → List Field
+line_fields texts line = number (codes "line") line ∷ string (codes "text") (get_or texts (line - 1) []) ∷ []
+
+-- those of the deciding rule, whose line is 0 where none did
+abbrev pub decided_fields : List (List ℕ) → ℕ → List Field
+decided_fields texts line = if line == 0 then [] else line_fields texts line
 
 -- which way packets go at an interface
 abbrev pub way_field : Direction → Field
@@ -102,14 +107,14 @@ carried_fields Short = []
 carried_fields (Ip direction tuple) = tuple_fields tuple
 
 -- the object of the packet with this number
-abbrev pub packet_object : ℕ → EntryFacts → Json
-packet_object n entry = object_of (number (codes "packet") n ∷ (verdict_fields entry.verdict ++ (line_field entry.line
+abbrev pub packet_object : List (List ℕ) → ℕ → EntryFacts → Json
+packet_object texts n entry = object_of (number (codes "packet") n ∷ (verdict_fields entry.verdict ++ (decided_fields texts entry.line
     ++ number (codes "interface") entry.interface ∷ (frame_way entry.view
-    ++ number (codes "time") entry.moment ∷ number (codes "bytes") entry.bytes ∷ carried_fields entry.view))))
+    ++ number (codes "time") entry.moment ∷ number (codes "microsecond") entry.micros ∷ number (codes "bytes") entry.bytes ∷ carried_fields entry.view))))
 
 -- where it is shown
-abbrev pub packet_objects : Shown → ℕ → EntryFacts → List Json
-packet_objects shown n entry = if is_shown shown entry.verdict then packet_object n entry ∷ [] else []
+abbrev pub packet_objects : Shown → List (List ℕ) → ℕ → EntryFacts → List Json
+packet_objects shown texts n entry = if is_shown shown entry.verdict then packet_object texts n entry ∷ [] else []
 
 -- that of a capture that is truncated after so many packets; its interface is 0 where lines don't name it
 abbrev pub truncation_object : Captured → Json
@@ -124,7 +129,7 @@ totals_object t =
 -- those of all packets that are shown, of truncations and of the totals
 abbrev pub run_objects : RunFacts → List EntryFacts → List Json
 run_objects run entries =
-    captures_told (λ captured. packet_objects run.shown) (λ captured. if captured.truncated then truncation_object captured ∷ [] else []) 1 entries run.captures
+    captures_told (λ captured. packet_objects run.shown (rule_texts run.text)) (λ captured. if captured.truncated then truncation_object captured ∷ [] else []) 1 entries run.captures
     ++ totals_object (totals_of run.verdicts run.captures) ∷ []
 
 -- what is told of a run in objects

@@ -21,7 +21,7 @@ AreExplainedLines run told =
 -- the objects of its packets alone
 abbrev pub AreObjectLines : RunFacts → List ℕ → Type 0
 AreObjectLines run told =
-    (entries : List EntryFacts) × HasEntries run entries × (told ≡ object_lines (told_from (packet_objects run.shown) 1 entries))
+    (entries : List EntryFacts) × HasEntries run entries × (told ≡ object_lines (told_from (packet_objects run.shown (rule_texts run.text)) 1 entries))
 
 -- a policy, with its text, and which packets are shown
 pub record ToldBy : Type 0 where

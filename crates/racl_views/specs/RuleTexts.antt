@@ -19,12 +19,18 @@ abbrev pub without_end : List ℕ → List ℕ
 without_end [] = []
 without_end (byte ∷ bytes) = before byte (without_end bytes)
 
+-- printable ASCII, or a tab
+abbrev pub is_shown_byte : ℕ → Bool
+is_shown_byte b = (nat_lt 31 b && nat_lt b 127) || (b == 9)
+
+-- a text where all its bytes are shown, and else another
+abbrev pub shown_or : List ℕ → List ℕ → List ℕ
+shown_or other text = if list_all is_shown_byte text then text else other
+
 -- what is shown of a line: all but the blanks at both ends, up to 200 bytes; without its comment where the line has a byte that
--- is neither printable ASCII nor a tab
+-- isn't shown, and nothing where one stands before the comment, as in no line of a policy
 abbrev pub rule_text : List ℕ → List ℕ
-rule_text line =
-    let is_plain : Bool = list_all (λ b. (nat_lt 31 b && nat_lt b 127) || (b == 9)) line in
-    take 200 (without_end (from_word (if is_plain then line else without_comment line)))
+rule_text line = take 200 (without_end (from_word (shown_or (shown_or [] (without_comment line)) line)))
 
 -- of each line of a policy
 abbrev pub rule_texts : List ℕ → List (List ℕ)

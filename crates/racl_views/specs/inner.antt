@@ -6,6 +6,5 @@ pub mod EntryLists
 pub mod Fields
 pub mod PartWordings
 pub mod Places
-pub mod ShownLines
 pub mod Spots
 pub mod Tellings

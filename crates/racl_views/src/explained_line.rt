@@ -34,7 +34,7 @@ fn push_explained_rule<'a>(piece: &mut Piece, texts: &'a [RuleText<'a>], line: u
     }
     push_numbered(piece, b" | line ", line);
     piece.push(b" ");
-    piece.push(text_at(texts, line));
+    piece.push(text_at(texts, line).as_bytes());
 }
 
 /// The line of the packet with this number.

@@ -25,10 +25,11 @@ pub fn explained_lines_begin_as_the_report()
 /// this object, where the texts of its numbers are numbers: those of less than 2^64 are, and no others are written.
 pub fn objects_read_back()
     ensures numbers { (n : ℕ) → n < 2 ^ 64 → IsNumber (decimal n) }
-    ensures packet { (n : ℕ) (entry : EntryFacts) → HasNumbers (packet_object n entry) → ReadsBack (packet_object n entry) }
+    ensures packet { (texts : List (List ℕ)) (n : ℕ) (entry : EntryFacts) → HasNumbers (packet_object texts n entry)
+        → ReadsBack (packet_object texts n entry) }
     ensures truncation { (captured : Captured) → HasNumbers (truncation_object captured) → ReadsBack (truncation_object captured) }
     ensures totals { (totals : Totals) → HasNumbers (totals_object totals) → ReadsBack (totals_object totals) }
-    ensures hit { (hit : Hit) → HasNumbers (hit_object hit) → ReadsBack (hit_object hit) }
+    ensures hit { (texts : List (List ℕ)) (hit : Hit) → HasNumbers (hit_object texts hit) → ReadsBack (hit_object texts hit) }
     ensures session { (times : Timeouts) (flow : FlowFacts) (session : SessionFacts) → HasNumbers (session_object times flow session)
         → ReadsBack (session_object times flow session) }
 {}

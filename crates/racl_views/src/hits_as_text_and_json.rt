@@ -19,7 +19,9 @@ use crate::appended_line::append_line_text;
 use crate::counting_reasons::ReasonCounts;
 use crate::hit::Hit;
 use crate::hit_counts::HitCounts;
-use crate::json_fields::{add_number, add_string, add_way, begin_json_object, end_json_object};
+use crate::json_fields::{
+    add_line, add_number, add_string, add_way, begin_json_object, end_json_object,
+};
 use crate::place_of_rule::number_at;
 use crate::reason_without_rule::Reason;
 use crate::rule_name::RuleLine;
@@ -74,7 +76,7 @@ fn push_rule<'a>(piece: &mut Piece, texts: &'a [RuleText<'a>], at: RuleLine, cou
     push_numbered(piece, b" line ", at.line);
     push_numbered(piece, b" packets ", count);
     piece.push(b" | ");
-    piece.push(text_at(texts, at.line));
+    piece.push(text_at(texts, at.line).as_bytes());
     piece.push(b"\n");
 }
 
@@ -112,21 +114,26 @@ fn push_hit<'a>(piece: &mut Piece, texts: &'a [RuleText<'a>], hit: Hit)
 }
 
 // The object among the hits of how many packets a rule decided, behind a text.
-fn rule_object(text: Vec<u8>, at: RuleLine, count: u64) -> Result<Vec<u8>, AllocError>
-    ensures { IfOk result (λ new. new.items ≡ text.items ++ object_line (Hits.hit_object (Rule at count))) }
+fn rule_object<'a>(
+    text: Vec<u8>,
+    texts: &'a [RuleText<'a>],
+    at: RuleLine,
+    count: u64,
+) -> Result<Vec<u8>, AllocError>
+    ensures { IfOk result (λ new. new.items ≡ text.items ++ object_line (Hits.hit_object (map shown_of texts.now) (Rule at count))) }
 {
     let mut object = begin_json_object(&text)?;
     add_number(&mut object, "interface", u64::from(at.rule.interface))?;
     add_way(&mut object, at.rule.direction)?;
     add_number(&mut object, "rule", at.rule.number)?;
-    add_number(&mut object, "line", at.line)?;
+    add_line(&mut object, texts, at.line)?;
     add_number(&mut object, "packets", count)?;
     end_json_object(object, text)
 }
 
 // The object among the hits of how many packets a reason decided that is no rule, behind a text.
 fn reason_object(text: Vec<u8>, reason: Reason, count: u64) -> Result<Vec<u8>, AllocError>
-    ensures { IfOk result (λ new. new.items ≡ text.items ++ object_line (Hits.hit_object (Unruled reason count))) }
+    ensures { IfOk result (λ new. new.items ≡ text.items ++ object_line (Hits.hit_object [] (Unruled reason count))) }
 {
     let mut object = begin_json_object(&text)?;
     add_string(&mut object, "reason", word_of(reason))?;
@@ -144,11 +151,11 @@ fn hit_count_object(text: Vec<u8>, key: &str, count: u64) -> Result<Vec<u8>, All
 }
 
 // The object of a hit behind a text.
-fn hit_object(text: Vec<u8>, hit: Hit) -> Result<Vec<u8>, AllocError>
-    ensures { IfOk result (λ new. new.items ≡ text.items ++ object_line (Hits.hit_object hit)) }
+fn hit_object<'a>(text: Vec<u8>, texts: &'a [RuleText<'a>], hit: Hit) -> Result<Vec<u8>, AllocError>
+    ensures { IfOk result (λ new. new.items ≡ text.items ++ object_line (Hits.hit_object (map shown_of texts.now) hit)) }
 {
     match hit {
-        Hit::Rule(at, count) => rule_object(text, at, count),
+        Hit::Rule(at, count) => rule_object(text, texts, at, count),
         Hit::Unruled(reason, count) => reason_object(text, reason, count),
         Hit::Entered(count) => hit_count_object(text, "sessions_entered", count),
         Hit::Matched(count) => hit_count_object(text, "sessions_matched", count),
@@ -172,7 +179,7 @@ fn tell_hit<'a>(
             push_hit(piece, texts, hit);
             append_line_text(text, piece)
         }
-        View::Json => hit_object(text, hit),
+        View::Json => hit_object(text, texts, hit),
     }
 }
 

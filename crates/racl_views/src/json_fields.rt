@@ -1,13 +1,16 @@
 //! Objects of JSON, written field by field (RFC 8259).
-ghost use Rattle.std.specs.Prelude.{◌≡◌, ◌<◌, ◌++◌, [], ◌∷◌, true, List, IfOk, OnOk, string_bytes};
+ghost use Rattle.std.specs.Prelude.{◌≡◌, ◌<◌, ◌++◌, [], ◌∷◌, true, List, IfOk, OnOk, map, string_bytes};
 ghost use Rattle.json.specs.Json.{boolean};
 ghost use Rattle.json.specs.Token.{begin_object};
 ghost use Rattle.packet_view.specs.Addresses.{address_limit};
 ghost use Rattle.racl_views.specs.Objects.{Field, number, object_line, object_of, string};
-ghost use Rattle.racl_views.specs.PacketObjects.{way_field};
+ghost use Rattle.racl_views.specs.PacketObjects.{line_fields, way_field};
 ghost use Rattle.packet_words.specs.PacketWords.{address_text};
+ghost use Rattle.racl_views.specs.RuleTexts.{shown_of};
 ghost use Rattle.racl_views.specs.inner.Fields.{HasAdded, fields_tokens};
 
+use crate::rule_texts_in_policy::text_at;
+use crate::shown_rule_text::RuleText;
 use json::Writer;
 use packet_view::{Direction, Family};
 use std::alloc::AllocError;
@@ -15,7 +18,7 @@ use std::fmt::Write;
 use std::net::{Ipv4Addr, Ipv6Addr};
 
 // Most objects have fewer bytes.
-const OBJECT_BYTES: usize = 384;
+const OBJECT_BYTES: usize = 640;
 
 /// Begins an object of JSON, without a field, whose line is put behind this text. It has bytes of its own: the writer
 /// fills some ahead, in proportion to what they hold. An `Err` of this and of what follows says that memory ran out.
@@ -53,6 +56,19 @@ pub fn add_string(object: &mut Writer, key: &str, text: &str) -> Result<(), Allo
 {
     object.key(key)?;
     object.string(text)?;
+    Ok(())
+}
+
+/// The line of a rule in an object of a packet or of hits, and its text, which is one of these.
+pub fn add_line<'a>(
+    object: &mut Writer,
+    texts: &'a [RuleText<'a>],
+    line: u64,
+) -> Result<(), AllocError>
+    ensures { OnOk result (HasAdded object.old object.new (line_fields (map shown_of texts.now) line)) }
+{
+    add_number(object, "line", line)?;
+    add_string(object, "text", text_at(texts, line))?;
     Ok(())
 }
 

@@ -1,18 +1,21 @@
 //! The objects of packets, captures and totals, a line each.
-ghost use Rattle.std.specs.Prelude.{◌≡◌, ◌++◌, [], ◌∷◌, IfOk, OnOk, codes, unwrap_or};
+ghost use Rattle.std.specs.Prelude.{◌≡◌, ◌++◌, [], ◌∷◌, IfOk, OnOk, codes, map, unwrap_or};
 ghost use Rattle.packet_view.specs.Frames.{frame_facts};
 ghost use Rattle.packet_view.specs.Tuples.{tuple_facts};
 ghost use Rattle.packet_view.specs.declared.tuple.Fields.TheVariants.{Absent};
 ghost use Rattle.racl_views.specs.Entries.{entry_facts};
 ghost use Rattle.racl_views.specs.Objects.{number, object_line};
 ghost use Rattle.racl_views.specs.PacketObjects;
-ghost use Rattle.racl_views.specs.PacketObjects.{carried_fields, dest_fields, frame_way, line_field, packet_object, rule_fields, source_fields, totals_object, truncation_object, tuple_fields, verdict_fields};
+ghost use Rattle.racl_views.specs.PacketObjects.{carried_fields, decided_fields, dest_fields, frame_way, packet_object, rule_fields, source_fields, totals_object, truncation_object, tuple_fields, verdict_fields};
+ghost use Rattle.racl_views.specs.RuleTexts.{shown_of};
 ghost use Rattle.racl_views.specs.inner.Fields.{HasAdded};
 
 use crate::json_fields::{
-    add_address, add_number, add_string, add_true, add_way, begin_json_object, end_json_object,
+    add_address, add_line, add_number, add_string, add_true, add_way, begin_json_object,
+    end_json_object,
 };
 use crate::packet_entry::Entry;
+use crate::shown_rule_text::RuleText;
 use json::Writer;
 use packet_view::{Family, Fields, Frame, Tuple};
 use packet_words::has_fields;
@@ -68,14 +71,18 @@ fn add_rule(object: &mut Writer, verdict: Verdict) -> Result<(), AllocError>
     Ok(())
 }
 
-// The field of a packet's object with the line of the rule that decided it, where one did.
-fn add_line_to_object(object: &mut Writer, line: u64) -> Result<(), AllocError>
-    ensures { OnOk result (HasAdded object.old object.new (line_field line)) }
+// The fields of a packet's object with the line and the text of the rule that decided it, where one did.
+fn add_decided<'a>(
+    object: &mut Writer,
+    texts: &'a [RuleText<'a>],
+    line: u64,
+) -> Result<(), AllocError>
+    ensures { OnOk result (HasAdded object.old object.new (decided_fields (map shown_of texts.now) line)) }
 {
     if line == 0 {
         return Ok(());
     }
-    add_number(object, "line", line)
+    add_line(object, texts, line)
 }
 
 fn add_frame_way(object: &mut Writer, frame: &Frame) -> Result<(), AllocError>
@@ -177,22 +184,25 @@ fn add_verdict(object: &mut Writer, verdict: Verdict) -> Result<(), AllocError>
     Ok(())
 }
 
-/// The object of the packet with this number behind a text. An `Err` of this and of what follows says that memory ran out.
-pub fn push_packet(
+/// The object of the packet with this number behind a text. The rule that decided it has one of these texts. An `Err` of this
+/// and of what follows says that memory ran out.
+pub fn push_packet<'a>(
     text: Vec<u8>,
     address: &mut String,
+    texts: &'a [RuleText<'a>],
     number: u64,
     entry: &Entry,
 ) -> Result<Vec<u8>, AllocError>
-    ensures { IfOk result (λ new. new.items ≡ text.items ++ object_line (packet_object number (entry_facts entry.now))) }
+    ensures { IfOk result (λ new. new.items ≡ text.items ++ object_line (packet_object (map shown_of texts.now) number (entry_facts entry.now))) }
 {
     let mut object = begin_json_object(&text)?;
     add_number(&mut object, "packet", number)?;
     add_verdict(&mut object, entry.verdict)?;
-    add_line_to_object(&mut object, entry.line)?;
+    add_decided(&mut object, texts, entry.line)?;
     add_number(&mut object, "interface", u64::from(entry.interface))?;
     add_frame_way(&mut object, &entry.frame)?;
     add_number(&mut object, "time", u64::from(entry.moment))?;
+    add_number(&mut object, "microsecond", u64::from(entry.micros))?;
     add_number(&mut object, "bytes", entry.bytes)?;
     add_carried(&mut object, address, &entry.frame)?;
     end_json_object(object, text)

@@ -1,11 +1,12 @@
 //! The report in objects of JSON, made whole before any of it is written, or one part of the packets after the other.
-ghost use Rattle.std.specs.Prelude.{◌≡◌, ◌+◌, ◌-◌, ◌<◌, ◌^◌, ◌++◌, ℕ, List, IfOk, OnOk, drop, length};
+ghost use Rattle.std.specs.Prelude.{◌≡◌, ◌+◌, ◌-◌, ◌<◌, ◌^◌, ◌++◌, ℕ, List, IfOk, OnOk, drop, length, map};
 ghost use Rattle.packet_view.specs.Captures.{packet_facts};
 ghost use Rattle.packet_view.specs.CheckedCaptures.{remaining};
 ghost use Rattle.acl_policy.specs.Policies.{IsPolicyText, policy_facts};
 ghost use Rattle.racl_io.specs.Reports.{packets_in, totals_of};
 ghost use Rattle.racl_io.specs.Sinks.{Writes};
 ghost use Rattle.racl_views.specs.PacketObjects.{IsToldInObjects};
+ghost use Rattle.racl_views.specs.RuleTexts.{shown_of};
 ghost use Rattle.racl_views.specs.RunEntries.{captures_told, run_facts, told_from};
 ghost use Rattle.racl_views.specs.inner.PartWordings.{end_objects, objects_wording};
 ghost use Rattle.racl_views.specs.inner.Tellings.{IsTableOf, entries_by, entry_by, object_by, truncation_by};
@@ -38,7 +39,7 @@ fn tell_packet_in_json(
         return Ok(text);
     }
     let entry = entry_of(telling.policy, &telling.table.lines, packet, verdict);
-    push_packet(text, address, number, &entry)
+    push_packet(text, address, &telling.table.texts, number, &entry)
 }
 
 // The objects of the report in JSON on these packets, of which the first has this number.
@@ -192,7 +193,7 @@ fn objects_at_end(alloc: Global, totals: &Totals) -> Result<Vec<u8>, AllocError>
 }
 
 impl<'a> Teller for ObjectLines<'a> {
-    ghost wording = { λ lines. objects_wording lines.shown (policy_facts lines.policy.now) lines.table.rules.items };
+    ghost wording = { λ lines. objects_wording lines.shown (policy_facts lines.policy.now) lines.table.rules.items (map shown_of lines.table.texts.items) };
 
     fn tell<W: Sink>(
         &mut self,

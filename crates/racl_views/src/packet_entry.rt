@@ -13,13 +13,14 @@ use packet_view::{Frame, Packet};
 use packet_words::packet_as_seen;
 use session_state::Verdict;
 
-/// What is told of a packet: its verdict, the interface where it was seen, at which second, how many of its bytes
-/// were kept, and what its frame is.
+/// What is told of a packet: its verdict, the interface where it was seen, in which second and how many microseconds
+/// after it began, how many of its bytes were kept, and what its frame is.
 #[derive(Clone, Copy)]
 pub struct Entry {
     pub verdict: Verdict,
     pub interface: u8,
     pub moment: u32,
+    pub micros: u32,
     pub bytes: u64,
     pub frame: Frame,
     /// The line of the rule that decided it, counted from 1; 0 where none did.
@@ -46,6 +47,7 @@ pub fn entry_of(policy: &Policy, lines: &[u64], packet: Packet<'_>, verdict: Ver
         verdict,
         interface: packet.interface,
         moment: packet.moment,
+        micros: packet.micros,
         bytes: packet.frame.len() as u64,
         frame,
         line,

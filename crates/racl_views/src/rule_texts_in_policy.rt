@@ -2,10 +2,9 @@
 ghost use Rattle.std.specs.Prelude.{◌≡◌, ◌-◌, ◌<◌, ◌≤◌, [], IfOk, get_or, length, map, take};
 ghost use Rattle.std.specs.List.{list_all};
 ghost use Rattle.std.specs.Str.{IsUtf8};
+ghost use Rattle.policy_words.specs.Words.{without_comment};
 ghost use Rattle.racl_views.specs.RuleTexts;
-ghost use Rattle.racl_views.specs.RuleTexts.{from_word, rule_texts, shown_of, without_end};
-ghost use Rattle.racl_views.specs.inner.ShownLines;
-ghost use Rattle.racl_views.specs.inner.ShownLines.{with_comment};
+ghost use Rattle.racl_views.specs.RuleTexts.{from_word, rule_texts, shown_of, shown_or, without_end};
 
 use crate::shown_rule_text::RuleText;
 use acl_policy::before_comment;
@@ -17,14 +16,14 @@ const MOST_SHOWN: usize = 200;
 
 // Whether a byte is shown of a comment of a rule.
 fn is_shown_byte(byte: u8) -> bool
-    ensures { result ≡ ShownLines.is_shown_byte byte }
+    ensures { result ≡ RuleTexts.is_shown_byte byte }
 {
     byte >= 32 && byte < 127 || byte == b'\t'
 }
 
 // Whether all bytes of a rule's line are shown.
 fn is_shown_whole(line: &[u8]) -> bool
-    ensures { result ≡ list_all ShownLines.is_shown_byte line.now }
+    ensures { result ≡ list_all RuleTexts.is_shown_byte line.now }
 {
     let mut rest = line;
     'bytes: while !rest.is_empty() {
@@ -36,15 +35,18 @@ fn is_shown_whole(line: &[u8]) -> bool
     true
 }
 
+// A text where all its bytes are shown of a rule, and else another.
+fn rule_text_or<'a>(other: &'a [u8], text: &'a [u8]) -> &'a [u8]
+    ensures { result.now ≡ shown_or other.now text.now }
+{
+    if is_shown_whole(text) { text } else { other }
+}
+
 // A rule's line with its comment, where that is shown.
 fn rule_line_with_comment(line: &[u8]) -> &[u8]
-    ensures { result.now ≡ with_comment line.now }
+    ensures { result.now ≡ shown_or (shown_or [] (without_comment line.now)) line.now }
 {
-    if is_shown_whole(line) {
-        line
-    } else {
-        before_comment(line)
-    }
+    rule_text_or(rule_text_or(&[], before_comment(line)), line)
 }
 
 // The text of a policy's line from its first word on, where what is shown of a rule begins.
@@ -82,15 +84,23 @@ fn rule_text_cut(text: &[u8]) -> &[u8]
     &text[..MOST_SHOWN]
 }
 
+// The text of a rule from its bytes.
+fn rule_text_of(bytes: &[u8]) -> RuleText<'_>
+    requires { length bytes.now ≤ 200 }
+    ensures { IsUtf8 bytes.now → shown_of result ≡ bytes.now }
+{
+    match str::from_utf8(bytes) {
+        Ok(text) => RuleText { text },
+        Err(_) => RuleText { text: "" },
+    }
+}
+
 // What is shown of a line.
 fn rule_text(line: &[u8]) -> RuleText<'_>
     ensures { shown_of result ≡ RuleTexts.rule_text line.now }
 {
-    RuleText {
-        text: rule_text_cut(rule_text_before_blanks(rule_text_after_blanks(rule_line_with_comment(
-            line,
-        )))),
-    }
+    let words = rule_text_after_blanks(rule_line_with_comment(line));
+    rule_text_of(rule_text_cut(rule_text_before_blanks(words)))
 }
 
 fn texts_in<'a>(alloc: Global, text: &'a str) -> Result<Vec<RuleText<'a>>, AllocError>
@@ -114,7 +124,7 @@ pub fn texts_of<'a>(alloc: Global, text: &'a [u8]) -> Result<Vec<RuleText<'a>>, 
 }
 
 /// What is shown of the line with this number, counted from 1, and nothing where there is none. Of 0 it is that of 1.
-pub fn text_at<'a>(texts: &'a [RuleText<'a>], line: u64) -> &'a [u8]
+pub fn text_at<'a>(texts: &'a [RuleText<'a>], line: u64) -> &'a str
     ensures text { result.now ≡ get_or (map shown_of texts.now) (line - 1) [] }
     ensures short { length result.now ≤ 200 }
 {
@@ -122,6 +132,6 @@ pub fn text_at<'a>(texts: &'a [RuleText<'a>], line: u64) -> &'a [u8]
     if place < texts.len() {
         texts[place].text
     } else {
-        &[]
+        ""
     }
 }

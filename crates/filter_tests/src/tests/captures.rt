@@ -7,7 +7,7 @@ use std::test::Fail;
 /// A header and three records of 42 bytes, little-endian, with microseconds.
 const LITTLE: [u8; 198] = [
     0xd4, 0xc3, 0xb2, 0xa1, 0x02, 0, 0x04, 0, 0, 0, 0, 0, 0, 0, 0, 0, 0, 0, 0x04, 0, 0x01, 0, 0, 0, // header
-    0x64, 0, 0, 0, 0, 0, 0, 0, 0x2a, 0, 0, 0, 0x2a, 0, 0, 0, // 100 seconds
+    0x64, 0, 0, 0, 0x41, 0x42, 0x0f, 0, 0x2a, 0, 0, 0, 0x2a, 0, 0, 0, // 100 seconds, 1,000,001 microseconds
     0x02, 0, 0, 0, 0, 0x02, 0x02, 0, 0, 0, 0, 0x01, 0x08, 0, //
     0x45, 0, 0, 0x1c, 0, 0, 0, 0, 0x40, 0x11, 0, 0, 0x0a, 0, 0, 0x01, 0x0a, 0, 0, 0x02, //
     0x03, 0xe8, 0, 0x35, 0, 0x08, 0, 0, //
@@ -24,7 +24,7 @@ const LITTLE: [u8; 198] = [
 /// A header and the first of those records, big-endian, with nanoseconds.
 const BIG: [u8; 82] = [
     0xa1, 0xb2, 0x3c, 0x4d, 0, 0x02, 0, 0x04, 0, 0, 0, 0, 0, 0, 0, 0, 0, 0x04, 0, 0, 0, 0, 0, 0x01, // header
-    0, 0, 0, 0x64, 0, 0, 0, 0, 0, 0, 0, 0x2a, 0, 0, 0, 0x2a, // 100 seconds
+    0, 0, 0, 0x64, 0x3b, 0x9a, 0xc9, 0xff, 0, 0, 0, 0x2a, 0, 0, 0, 0x2a, // 100 seconds, 999,999,999 nanoseconds
     0x02, 0, 0, 0, 0, 0x02, 0x02, 0, 0, 0, 0, 0x01, 0x08, 0, //
     0x45, 0, 0, 0x1c, 0, 0, 0, 0, 0x40, 0x11, 0, 0, 0x0a, 0, 0, 0x01, 0x0a, 0, 0, 0x02, //
     0x03, 0xe8, 0, 0x35, 0, 0x08, 0, 0, //
@@ -35,6 +35,7 @@ const BIG: [u8; 82] = [
 fn finds_the_next_record(rt: HostRuntime) {
     let Piece::Whole {
         moment,
+        micros,
         frame,
         rest,
     } = next_record(&LITTLE[24..], Order::Little)
@@ -42,7 +43,7 @@ fn finds_the_next_record(rt: HostRuntime) {
         assert!(rt; false, "a whole record");
         return;
     };
-    assert!(rt; (moment, rest.len()) == (100, 116));
+    assert!(rt; (moment, micros, rest.len()) == (100, 1_000_001, 116));
     assert!(rt; frame == UDP.as_slice());
 }
 
@@ -52,7 +53,7 @@ fn finds_the_whole_records_at_the_front(rt: HostRuntime) {
     let front = front_records(&LITTLE[24..145], Order::Little, 0);
     assert!(rt; (front.records.count(), front.rest.len()) == (2, 5));
     assert!(rt; front.stop == Stop::Truncated);
-    assert!(rt; front_of(Packets::Records(front.records)) == (2, Some(100), 1));
+    assert!(rt; front_of(Packets::Records(front.records)) == (2, Some((100, 1_000_001)), 1));
 }
 
 /// A whole capture in big-endian order: the list of its packets.
@@ -62,18 +63,19 @@ fn reads_the_packets_of_a_capture(rt: HostRuntime) -> Result<(), Fail> {
         return filter_test_refused();
     };
     assert!(rt; !capture.truncated);
-    assert!(rt; front_of_list(&capture.packets) == (1, Some(100), 0));
+    assert!(rt; front_of_list(&capture.packets) == (1, Some((100, 999_999)), 0));
     Ok(())
 }
 
-// What tests of captures compare of packets: how many there are, the moment of the first, and how many are left.
-fn front_of(mut packets: Packets<'_>) -> (usize, Option<u32>, usize) {
+// What tests of captures compare of packets: how many there are, the moment of the first, with its microseconds, and how
+// many are left.
+fn front_of(mut packets: Packets<'_>) -> (usize, Option<(u32, u32)>, usize) {
     let count = packets.count();
-    let moment = packets.next().map(|packet| packet.moment);
+    let moment = packets.next().map(|packet| (packet.moment, packet.micros));
     (count, moment, packets.count())
 }
 
 // What tests of captures compare of a list of packets.
-fn front_of_list<'a>(packets: &'a [Packet<'a>]) -> (usize, Option<u32>, usize) {
+fn front_of_list<'a>(packets: &'a [Packet<'a>]) -> (usize, Option<(u32, u32)>, usize) {
     front_of(Packets::Slice(packets))
 }

@@ -31,6 +31,7 @@ fn packet_to_deal<'a>(moment: u32, frame: &'a [u8]) -> Packet<'a> {
     Packet {
         interface: 0,
         moment,
+        micros: 0,
         frame,
     }
 }

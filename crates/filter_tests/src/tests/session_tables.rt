@@ -66,6 +66,7 @@ fn first_wrong_over_tables<A: Shape, B: Shape>(
         let packet = Packet {
             interface: 0,
             moment,
+            micros: 0,
             frame: &frame,
         };
         match try_judge(filter, tables, callers, &packet) {
@@ -128,6 +129,7 @@ fn verdict_over_session_tables<A: Shape, R: Wait>(
     let packet = Packet {
         interface: 0,
         moment: 100,
+        micros: 0,
         frame,
     };
     Some(judge(rt, &filter, &tables, &mut callers, &packet))

@@ -221,16 +221,19 @@ fn workers(rt: HostRuntime) -> Result<(), Fail> {
         Packet {
             interface: 0,
             moment: 100,
+            micros: 0,
             frame: &frames[0],
         },
         Packet {
             interface: 0,
             moment: 105,
+            micros: 0,
             frame: &frames[1],
         },
         Packet {
             interface: 0,
             moment: 106,
+            micros: 0,
             frame: &frames[2],
         },
     ];
@@ -259,11 +262,13 @@ fn two_workers_at_once(rt: HostRuntime) -> Result<(), Fail> {
         Packet {
             interface: 0,
             moment: 100,
+            micros: 0,
             frame: &foreign,
         },
         Packet {
             interface: 0,
             moment: 100,
+            micros: 0,
             frame: &odd,
         },
     ];
@@ -307,11 +312,13 @@ fn workers_judge_two_parts(rt: HostRuntime) -> Result<(), Fail> {
         Packet {
             interface: 0,
             moment: 100,
+            micros: 0,
             frame: &frames[0],
         },
         Packet {
             interface: 0,
             moment: 100,
+            micros: 0,
             frame: &frames[1],
         },
     ];
@@ -319,11 +326,13 @@ fn workers_judge_two_parts(rt: HostRuntime) -> Result<(), Fail> {
         Packet {
             interface: 0,
             moment: 101,
+            micros: 0,
             frame: &frames[2],
         },
         Packet {
             interface: 0,
             moment: 101,
+            micros: 0,
             frame: &frames[3],
         },
     ];

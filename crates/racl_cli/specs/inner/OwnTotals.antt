@@ -1,15 +1,11 @@
 -- The shard of a run, and the totals over the shard's packets.
 use Rattle.std.specs.Prelude.{◌≡◌, ◌-◌, ℕ}
 use Rattle.racl_io.specs.declared.totals_and_truncation.Totals.{Totals}
+use Rattle.racl_options.specs.declared.settings.ShardAsked.{ShardAsked}
 use Rattle.racl_options.specs.declared.settings.TableSize.{TableSize}
 use Rattle.capture_shards.specs.Shards.{IsOver}
 use Rattle.capture_shards.specs.declared.shard.Shard.{Shard}
-use Rattle.capture_shards.specs.declared.shard.ShardAsked.{ShardAsked}
 use Rattle.racl_cli.specs.Runs.{layout_for}
-use Rattle.racl_cli.specs.ShardRuns.{AskedShard}
-
-abbrev pub asked_shard : ShardAsked → AskedShard
-asked_shard asked = record { number = asked.number; count = asked.count }
 
 -- the shard that is asked for, over tables of this size
 pub record IsShardOver (size : TableSize) (asked : ShardAsked) (shard : Shard) : Type 0 where

@@ -4,7 +4,7 @@ use Rattle.std.specs.Io.KnownBytes.{Appends}
 use Rattle.session_state.specs.declared.verdict.Verdict.{Verdict}
 use Rattle.racl_io.specs.declared.fault.Fault.{Fault}
 use Rattle.racl_io.specs.declared.fault.Fault.TheVariants.{Write}
-use Rattle.racl_io.specs.declared.whole_report.Place.{Place}
+use Rattle.racl_io.specs.declared.whole_lines.Place.{Place}
 use Rattle.racl_io.specs.Reports.{lines_from, passed}
 
 -- the lines of packets that stand at this place

@@ -26,6 +26,9 @@ passes_id = codes "passes"
 abbrev pub expect_id : Text
 expect_id = codes "expect"
 
+abbrev pub shard_id : Text
+shard_id = codes "shard"
+
 abbrev pub policy_id : Text
 policy_id = codes "POLICY"
 
@@ -53,7 +56,7 @@ abbrev pub with_selections : App
 with_selections = with_rule (with_rule (with_rule with_options (value_rule tables_id)) interface_rule) (value_rule only_id)
 
 abbrev pub with_values : App
-with_values = with_rule (with_rule (with_rule with_selections (value_rule drops_id)) (value_rule passes_id)) (value_rule expect_id)
+with_values = with_rule (with_rule (with_rule (with_rule with_selections (value_rule drops_id)) (value_rule passes_id)) (value_rule expect_id)) (value_rule shard_id)
 
 abbrev pub with_reports : App
 with_reports = with_rule (with_rule (with_rule with_values (flag_rule Summary)) (flag_rule Hits)) (flag_rule Sessions)

@@ -13,7 +13,7 @@ const POLICY: &[u8] = b"mac 02:00:00:00:00:01\n\
     \tin deny ipv6 any any\n\
     interface 2\n\
     mac 02:00:00:00:00:02\n\
-    in permit ipv4 any any icmp type 8\r\n";
+    in permit ipv4 any any icmp type 8 # \"a\\b\"\tc\r\n";
 
 // A packet with its verdict, and what is told of it in each form: it is the only one of a truncated capture.
 const ROWS: [(u8, &[u8], Verdict, &str, &str); 7] = [
@@ -27,7 +27,8 @@ const ROWS: [(u8, &[u8], Verdict, &str, &str); 7] = [
         | line 2 out permit+reflect ipv4 any any udp # questions\n\
         if 0 truncated after 1\npackets 1 pass 1 drop 0\n",
         "{\"packet\":1,\"verdict\":\"pass\",\"reason\":\"rule\",\"rule\":1,\"reflect\":true,\"line\":2,\
-        \"interface\":0,\"direction\":\"out\",\"time\":10,\"bytes\":42,\"protocol\":17,\
+        \"text\":\"out permit+reflect ipv4 any any udp # questions\",\
+        \"interface\":0,\"direction\":\"out\",\"time\":10,\"microsecond\":250,\"bytes\":42,\"protocol\":17,\
         \"source\":\"192.0.2.1\",\"source_port\":4000,\
         \"destination\":\"198.51.100.9\",\"destination_port\":53}\n\
         {\"interface\":0,\"truncated_after\":1}\n\
@@ -44,7 +45,8 @@ const ROWS: [(u8, &[u8], Verdict, &str, &str); 7] = [
         | line 4 in deny ipv6 any any\n\
         if 0 truncated after 1\npackets 1 pass 0 drop 1\n",
         "{\"packet\":1,\"verdict\":\"drop\",\"reason\":\"rule\",\"rule\":1,\"line\":4,\
-        \"interface\":0,\"direction\":\"in\",\"time\":10,\"bytes\":74,\"protocol\":6,\
+        \"text\":\"in deny ipv6 any any\",\
+        \"interface\":0,\"direction\":\"in\",\"time\":10,\"microsecond\":250,\"bytes\":74,\"protocol\":6,\
         \"source\":\"2001:db8::1\",\"source_port\":12345,\
         \"destination\":\"2001:db8:0:1::ab\",\"destination_port\":22,\"flags\":2}\n\
         {\"interface\":0,\"truncated_after\":1}\n\
@@ -57,10 +59,11 @@ const ROWS: [(u8, &[u8], Verdict, &str, &str); 7] = [
         \x08\0\0\0\0\x01\0\x01",
         Verdict::Permit(1),
         "1 if 2 pass rule 1 | interface 2 in time 10 icmp 10.0.0.3 to 10.0.0.2 type 8 code 0 \
-        | line 7 in permit ipv4 any any icmp type 8\n\
+        | line 7 in permit ipv4 any any icmp type 8 # \"a\\b\"\tc\n\
         if 2 truncated after 1\npackets 1 pass 1 drop 0\n",
         "{\"packet\":1,\"verdict\":\"pass\",\"reason\":\"rule\",\"rule\":1,\"line\":7,\
-        \"interface\":2,\"direction\":\"in\",\"time\":10,\"bytes\":42,\"protocol\":1,\
+        \"text\":\"in permit ipv4 any any icmp type 8 # \\\"a\\\\b\\\"\\tc\",\
+        \"interface\":2,\"direction\":\"in\",\"time\":10,\"microsecond\":250,\"bytes\":42,\"protocol\":1,\
         \"source\":\"10.0.0.3\",\"destination\":\"10.0.0.2\",\"type\":8,\"code\":0}\n\
         {\"interface\":2,\"truncated_after\":1}\n\
         {\"packets\":1,\"pass\":1,\"drop\":0}\n",
@@ -75,7 +78,7 @@ const ROWS: [(u8, &[u8], Verdict, &str, &str); 7] = [
         "1 if 0 pass rule 9 | interface 0 in time 10 udp 10.0.0.3 to 10.0.0.2 later fragment\n\
         if 0 truncated after 1\npackets 1 pass 1 drop 0\n",
         "{\"packet\":1,\"verdict\":\"pass\",\"reason\":\"rule\",\"rule\":9,\
-        \"interface\":0,\"direction\":\"in\",\"time\":10,\"bytes\":42,\"protocol\":17,\
+        \"interface\":0,\"direction\":\"in\",\"time\":10,\"microsecond\":250,\"bytes\":42,\"protocol\":17,\
         \"source\":\"10.0.0.3\",\"destination\":\"10.0.0.2\",\"later_fragment\":true}\n\
         {\"interface\":0,\"truncated_after\":1}\n\
         {\"packets\":1,\"pass\":1,\"drop\":0}\n",
@@ -90,7 +93,7 @@ const ROWS: [(u8, &[u8], Verdict, &str, &str); 7] = [
         "1 if 0 drop default | interface 0 in time 10 protocol 47 :: to ::ffff:192.0.2.128\n\
         if 0 truncated after 1\npackets 1 pass 0 drop 1\n",
         "{\"packet\":1,\"verdict\":\"drop\",\"reason\":\"default\",\
-        \"interface\":0,\"direction\":\"in\",\"time\":10,\"bytes\":54,\"protocol\":47,\
+        \"interface\":0,\"direction\":\"in\",\"time\":10,\"microsecond\":250,\"bytes\":54,\"protocol\":47,\
         \"source\":\"::\",\"destination\":\"::ffff:192.0.2.128\"}\n\
         {\"interface\":0,\"truncated_after\":1}\n\
         {\"packets\":1,\"pass\":0,\"drop\":1}\n",
@@ -101,7 +104,7 @@ const ROWS: [(u8, &[u8], Verdict, &str, &str); 7] = [
         Verdict::NotIp,
         "1 if 0 pass not-ip | interface 0 time 10\n\
         if 0 truncated after 1\npackets 1 pass 1 drop 0\n",
-        "{\"packet\":1,\"verdict\":\"pass\",\"reason\":\"not-ip\",\"interface\":0,\"time\":10,\"bytes\":14}\n\
+        "{\"packet\":1,\"verdict\":\"pass\",\"reason\":\"not-ip\",\"interface\":0,\"time\":10,\"microsecond\":250,\"bytes\":14}\n\
         {\"interface\":0,\"truncated_after\":1}\n\
         {\"packets\":1,\"pass\":1,\"drop\":0}\n",
     ),
@@ -111,7 +114,7 @@ const ROWS: [(u8, &[u8], Verdict, &str, &str); 7] = [
         Verdict::Malformed,
         "1 if 3 drop malformed | interface 3 time 10\n\
         if 3 truncated after 1\npackets 1 pass 0 drop 1\n",
-        "{\"packet\":1,\"verdict\":\"drop\",\"reason\":\"malformed\",\"interface\":3,\"time\":10,\"bytes\":0}\n\
+        "{\"packet\":1,\"verdict\":\"drop\",\"reason\":\"malformed\",\"interface\":3,\"time\":10,\"microsecond\":250,\"bytes\":0}\n\
         {\"interface\":3,\"truncated_after\":1}\n\
         {\"packets\":1,\"pass\":0,\"drop\":1}\n",
     ),
@@ -134,6 +137,7 @@ fn told(
     let packets = [Packet {
         interface,
         moment: 10,
+        micros: 250,
         frame,
     }];
     let run = Run {

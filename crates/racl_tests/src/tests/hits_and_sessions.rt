@@ -66,9 +66,9 @@ const HITS: [(Timeouts, View, &str); 3] = [
     (
         SHORT_TIMES,
         View::Json,
-        "{\"interface\":0,\"direction\":\"out\",\"rule\":1,\"line\":2,\"packets\":1}\n\
-        {\"interface\":0,\"direction\":\"in\",\"rule\":1,\"line\":4,\"packets\":1}\n\
-        {\"interface\":0,\"direction\":\"out\",\"rule\":2,\"line\":5,\"packets\":0}\n\
+        "{\"interface\":0,\"direction\":\"out\",\"rule\":1,\"line\":2,\"text\":\"out permit+reflect ipv4 any any udp # questions\",\"packets\":1}\n\
+        {\"interface\":0,\"direction\":\"in\",\"rule\":1,\"line\":4,\"text\":\"in deny ipv4 10.0.0.3 any\",\"packets\":1}\n\
+        {\"interface\":0,\"direction\":\"out\",\"rule\":2,\"line\":5,\"text\":\"out deny ipv4 any any\",\"packets\":0}\n\
         {\"reason\":\"session\",\"packets\":0}\n{\"reason\":\"default\",\"packets\":0}\n\
         {\"reason\":\"full\",\"packets\":0}\n{\"reason\":\"worn\",\"packets\":0}\n\
         {\"reason\":\"no-pages\",\"packets\":0}\n{\"reason\":\"not-ip\",\"packets\":0}\n\

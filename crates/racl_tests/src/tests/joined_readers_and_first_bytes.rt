@@ -1,9 +1,7 @@
-//! A policy and captures from readers, and what files are that are no captures of Ethernet.
-ghost use Rattle.std.specs.Prelude.{◌≡◌, IfSome};
+//! A policy's text and a capture as one source, and what files are that are no captures of Ethernet.
 
 use super::racl_test_refused;
-use racl_io::{Form, Joined, Other, joined_capture, other_file, read_until};
-use std::alloc::Global;
+use racl_io::{Joined, Other, other_file, read_until};
 use std::test::Fail;
 
 // For tests of first bytes: 24 bytes that begin with these and have this link field.
@@ -19,41 +17,20 @@ fn told_of_fewer(bytes: &[u8]) -> Option<Other> {
     other_file(&bytes[..bytes.len().min(23)])
 }
 
-/// Three captures, with the forms of their marker lines.
-const CAPTURES: [(Form, &[u8]); 3] = [
-    (Form::Binary, b"\xd4\xc3"),
-    (Form::Numbered(255), b"\x0a\xf0"),
-    (Form::Hexadecimal, b""),
-];
-
-// For tests of joined readers: a policy and these captures. `None`: memory was refused.
-fn joined(alloc: Global) -> Option<Joined<&'static [u8]>>
-    ensures { IfSome result (λ joined. joined.device.failures ≡ 0) }
-{
-    let mut captures = Vec::new(alloc);
-    for (form, bytes) in CAPTURES {
-        let Ok(capture) = joined_capture(alloc, form, bytes) else {
-            return None;
-        };
-        let Ok(()) = captures.push(capture) else {
-            return None;
-        };
-    }
-    Some(Joined::new(b"mac".as_slice(), captures))
-}
-
-/// Joined readers of a policy and of captures, one after the other, with marker lines between them.
+/// A policy's text and then a capture, with a marker line between them.
 #[test]
 fn readers_are_one_source(rt: HostRuntime) -> Result<(), Fail> {
-    let Some(mut joined) = joined(rt.alloc()) else {
+    let Ok(text) = Vec::from_slice(rt.alloc(), b"mac") else {
         return racl_test_refused();
     };
+    let mut joined = Joined::new(text, b"\xd4\xc3\x0a".as_slice());
     let mut all = Vec::new(rt.alloc());
-    assert!(rt; read_until(&mut joined, &mut all, 21) == Ok(false));
+    assert!(rt; read_until(&mut joined, &mut all, 10) == Ok(false));
+    assert!(rt; joined.front() == b"\xd4".as_slice());
     assert!(rt; read_until(&mut joined, &mut all, 100) == Ok(true));
-    assert!(rt; all.as_slice() == b"mac\npcap\n\xd4\xc3\nhex 255\n0af0\nhex\n".as_slice());
-    assert!(rt; joined.front(1) == Some(b"\x0a\xf0".as_slice()));
-    assert!(rt; joined.front(3) == None);
+    assert!(rt; all.as_slice() == b"mac\npcap\n\xd4\xc3\x0a".as_slice());
+    assert!(rt; joined.front() == b"\xd4\xc3\x0a".as_slice());
+    assert!(rt; joined.text() == b"mac".as_slice());
     Ok(())
 }
 

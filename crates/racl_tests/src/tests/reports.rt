@@ -1,6 +1,6 @@
 //! The lines of a report.
-use racl_io::{Captured, Device, write_report};
-use session_state::Verdict;
+use racl_io::{Captured, Device, write_shown};
+use session_state::{Shown, Verdict};
 use std::test::Fail;
 
 // For tests of reports: one with a line for each verdict.
@@ -44,7 +44,14 @@ fn a_report_line_per_verdict(rt: HostRuntime) -> Result<(), Fail> {
         packets: 11,
         truncated: true,
     }];
-    let totals = write_report(Some(&rt), rt.alloc(), &mut writer, &VERDICTS, &CAPTURES)?;
+    let totals = write_shown(
+        Some(&rt),
+        rt.alloc(),
+        &mut writer,
+        Shown::Every,
+        &VERDICTS,
+        &CAPTURES,
+    )?;
     assert!(rt; writer.inner.as_slice() == report_of_verdicts());
     assert!(rt; (totals.packets, totals.passed, totals.dropped) == (11, 4, 7));
     assert!(rt; totals.truncated);

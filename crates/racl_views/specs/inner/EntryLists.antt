@@ -15,6 +15,7 @@ entry_on policy rules packet verdict = record {
   verdict = verdict;
   interface = packet.interface;
   moment = packet.moment;
+  micros = packet.micros;
   bytes = length packet.frame;
   view = view_at policy packet;
   line = line_deciding rules (rule_on packet.interface (view_at policy packet) verdict);

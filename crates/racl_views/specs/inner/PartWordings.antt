@@ -30,5 +30,5 @@ abbrev pub end_objects : Totals → List ℕ
 end_objects totals = truncation_by (captured_at totals) ++ object_line (totals_object totals)
 
 -- in objects
-abbrev pub objects_wording : Shown → PolicyFacts → List RuleLine → Wording
-objects_wording shown policy rules = wording_by policy rules (λ n entry. object_lines (packet_objects shown n entry)) end_objects
+abbrev pub objects_wording : Shown → PolicyFacts → List RuleLine → List (List ℕ) → Wording
+objects_wording shown policy rules texts = wording_by policy rules (λ n entry. object_lines (packet_objects shown texts n entry)) end_objects

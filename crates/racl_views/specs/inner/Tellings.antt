@@ -34,7 +34,7 @@ truncation_told captured = truncation_line captured.named captured.truncated cap
 
 -- the line of its object, where it is shown
 abbrev pub object_by : Telling → ℕ → EntryFacts → List ℕ
-object_by t n entry = object_lines (packet_objects t.shown n entry)
+object_by t n entry = object_lines (packet_objects t.shown (texts_by t) n entry)
 
 -- the object of a capture that is truncated, and of another none
 abbrev pub truncation_objects : Captured → List Json

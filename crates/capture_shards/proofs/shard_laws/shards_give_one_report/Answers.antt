@@ -1,3 +1,4 @@
+use Rattle.capture_shards.proofs.AddedTotals.{add_up}
 use Rattle.capture_shards.proofs.OneReport.{merged_verdicts, some_merged}
 use Rattle.capture_shards.proofs.shard_laws.shards_give_one_report.Goals as goal
 
@@ -7,3 +8,6 @@ returns-clause-merged c l times policy packets count owns said verdicts some are
 
 pub returns-clause-some : goal.returns-clause-some
 returns-clause-some c = some_merged
+
+pub returns-clause-totals : goal.returns-clause-totals
+returns-clause-totals c l packets count owns said verdicts some are merged = add_up l packets count owns said verdicts some are merged

@@ -37,8 +37,7 @@ returns-in-Err-write_unmet_end g c =
     let last = met_told (are_met expectations c.args.verdicts.now totals) (length expectations) in
     let bytes = g.W.Sink.bytes in
     let mid = bytes c.write_unmet_from.new.writer in
-    let new = bytes c.write_unmet_end.new.writer in
-    (
+    let new = bytes c.write_unmet_end.new.writer in (
       tt,
       tt,
       c.in-Err-write_unmet_end.ensures.2 ∙ ap (λ n. n + 1) c.in-Ok.ensures.1,

@@ -45,7 +45,7 @@ overflow_add-count-in-Whole c =
 
 pub records-preserved : goal.records-preserved
 records-preserved c =
-    let packet : RecordFacts = record { moment = c.in-Whole.moment; frame = c.in-Whole.frame.now } in
+    let packet : RecordFacts = record { moment = c.in-Whole.moment; micros = c.in-Whole.micros; frame = c.in-Whole.frame.now } in
     record {
       before = before_more c.args.order packet c.in-Whole.behind.now c.args.bytes.now c.records.rest.now c.records.count
           c.records.invariant.before c.in-Whole.ensures.shown;

@@ -25,9 +25,10 @@ returns c =
         words = c.in_ok-words.words.items;
         said = c.in_ok-words.ensures;
         read = c.in_ok-written.ensures;
-        alike = subst (λ (rs : List (List Word)). MatchAlike said rs) c.in_ok-rows.ensures
+        icmp = c.in_ok-rows.ensures.icmp;
+        alike = subst (λ (rs : List (List Word)). MatchAlike said rs) c.in_ok-rows.ensures.rows
             (line_alike c.args.sets.now.items c.in_ok-words.words.items said c.read_written_words.new.sets.items c.in_ok-written.ensures);
-        begin = subst (λ (rs : List (List Word)). BeginAlike said rs) c.in_ok-rows.ensures (line_begins said);
+        begin = subst (λ (rs : List (List Word)). BeginAlike said rs) c.in_ok-rows.ensures.rows (line_begins said);
         spells = refl;
       },
     )

@@ -1,8 +1,9 @@
 use Rattle.std.proofs.Common.{ap, inl}
 use Rattle.acl_policy.specs.Policies.{policy_facts}
 use Rattle.racl_options.specs.declared.settings.Lines.TheVariants.{Explained, Json, Plain}
+use Rattle.capture_shards.specs.SharedSaves.{HaveSharedSaves}
 use Rattle.capture_shards.specs.inner.OwnTests.{own_of}
-use Rattle.capture_stream.specs.Savings.{outputs}
+use Rattle.capture_stream.specs.Savings.{manner_of, outputs}
 use Rattle.capture_stream.proofs.TellLemmas.{none_told}
 use Rattle.racl_cli.specs.ShardRuns.{AreFirstOwn, own_manner}
 use Rattle.racl_cli.proofs.LiveLemmas.{explained_as_asked, objects_as_asked, plain_as_asked, some_way}
@@ -19,8 +20,8 @@ returns-in-Err-clause-told g c =
     let (wording, tells) = some_way c.args.head.options.now c.args.head.text.now policy Plain c.in-Plain.is c.requires.says in (
       wording,
       tells,
-      inl (none_told (AreFirstOwn _ c.args.head.options.now (own_of c.args.shard)) (own_manner (own_of c.args.shard) wording) policy c.args.head.order (g.R.Source.bytes c.args.reader.now)
-          (outputs (g.W.Sink.bytes c.args.writer.now) tt) tt),
+      inl (none_told (AreFirstOwn _ c.args.head.options.now (own_of c.args.saver.now.shard)) (own_manner (own_of c.args.saver.now.shard) (manner_of wording (HaveSharedSaves g.K.Saver.saved))) policy c.args.head.order
+          (g.R.Source.bytes c.args.reader.now) (outputs (g.W.Sink.bytes c.args.writer.now) c.args.saver.now) c.requires.saves),
     )
 
 pub returns-in-Err-new-clause-told : goal.returns-in-Err-new-clause-told
@@ -29,8 +30,8 @@ returns-in-Err-new-clause-told g c =
     let (wording, tells) = some_way c.args.head.options.now c.args.head.text.now policy Explained c.in-Explained.is c.requires.says in (
       wording,
       tells,
-      inl (none_told (AreFirstOwn _ c.args.head.options.now (own_of c.args.shard)) (own_manner (own_of c.args.shard) wording) policy c.args.head.order (g.R.Source.bytes c.args.reader.now)
-          (outputs (g.W.Sink.bytes c.args.writer.now) tt) tt),
+      inl (none_told (AreFirstOwn _ c.args.head.options.now (own_of c.args.saver.now.shard)) (own_manner (own_of c.args.saver.now.shard) (manner_of wording (HaveSharedSaves g.K.Saver.saved))) policy c.args.head.order
+          (g.R.Source.bytes c.args.reader.now) (outputs (g.W.Sink.bytes c.args.writer.now) c.args.saver.now) c.requires.saves),
     )
 
 pub returns-in-Err-new-2-clause-told : goal.returns-in-Err-new-2-clause-told
@@ -39,8 +40,8 @@ returns-in-Err-new-2-clause-told g c =
     let (wording, tells) = some_way c.args.head.options.now c.args.head.text.now policy Json c.in-Json.is c.requires.says in (
       wording,
       tells,
-      inl (none_told (AreFirstOwn _ c.args.head.options.now (own_of c.args.shard)) (own_manner (own_of c.args.shard) wording) policy c.args.head.order (g.R.Source.bytes c.args.reader.now)
-          (outputs (g.W.Sink.bytes c.args.writer.now) tt) tt),
+      inl (none_told (AreFirstOwn _ c.args.head.options.now (own_of c.args.saver.now.shard)) (own_manner (own_of c.args.saver.now.shard) (manner_of wording (HaveSharedSaves g.K.Saver.saved))) policy c.args.head.order
+          (g.R.Source.bytes c.args.reader.now) (outputs (g.W.Sink.bytes c.args.writer.now) c.args.saver.now) c.requires.saves),
     )
 
 pub returns-in-Ok-new-clause-told : goal.returns-in-Ok-new-clause-told

@@ -1,6 +1,6 @@
 use Rattle.std.proofs.Common.{◌≡◌, length}
 use Rattle.std.specs.List.{list_all}
-use Rattle.racl_views.specs.inner.ShownLines.{is_shown_byte}
+use Rattle.racl_views.specs.RuleTexts.{is_shown_byte}
 use Rattle.racl_views.proofs.rule_texts_in_policy.is_shown_whole.Given as goal
 
 -- what is left decides

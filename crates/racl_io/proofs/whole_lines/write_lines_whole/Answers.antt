@@ -1,0 +1,39 @@
+use Rattle.std.proofs.Common.{◌≡◌, ◌++◌, ◌+◌, ◌∙◌, ap, arith, length, length-append}
+use Rattle.std.proofs.lemmas.Grind.{common_steps}
+use Rattle.std.proofs.lemmas.Result.{err_from_is_err_and}
+use Rattle.std.proofs.KnownBytes.{Appends-trans}
+use Rattle.racl_io.specs.Reports.{lines_from, passed}
+use Rattle.racl_io.proofs.ReportLemmas.{cut_at, more_lines, passed_of_both}
+use Rattle.racl_io.proofs.whole_lines.write_lines_whole.Goals as goal
+
+pub loop-rest-preserved : goal.loop-rest-preserved
+loop-rest-preserved g c =
+    let inv = c.loop-rest.invariant in
+    let parted = c.split_at.ensures.by_index.0 in
+    record {
+      counted = omega (arith, inv.counted, c.push_lines-passed.ensures.number, ap length parted, length-append c.split_at.result.0.now c.split_at.result.1.now);
+      passing = omega (arith, inv.passing, c.push_lines-passed.ensures.passed, ap passed parted, passed_of_both c.split_at.result.0.now c.split_at.result.1.now);
+      written = (
+        inv.written.0 ++ c.as_slice.result.now,
+        more_lines _ inv.written.0 c.as_slice.result.now _ _ _ c.loop-rest.rest.now c.split_at.result.0.now c.split_at.result.1.now inv.written.1 parted (c.as_slice.ensures ∙ c.push_lines-passed.ensures.text ∙ ap (λ n. lines_from n (c.loop-rest.number + 1) c.split_at.result.0.now) c.of-name.ensures) (omega (arith, c.push_lines-passed.ensures.number)),
+        Appends-trans _ _ _ _ _ inv.written.2 c.in_ok-write_all.ensures.whole,
+      );
+      sound = grind (arith, common_steps, inv.sound, c.in_ok-write_all.ensures.ok);
+    }
+
+pub returns-in_err-write_all-clause-front : goal.returns-in_err-write_all-clause-front
+returns-in_err-write_all-clause-front g c =
+    let inv = c.loop-rest.invariant in
+    let named = c.args.place.named in
+    let first = c.split_at.result.0.now in
+    let others = c.split_at.result.1.now in
+    let piece = c.as_slice.result.now in
+    let all = lines_from named (c.args.place.others + 1) c.args.verdicts.now in
+    let parted = c.split_at.ensures.by_index.0 in
+    let text = c.as_slice.ensures ∙ c.push_lines-passed.ensures.text ∙ ap (λ n. lines_from n (c.loop-rest.number + 1) first) c.of-name.ensures in
+    let next : c.push_lines-passed.new.number + 1 ≡ c.loop-rest.number + 1 + length first = omega (arith, c.push_lines-passed.ensures.number) in
+    let whole : (inv.written.0 ++ piece) ++ lines_from named (c.push_lines-passed.new.number + 1) others ≡ all =
+    more_lines _ inv.written.0 piece _ _ _ c.loop-rest.rest.now first others inv.written.1 parted text next in
+    let p = err_from_is_err_and c.from_residual.result c.from_residual.ensures.1 in
+    rw p.1
+    (cut_at _ _ _ inv.written.0 piece (lines_from named (c.push_lines-passed.new.number + 1) others) all whole inv.written.2 c.in_err-write_all.ensures.front)
