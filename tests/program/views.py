@@ -133,7 +133,7 @@ class Views(Case):
             policy = self.hold("policy", b"in deny ipv4 any any " + comment + b"\n")
             got = self.program.run(["--json", "--hits", policy, self.hold("capture", CAPTURE)])
             texts = [json.loads(it)["text"] for it in got["stdout"].splitlines() if b'"line"' in it]
-            self.compare({"status": got["status"], "texts": texts}, {"status": 0, "texts": [told] * 4}, told)
+            self.compare({"status": got["status"], "texts": texts}, {"status": 0, "texts": [told] * 3}, told)
 
     def test_many_explained_lines(self):
         data, verdicts = many_flows()
