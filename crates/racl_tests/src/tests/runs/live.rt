@@ -145,8 +145,8 @@ packets 3 pass 2 drop 1
         Lines::Json,
         Shown::Passing,
         "\
-{\"packet\":1,\"verdict\":\"pass\",\"reason\":\"rule\",\"rule\":1,\"reflect\":true,\"line\":2,\"text\":\"out permit+reflect ipv4 10.0.0.1 any udp dport 53\",\"interface\":0,\"direction\":\"out\",\"time\":100,\"bytes\":42,\"protocol\":17,\"source\":\"10.0.0.1\",\"source_port\":1000,\"destination\":\"10.0.0.2\",\"destination_port\":53}
-{\"packet\":2,\"verdict\":\"pass\",\"reason\":\"session\",\"interface\":0,\"direction\":\"in\",\"time\":105,\"bytes\":42,\"protocol\":17,\"source\":\"10.0.0.2\",\"source_port\":53,\"destination\":\"10.0.0.1\",\"destination_port\":1000}
+{\"packet\":1,\"verdict\":\"pass\",\"reason\":\"rule\",\"rule\":1,\"reflect\":true,\"line\":2,\"text\":\"out permit+reflect ipv4 10.0.0.1 any udp dport 53\",\"interface\":0,\"direction\":\"out\",\"time\":100,\"microsecond\":0,\"bytes\":42,\"protocol\":17,\"source\":\"10.0.0.1\",\"source_port\":1000,\"destination\":\"10.0.0.2\",\"destination_port\":53}
+{\"packet\":2,\"verdict\":\"pass\",\"reason\":\"session\",\"interface\":0,\"direction\":\"in\",\"time\":105,\"microsecond\":0,\"bytes\":42,\"protocol\":17,\"source\":\"10.0.0.2\",\"source_port\":53,\"destination\":\"10.0.0.1\",\"destination_port\":1000}
 {\"packets\":3,\"pass\":2,\"drop\":1}
 ",
     ),
