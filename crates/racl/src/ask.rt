@@ -12,7 +12,8 @@ use std::sync::Wait;
 use std::thread::Threads;
 
 /// Where the words ask about packets, writes the verdicts on these, or what isn't as expected of them, and answers the exit
-/// status; else None.
+/// status; else None. `asked_about` says what words ask for, and `answer_questions` and `compare_answers` what is written; no
+/// clause can name what the system's files and standard output hold, so that `tests/run` looks at these.
 pub fn answered<T: Threads + Wait + Sync>(
     rt: &HostRuntime,
     threads: &T,

@@ -6,7 +6,9 @@ use racl_system::{Output, live_policy_text, say_policy_fault};
 use std::alloc::Global;
 use std::io;
 
-/// Where the words ask what two policies decide differently, writes that, and answers the exit status; else None.
+/// Where the words ask what two policies decide differently, writes that, and answers the exit status; else None. `compared_by`
+/// says what words ask for, and `compare_texts` what is written; no clause can name what the system's files and standard output
+/// hold, so that `tests/run` looks at these.
 pub fn compared(rt: &HostRuntime, alloc: Global, words: &[&str]) -> io::Result<Option<u8>> {
     match compared_by(words) {
         Compares::Nothing => Ok(None),
