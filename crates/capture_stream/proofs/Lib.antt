@@ -1,3 +1,7 @@
+pub mod ArrivalLemmas
+pub mod ComingLemmas
 pub mod FeedLemmas
+pub mod PartLemmas
 pub mod TellLemmas
+pub mod TurnLemmas
 pub mod WalkLemmas

@@ -42,9 +42,8 @@ live_feed Became live may =
     let few = may.few in
     let bound = may.bound in
     let count = may.count in
-    let earlier = length-map may.packets (packet_at 0) in
     record {
-      judge = record { begun = may.begun; packets = packets_at 0 may.packets; said = may.said; stand = may.stand; fits = omega arith };
+      judge = record { begun = may.begun; packets = may.packets; said = may.said; stand = may.stand; fits = omega arith };
       found = may.found;
       few = omega arith;
     }
@@ -55,10 +54,9 @@ pub waiting_count : {J : Type 0} (Became : J → List PacketFacts → List Verdi
     → (settled : HasSettled Became Judged live.engine engine verdicts found) → length verdicts ≡ length (packets_at live.engine.interface settled.fed.more)
 waiting_count Became Judged live engine verdicts found counts may settled =
     let more = packets_at live.engine.interface settled.fed.more in
-    let all = counts may.begun _ _ (settled.judged may.begun (packets_at 0 may.packets) may.said may.stand) in
+    let all = counts may.begun _ _ (settled.judged may.begun may.packets may.said may.stand) in
     let said = length-append may.said verdicts in
-    let packets = length-append (packets_at 0 may.packets) more in
-    let earlier = length-map may.packets (packet_at 0) in
+    let packets = length-append may.packets more in
     let each = may.each in
     omega arith
 
@@ -151,7 +149,7 @@ totals_alone verdicts n passing lacking truncated count passes lack =
     ∙ totals_counted passing lacking verdicts (told_alone n truncated) truncated passes lack (cut n truncated)
 
 -- what is told of some packets and of those behind them
-lines_on : (wording : Wording) (ps qs all : List PacketFacts) (vs ws : List Verdict) (n : ℕ) → n ≡ length ps → length vs ≡ length ps → ps ++ qs ≡ all
+pub lines_on : (wording : Wording) (ps qs all : List PacketFacts) (vs ws : List Verdict) (n : ℕ) → n ≡ length ps → length vs ≡ length ps → ps ++ qs ≡ all
     → lines_in wording 1 ps vs ++ lines_in wording (n + 1) qs ws ≡ lines_in wording 1 all (vs ++ ws)
 lines_on wording ps qs all vs ws n count each both =
     sym (lines_in_both wording 1 (n + 1) ps qs vs ws each (omega arith)) ∙ ap (λ rs. lines_in wording 1 rs (vs ++ ws)) both
@@ -198,18 +196,18 @@ module _ {J K : Type 0} (Became : J → List PacketFacts → List Verdict → J 
       let within = records_within order is.told.read is.told.packets (rest_in live.engine) is.told.records in
       let count = is.count in
       let size = is.size in
+      let listed = length-map is.told.packets (packet_at 0) in
       record {
         begun = begun;
-        packets = is.told.packets;
+        packets = packets_at 0 is.told.packets;
         said = is.told.verdicts;
         stand = is.stand;
-        count = count;
-        each = is.told.count;
+        count = count ∙ sym listed;
+        each = is.told.count ∙ sym listed;
         passing = is.passing;
         lacking = is.lacking;
         few = omega arith;
         bound = omega arith;
-        unnamed = is.unnamed;
         found = is.found;
       }
 

@@ -1,3 +1,5 @@
+pub mod Arrivals
+pub mod ComingCaptures
 pub mod Feeding
 pub mod Found
 pub mod Histories
@@ -5,4 +7,5 @@ pub mod Lives
 pub mod ReadSizes
 pub mod Savings
 pub mod Streams
+pub mod Turns
 pub mod inner

@@ -14,7 +14,7 @@ use racl_io::{Fault, Sink, Source, Teller, Totals, without_pages};
 use std::alloc::Global;
 
 /// How many bytes are read in all, at most.
-const MOST_LIVE: usize = 4_611_686_018_427_387_904;
+pub const MOST_LIVE: usize = 4_611_686_018_427_387_904;
 
 /// Those who judge the packets behind a capture's header, of which its numbers have this order.
 #[derive(Drop)]
@@ -47,8 +47,8 @@ pub struct ToldCapture<J> {
     pub totals: Totals,
 }
 
-// Of a live capture the packets of whole records that wait are judged and told, and then saved.
-fn tell_waiting<J: Judge, L: Teller, K: Saver, W: Sink>(
+/// Of a live capture the packets of whole records that wait are judged and told, and then saved.
+pub fn tell_waiting<J: Judge, L: Teller, K: Saver, W: Sink>(
     writer: &mut W,
     teller: &mut L,
     saver: &mut K,
@@ -84,8 +84,8 @@ fn tell_waiting<J: Judge, L: Teller, K: Saver, W: Sink>(
     Ok(found.stop)
 }
 
-// What came of a live capture whose packets were all told.
-fn told_at<J: Drop>(live: Live<J>, truncated: bool) -> ToldCapture<J>
+/// What came of a live capture whose packets were all told.
+pub fn told_at<J: Drop>(live: Live<J>, truncated: bool) -> ToldCapture<J>
     requires { live.passed ≤ live.engine.packets }
     ensures judges { result.judges ≡ live.engine.judges }
     ensures totals { result.totals ≡ totals_with live.engine.packets live.passed live.without_pages truncated }

@@ -10,15 +10,15 @@ mod compare;
 use expected_verdicts::{read_expectations, status_behind as status_of_compared};
 use racl_cli::{
     DiffFault, ExpectingAsked, LiveAsked, LiveSaves, PolicyTexts, ShardRunAsked, run, run_diff,
-    run_expecting, run_interfaces, run_live, run_saving, run_shard,
+    run_expecting, run_interfaces, run_live, run_live_interfaces, run_saving, run_shard,
 };
 use racl_io::{Device, Fault, FrontKept, Source};
 use racl_options::{Asked, DiffFiles, Files, Interfaces, Options, Origin, diff_options};
 use racl_system::{
-    DiffInput, ExpectingInput, LiveFiles, Output, Ran, SeenFiles, Watched, asked_or_status,
+    DiffInput, ExpectingInput, LiveFiles, LiveInterfaces, Output, Ran, SeenFiles, Watched, asked_or_status,
     diff_or_status, expansion_status, failure_status, opened_diff, opened_expecting, opened_input,
-    opened_live, read_interface_input, saves_to, say_capture_fault, say_end_of_interfaces,
-    say_end_of_live, say_end_of_run, say_outcome, say_policy_fault, say_unsaved, say_used_twice,
+    opened_live, opened_live_interfaces, read_interface_input, saves_to, say_capture_fault, say_end_of_interfaces,
+    say_end_of_live, say_end_of_live_interfaces, say_end_of_run, say_outcome, say_policy_fault, say_unsaved, say_used_twice,
     say_wrong_expectations, settled, standard_source, texts_of, watched_where,
 };
 use std::alloc::Global;
@@ -39,7 +39,7 @@ fn main(rt: HostRuntime) -> ExitCode {
 
 // The main function's work: does what the program's words ask for, and answers the exit status. The workers' threads
 // come from `threads`.
-fn status_of_main<T: Threads + Wait + Sync>(
+fn status_of_main<T: Threads + Wait + Sync + Copy + Send + 'static>(
     rt: &HostRuntime,
     threads: &T,
     alloc: Global,
@@ -73,6 +73,9 @@ fn status_of_main<T: Threads + Wait + Sync>(
                 status_of_live(rt, threads, alloc, &asked, files)
             }
             (Origin::Files(files), None) => status_of_files(rt, threads, alloc, &asked, files),
+            (Origin::Interfaces(interfaces), _) if asked.options.live => {
+                status_of_live_interfaces(rt, threads, alloc, &asked.options, interfaces)
+            }
             (Origin::Interfaces(interfaces), _) => {
                 status_of_interfaces(rt, threads, alloc, &asked.options, interfaces)
             }
@@ -248,6 +251,26 @@ fn status_of_live<T: Threads + Wait + Sync>(
         front: reader.source.inner.front(),
     };
     say_end_of_live(rt, alloc, &asked.options, input, &outcome)
+}
+
+// Runs the main program on captures of interfaces as they come, tells how that ended, and answers the exit status.
+fn status_of_live_interfaces<T: Threads + Wait + Sync + Copy + Send + 'static>(
+    rt: &HostRuntime,
+    threads: &T,
+    alloc: Global,
+    options: &Options,
+    interfaces: &Interfaces<'_>,
+) -> io::Result<u8> {
+    let LiveInterfaces { text, mut captures } = match opened_live_interfaces(rt, threads, alloc, interfaces) {
+        Ok(Ok(opened)) => opened,
+        Ok(Err(status)) => return Ok(status),
+        Err(error) => return Err(error),
+    };
+    let text = text.as_slice();
+    let mut writer = Device::new(rt.stdout());
+    let run = LiveAsked { options, text };
+    let outcome = run_live_interfaces(threads, alloc, run, &mut captures, &mut writer);
+    say_end_of_live_interfaces(rt, options, interfaces, text, &outcome)
 }
 
 // Compares the verdicts on the packets of a capture with those that the file of this name expects, tells how that ended, and

@@ -15,7 +15,7 @@ use Rattle.clap.specs.Walk.{Held, has_row, nothing_held, row_text, settled, walk
 use Rattle.clap.specs.Words.{IsSignedIn, Row, Text, matches_of, without_minus}
 use Rattle.clap.specs.declared.builder.value_parser.ValueParser.TheVariants.{Signed}
 use Rattle.clap.proofs.ValueTestLemmas.{Accepts-accepts}
-use Rattle.racl_options.specs.Asking.{AskForRun, is_told_early}
+use Rattle.racl_options.specs.Asking.{AskForRun, can_be_told_early}
 use Rattle.racl_options.specs.CommandLine.{IsInRange, OptionName, Workers, Established, Transient, Udp, Spells, default_of, has_flag, most_of, name_of, number_of, racl, values_at}
 use Rattle.racl_options.specs.Selections.{FlagName, Summary, Hits, Sessions, Explain, JsonLines, Live, AnyLength, Age, flag_id, is_given, lines_by, shown_by}
 use Rattle.racl_options.specs.Sizes.{size_by}
@@ -331,7 +331,7 @@ captures_are (u ∷ us) (p ∷ c ∷ names) = refl
 -- words that set options and name files as a user writes them ask for what they say
 words_ask : (program : Text) (ss : List Setting) (uses : List Use) (names : List Text) (origin : OriginFacts) → AreSettings ss → AreNames names → Name (slice_get names 0) (slice_get names 1) (values_of uses) origin
     → AskForRun (program ∷ words_as ss uses names) (asked_as ss origin)
-unfolding walk_fault is_told_early
+unfolding walk_fault can_be_told_early
 words_ask program ss uses names origin are named says = record {
   faultless = fault_is program words ∙ ap₂ end_fault faultless_walk walked_is ∙ ends_well ends.last ends.runs ends.settles;
   asks = record {

@@ -52,9 +52,14 @@ is_plain Plain = true
 is_plain Explained = false
 is_plain Json = false
 
--- lines are written before the whole capture is read
-unfoldable pub is_told_early : OptionFacts → Bool
-is_told_early options = options.live || options.any_length
+abbrev pub are_named : OriginFacts → Bool
+are_named FromStandard = false
+are_named (FromFiles policy capture) = true
+are_named (FromInterfaces policy captures) = true
+
+-- lines can be written before all is read: of captures in files that come, and of one in a file that may have any length
+unfoldable pub can_be_told_early : OptionFacts → OriginFacts → Bool
+can_be_told_early options origin = (not options.live || are_named origin) && (not options.any_length || are_files origin)
 
 -- each packet has its plain line, and nothing is told behind the totals
 abbrev pub is_each : Shown → Bool
@@ -83,11 +88,11 @@ abbrev pub can_be_shared : Option ShardFacts → AskedFacts → Bool
 can_be_shared None asked = true
 can_be_shared (Some shard) asked = are_files asked.origin && (not asked.options.live && is_none asked.expected)
 
--- Packets are saved of the capture in a file, and in two files. Lines are written early of the capture in a file, a shard is asked
+-- Packets are saved of the capture in a file, and in two files. Lines are written early only where they can be, a shard is asked
 -- for only where its packets can be judged, and `--expect` only where what is expected can be compared.
 abbrev pub fit_together : AskedFacts → Bool
 fit_together asked = (not (is_saved asked) || are_files asked.origin)
-    && (not (is_shared asked.drops asked.passes) && ((not (is_told_early asked.options) || are_files asked.origin)
+    && (not (is_shared asked.drops asked.passes) && (can_be_told_early asked.options asked.origin
     && (can_be_shared asked.shard asked && can_be_expected asked.expected asked)))
 
 -- what a parse holds asks for this

@@ -30,7 +30,7 @@ const ONE_FILE: &str = "--drops and --passes need a file each";
 const NOT_EXPECTED: &str =
     "--expect needs POLICY CAPTURE, and goes with the timeouts, --tables and --age alone; one file of the three can be standard input";
 
-const NOT_LIVE: &str = "--live and --any-length need POLICY CAPTURE";
+const NOT_LIVE: &str = "--any-length needs POLICY CAPTURE, and --live that or --interface";
 
 const NOT_SHARED: &str = "--shard needs POLICY CAPTURE, and goes with neither --live nor --expect";
 
@@ -90,12 +90,13 @@ fn is_shared_file_asked(drops: Option<&str>, passes: Option<&str>) -> bool
     }
 }
 
-// Whether lines are to be written before the whole capture is read.
-#[tactic(auto, unfolding(crate::specs::Asking::is_told_early))]
-fn is_told_early(options: &Options) -> bool
-    ensures { result ≡ asking.is_told_early (option_facts options.now) }
+// Whether lines can be written before all is read of an input that comes from there, where that is asked for.
+#[tactic(auto, unfolding(crate::specs::Asking::can_be_told_early))]
+fn can_be_told_early(options: &Options, origin: &Origin<'_>) -> bool
+    ensures { result ≡ asking.can_be_told_early (option_facts options.now) (origin_facts origin.now) }
 {
-    options.live || options.any_length
+    (!options.live || !matches!(origin, Origin::Standard))
+        && (!options.any_length || are_files_asked(origin))
 }
 
 // Whether the options that are asked let each packet have its plain line, and tell nothing behind the totals.
@@ -151,7 +152,7 @@ fn misfit(asked: &Asked<'_>) -> Option<&'static str>
     if is_shared_file_asked(asked.saved.drops, asked.saved.passes) {
         return Some(ONE_FILE);
     }
-    if is_told_early(&asked.options) && !are_files_asked(&asked.origin) {
+    if !can_be_told_early(&asked.options, &asked.origin) {
         return Some(NOT_LIVE);
     }
     if !can_be_shared(asked) {

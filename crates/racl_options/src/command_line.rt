@@ -79,7 +79,7 @@ const USAGE: &str = "racl [OPTIONS] POLICY CAPTURE
 fn after_help() -> &'static str {
     "INPUT is a policy, a line `pcap` or `hex`, and the capture in that form; POLICY and CAPTURE are such \
     a policy and a capture's bytes. Except with --live, --any-length and --shard they have at most 67108864 bytes in \
-    all. The report goes to standard output. --drops, --passes, --expect, --shard, --live and --any-length need POLICY CAPTURE.
+    all. The report goes to standard output. --drops, --passes, --expect, --shard and --any-length need POLICY CAPTURE, and --live that or --interface.
 
 Examples:
   racl check host.policy

@@ -2,6 +2,7 @@ pub mod CheckStatuses
 pub mod Drafts
 pub mod Expands
 pub mod InterfaceFiles
+pub mod LiveInterfaces
 pub mod MarkedPolicies
 pub mod Places
 pub mod Readers

@@ -2,9 +2,11 @@
 ghost use Rattle.std.specs.Prelude.{◌≡◌, IfOk, IsTrue, false};
 ghost use Rattle.racl_io.specs.Faults.{IsFaultOfCapture};
 ghost use Rattle.racl_report.specs.Statuses.{status_of};
+ghost use Rattle.racl_system.specs.LiveInterfaces.{placeless_outcome};
 
 use crate::say_and_answer_status::say_ending;
 use crate::say_policy_remarks::{Seen, say_foreign, say_unlooked};
+use capture_stream::FaultAt;
 use packet_view::check_capture;
 use racl_io::{Fault, Totals};
 use racl_options::{Files, Interfaces, Options, TableSize};
@@ -272,5 +274,41 @@ pub fn say_end_of_live(
     };
     say_foreign(rt, alloc, files.policy, text, &[seen]);
     say_shortage(rt, outcome, true, options.tables);
+    Ok(status)
+}
+
+/// Says how a live run on several interfaces ended, and which capture has the fault, where one has it; and answers the status.
+pub fn say_end_of_live_interfaces(
+    rt: &impl Eprint,
+    options: &Options,
+    interfaces: &Interfaces<'_>,
+    text: &[u8],
+    outcome: &Result<Totals, FaultAt>,
+) -> io::Result<u8>
+    ensures { IfOk result (λ status. status ≡ status_of (placeless_outcome outcome.now)) }
+{
+    let told = match outcome {
+        Ok(totals) => Ok(*totals),
+        Err(found) => Err(found.fault),
+    };
+    let status = match say_outcome(rt, &told) {
+        Ok(status) => status,
+        Err(error) => return Err(error),
+    };
+    if let Err(FaultAt {
+        fault,
+        interface: Some(number),
+    }) = outcome
+    {
+        for file in interfaces.captures.as_slice() {
+            if file.interface == *number {
+                say_remark(rt, file.name, Some(*number), &[], *fault)?;
+            }
+        }
+    }
+    if let Some(hint) = hint(&told, text) {
+        rt.eprintln(&hint)?;
+    }
+    say_shortage(rt, &told, true, options.tables);
     Ok(status)
 }

@@ -2,6 +2,8 @@
 //! packets, shows progress, and says on standard error what there is to say.
 #![tactic(auto)]
 
+mod capture_feeding;
+mod coming_captures;
 mod command_words;
 mod diff_input;
 mod draft;
@@ -14,6 +16,7 @@ mod input_files;
 mod interface_capture;
 mod interface_files;
 mod live_files;
+mod merged_files;
 mod named_place;
 mod named_reader;
 mod output;
@@ -24,10 +27,12 @@ mod say_and_answer_status;
 mod say_policy_remarks;
 mod system_files;
 
+pub use coming_captures::{ComingCaptures, LiveInterfaces, opened_live_interfaces};
 pub use command_words::{asked_or_status, diff_or_status, texts_of};
 pub use diff_input::{DiffInput, opened_diff, say_capture_fault, say_policy_fault};
 pub use end_of_run::{
-    Ran, SeenFiles, say_end_of_interfaces, say_end_of_live, say_end_of_run, say_outcome,
+    Ran, SeenFiles, say_end_of_interfaces, say_end_of_live, say_end_of_live_interfaces, say_end_of_run,
+    say_outcome,
 };
 pub use expecting_input::{ExpectingInput, opened_expecting, say_wrong_expectations};
 pub use file_expanding::expansion_status;

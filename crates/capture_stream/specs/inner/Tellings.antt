@@ -23,16 +23,15 @@ use Rattle.capture_stream.specs.declared.live_telling.Live.{Live}
 -- where telling may go on from: no more packets were told than bytes were read before those that wait
 pub record MayTell {J : Type 0} (Became : J → List PacketFacts → List Verdict → J → Type 0) (live : Live J) : Type 0 where
   pub begun : J
-  pub packets : List RecordFacts
+  pub packets : List PacketFacts
   pub said : List Verdict
-  pub stand : Became begun (packets_at 0 packets) said live.engine.judges
+  pub stand : Became begun packets said live.engine.judges
   pub count : live.engine.packets ≡ length packets
   pub each : length said ≡ length packets
   pub passing : live.passed ≡ passed said
   pub lacking : live.without_pages ≡ without_pages said
   pub few : live.engine.packets + length (rest_in live.engine) ≤ live.read
   pub bound : live.read < 2 ^ 63
-  pub unnamed : live.engine.interface ≡ 0
   pub found : HaveFound live.engine.order (rest_in live.engine) live.engine.found
 
 -- what is told of packets behind those before

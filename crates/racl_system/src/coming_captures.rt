@@ -1,0 +1,193 @@
+//! The captures of a live run on several interfaces, each of which is read as it comes.
+
+use crate::capture_feeding::{Fed, Feed, Part};
+use crate::live_files::live_policy_text;
+use crate::merged_files::{MergedFile, hand_merged};
+use crate::named_reader::opened_reader;
+use crate::say_and_answer_status::say_fault;
+use crate::say_policy_remarks::{Seen, say_unlooked};
+use capture_stream::{Arrival, Arrivals, FaultAt};
+use crossbeam_channel::{Receiver, Sender, bounded};
+use racl_io::{Device, Fault};
+use racl_options::{CaptureFile, Interfaces};
+use racl_report::Unopened;
+use std::alloc::Global;
+use std::fs::{File, metadata};
+use std::io;
+use std::io::Eprint;
+use std::sync::Wait;
+use std::thread::{Threads, spawn};
+
+/// How many parts are read before they are judged, at most.
+const MOST_WAITING: usize = 16;
+
+/// The parts of captures that threads read.
+#[derive(Drop)]
+pub struct ComingCaptures<'a, T> {
+    rt: &'a T,
+    from: Receiver<Fed, Global>,
+    /// How many captures haven't ended.
+    left: usize,
+    /// How often one couldn't be read.
+    failures: u64,
+}
+
+impl<T: Wait> Arrivals for ComingCaptures<'_, T> {
+    ghost use Rattle.std.specs.Prelude.{None};
+
+    ghost parts = { λ _. None };
+
+    ghost failures = { λ coming. coming.failures };
+
+    fn next(&mut self) -> Result<Option<Arrival>, FaultAt> {
+        if self.left == 0 {
+            return Ok(None);
+        }
+        match self.from.recv(self.rt) {
+            Ok(Fed::Part(Part { arrival })) => {
+                if arrival.bytes.is_empty() {
+                    self.left -= 1;
+                }
+                Ok(Some(arrival))
+            }
+            Ok(Fed::Unread(interface)) => {
+                self.failures += 1;
+                Err(FaultAt {
+                    fault: Fault::Read,
+                    interface: Some(interface),
+                })
+            }
+            Ok(Fed::Refused) | Err(_) => Err(FaultAt {
+                fault: Fault::Memory,
+                interface: None,
+            }),
+        }
+    }
+}
+
+/// The text of a policy, and the captures of a live run on several interfaces.
+#[derive(Drop)]
+pub struct LiveInterfaces<'a, T> {
+    pub text: Vec<u8>,
+    pub captures: ComingCaptures<'a, T>,
+}
+
+// Hands on what the file of this name has as it comes. Opening it may wait for who writes it.
+fn hand_named<T: Wait>(system: HostRuntime, rt: &T, name: &str, feed: &Feed) {
+    match opened_reader(&system, name) {
+        Ok(reader) => feed.hand_from(rt, &mut Device::new(reader)),
+        Err(reason) => {
+            let _ = system.eprintln(&Unopened { name, reason });
+            feed.fail(rt);
+        }
+    }
+}
+
+// Has a thread hand on what comes by the name of a capture; or adds its file to others, where it is a regular one.
+fn begin_capture<T: Threads + Wait + Copy + Send + 'static>(
+    system: &HostRuntime,
+    rt: &T,
+    alloc: Global,
+    file: &CaptureFile<'_>,
+    to: &Sender<Fed, Global>,
+    files: &mut Vec<MergedFile<File>>,
+) -> io::Result<()> {
+    let CaptureFile { interface, name } = *file;
+    let to = to.clone()?;
+    let feed = Feed {
+        alloc,
+        interface,
+        to,
+    };
+    if name != "-" && metadata(system, name)?.is_file() {
+        files.push(MergedFile::new(feed, File::open(system, name)?))?;
+        return Ok(());
+    }
+    let (system, copied) = (*system, *rt);
+    let name = String::from_str(alloc, name)?;
+    let _ = spawn(rt, move || hand_named(system, &copied, name.as_str(), &feed))?;
+    Ok(())
+}
+
+// Has threads hand on what comes of these captures. Where one can't be had that is told, and None is answered.
+fn begin_captures<'a, T: Threads + Wait + Copy + Send + 'static>(
+    system: &HostRuntime,
+    rt: &'a T,
+    alloc: Global,
+    captures: &[CaptureFile<'_>],
+) -> io::Result<Option<ComingCaptures<'a, T>>> {
+    let (to, from) = bounded(alloc, MOST_WAITING)?;
+    let mut files = Vec::new(alloc);
+    for file in captures {
+        if let Err(reason) = begin_capture(system, rt, alloc, file, &to, &mut files) {
+            let name = file.name;
+            system.eprintln(&Unopened { name, reason })?;
+            return Ok(None);
+        }
+    }
+    let copied = *rt;
+    let _ = spawn(rt, move || hand_merged(&copied, files))?;
+    Ok(Some(ComingCaptures {
+        rt,
+        from,
+        left: captures.len(),
+        failures: 0,
+    }))
+}
+
+// The number that two of these captures have, if two have one.
+fn twice_among(captures: &[CaptureFile<'_>]) -> Option<u8> {
+    for place in 0..captures.len() {
+        let number = captures[place].interface;
+        if captures[..place].iter().any(|other| other.interface == number) {
+            return Some(number);
+        }
+    }
+    None
+}
+
+// The interfaces of these captures, of which nothing was read, as far as there is memory for their list.
+fn unread_of(alloc: Global, captures: &[CaptureFile<'_>]) -> Vec<Seen<'static>> {
+    let mut seen = Vec::new(alloc);
+    for file in captures {
+        let interface = file.interface;
+        if seen.push(Seen { interface, front: &[] }).is_err() {
+            return seen;
+        }
+    }
+    seen
+}
+
+/// Reads the policy of a live run on several interfaces, of which it says what is unlikely to be meant, and has threads read the
+/// captures: regular files in one, in the order of their packets' moments, and each other one as it comes. Where one can't be had,
+/// or two are of one interface, that is told, and the status is answered.
+pub fn opened_live_interfaces<'a, T: Threads + Wait + Copy + Send + 'static>(
+    system: &HostRuntime,
+    rt: &'a T,
+    alloc: Global,
+    interfaces: &Interfaces<'_>,
+) -> io::Result<Result<LiveInterfaces<'a, T>, u8>> {
+    let text = match live_policy_text(system, alloc, interfaces.policy) {
+        Ok(Ok(text)) => text,
+        Ok(Err(status)) => return Ok(Err(status)),
+        Err(error) => return Err(error),
+    };
+    let captures = interfaces.captures.as_slice();
+    if let Some(number) = twice_among(captures) {
+        return match say_fault(system, Fault::Twice(number)) {
+            Ok(status) => Ok(Err(status)),
+            Err(error) => Err(error),
+        };
+    }
+    let coming = match begin_captures(system, rt, alloc, captures) {
+        Ok(Some(coming)) => coming,
+        Ok(None) => return Ok(Err(4)),
+        Err(error) => return Err(error),
+    };
+    let seen = unread_of(alloc, captures);
+    say_unlooked(system, alloc, interfaces.policy, text.as_slice(), seen.as_slice());
+    Ok(Ok(LiveInterfaces {
+        text,
+        captures: coming,
+    }))
+}

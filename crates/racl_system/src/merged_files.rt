@@ -1,0 +1,233 @@
+//! Captures in regular files, whose packets are handed on together, in the order of their moments.
+
+use crate::capture_feeding::{Feed, PART_BYTES};
+use packet_view::{Order, Piece, capture_header, next_record};
+use racl_io::{Device, Fault, Source};
+use std::io::Read;
+use std::sync::Wait;
+
+/// How many bytes the header of a capture has.
+const HEADER_BYTES: usize = 24;
+
+/// How many records are handed on at once, at most.
+const MOST_RECORDS: usize = 1024;
+
+/// A capture in a regular file, of which some bytes were handed on.
+#[derive(Drop)]
+pub struct MergedFile<F> {
+    feed: Feed,
+    source: Device<F>,
+    /// The order of its numbers, once its header was handed on.
+    order: Option<Order>,
+    /// What was read.
+    held: Vec<u8>,
+    /// How many bytes of that were handed on.
+    handed: usize,
+    /// Whether no more is to be read.
+    ended: bool,
+}
+
+/// Where a packet stands among those of all files: by the second, the microsecond, and the place of its file.
+#[derive(Clone, Copy, Debug, PartialEq, Eq, PartialOrd, Ord)]
+struct Turn {
+    moment: u32,
+    micros: u32,
+    place: usize,
+}
+
+impl<F: Read> MergedFile<F> {
+    /// A file of which nothing was read.
+    pub fn new(feed: Feed, file: F) -> MergedFile<F> {
+        let held = Vec::new(feed.alloc);
+        MergedFile {
+            feed,
+            source: Device::new(file),
+            order: None,
+            held,
+            handed: 0,
+            ended: false,
+        }
+    }
+
+    // What was read and not handed on.
+    fn rest(&self) -> &[u8] {
+        &self.held[self.handed.min(self.held.len())..]
+    }
+
+    // Reads some bytes behind the others.
+    fn read_more(&mut self) -> Result<(), Fault> {
+        if self.source.failures > 0 {
+            return Err(Fault::Read);
+        }
+        let mut bytes = Vec::from_slice(self.feed.alloc, self.rest())?;
+        let mut room = [0u8; PART_BYTES];
+        let Ok(n) = self.source.read(&mut room) else {
+            return Err(Fault::Read);
+        };
+        bytes.extend_from_slice(&room[..n])?;
+        self.held = bytes;
+        self.handed = 0;
+        self.ended = n == 0;
+        Ok(())
+    }
+
+    // Whether neither the header nor the record at the front is whole, and more can be read.
+    fn wants_more(&self) -> bool {
+        match self.order {
+            _ if self.ended => false,
+            None => self.rest().len() < HEADER_BYTES,
+            Some(order) => matches!(
+                next_record(self.rest(), order),
+                Piece::End | Piece::Truncated
+            ),
+        }
+    }
+
+    // Hands on the header, where it is whole and right. Of a wrong one all stays, and no more is read. Whether more is wanted.
+    fn take_header(&mut self, rt: &impl Wait) -> bool {
+        if self.order.is_some() || self.rest().len() < HEADER_BYTES {
+            return true;
+        }
+        match capture_header(self.rest()) {
+            Ok(order) => {
+                let is_wanted = self.feed.hand_all(rt, &self.rest()[..HEADER_BYTES]);
+                self.order = Some(order);
+                self.handed = self.handed.saturating_add(HEADER_BYTES);
+                is_wanted
+            }
+            Err(_) => {
+                self.ended = true;
+                true
+            }
+        }
+    }
+
+    // Reads until a record is whole, or no more can be read. Whether more is wanted.
+    fn fill(&mut self, rt: &impl Wait) -> bool {
+        'reads: for _ in rt.forever() {
+            if !self.take_header(rt) {
+                return false;
+            }
+            if !self.wants_more() {
+                return true;
+            }
+            match self.read_more() {
+                Ok(()) => {}
+                Err(Fault::Read) => {
+                    self.feed.fail(rt);
+                    return false;
+                }
+                Err(_) => {
+                    self.feed.refuse(rt);
+                    return false;
+                }
+            }
+        }
+        false
+    }
+
+    // Where the packet of the record at these bytes' front stands, in the file at this place; None where no record is whole there.
+    fn turn_at(&self, bytes: &[u8], place: usize) -> Option<Turn> {
+        match next_record(bytes, self.order?) {
+            Piece::Whole { moment, micros, .. } => Some(Turn {
+                moment,
+                micros,
+                place,
+            }),
+            Piece::End | Piece::Truncated | Piece::TooLong => None,
+        }
+    }
+
+    // Where its next packet stands, where it is the file at this place; None where it has no more that is whole.
+    fn turn(&self, place: usize) -> Option<Turn> {
+        self.turn_at(self.rest(), place)
+    }
+
+    // Hands on the records at the front whose packets stand before this one, the next of another file. Whether more is wanted.
+    fn hand_before(&mut self, rt: &impl Wait, place: usize, next: Option<Turn>) -> bool {
+        let all = self.rest();
+        let mut left = all;
+        for _ in 0..MOST_RECORDS {
+            let Some(turn) = self.turn_at(left, place) else {
+                break;
+            };
+            if matches!(next, Some(next) if next < turn) {
+                break;
+            }
+            left = behind_record(left, self.order);
+        }
+        let count = all.len().saturating_sub(left.len());
+        let is_wanted = self.feed.hand_all(rt, &all[..count]);
+        self.handed = self.handed.saturating_add(count);
+        is_wanted
+    }
+
+    // Hands on what is left, and that the file has ended. Whether more is wanted.
+    fn hand_rest(&self, rt: &impl Wait) -> bool {
+        if !self.feed.hand_all(rt, self.rest()) {
+            return false;
+        }
+        self.feed.end(rt);
+        true
+    }
+}
+
+// What stands behind the record at the front.
+fn behind_record(bytes: &[u8], order: Option<Order>) -> &[u8] {
+    let Some(order) = order else {
+        return &[];
+    };
+    match next_record(bytes, order) {
+        Piece::Whole { rest, .. } => rest,
+        Piece::End | Piece::Truncated | Piece::TooLong => &[],
+    }
+}
+
+// The first of the packets that stand next in these files, but for the one at a place.
+fn first_turn<F: Read>(files: &[MergedFile<F>], but: Option<usize>) -> Option<Turn> {
+    let mut first = None;
+    for place in 0..files.len() {
+        if but == Some(place) {
+            continue;
+        }
+        first = match (first, files[place].turn(place)) {
+            (Some(first), Some(turn)) if turn < first => Some(turn),
+            (None, turn) => turn,
+            (first, _) => first,
+        };
+    }
+    first
+}
+
+// Reads of each file until a record of it is whole, or it has no more. Whether more is wanted.
+fn fill_all<F: Read>(rt: &impl Wait, files: &mut [MergedFile<F>]) -> bool {
+    for place in 0..files.len() {
+        if !files[place].fill(rt) {
+            return false;
+        }
+    }
+    true
+}
+
+/// Hands on all that these files have: whole records in the order of their packets' moments, each file's own as they stand there,
+/// and then of each what belongs to none, and its end.
+pub fn hand_merged<F: Read + Drop>(rt: &impl Wait, files: Vec<MergedFile<F>>) {
+    let mut files = files;
+    'rounds: for _ in rt.forever() {
+        if !fill_all(rt, &mut files) {
+            return;
+        }
+        let Some(Turn { place, .. }) = first_turn(&files, None) else {
+            break;
+        };
+        let next = first_turn(&files, Some(place));
+        if place >= files.len() || !files[place].hand_before(rt, place, next) {
+            return;
+        }
+    }
+    for place in 0..files.len() {
+        if !files[place].hand_rest(rt) {
+            return;
+        }
+    }
+}
