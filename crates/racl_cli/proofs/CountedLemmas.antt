@@ -22,7 +22,7 @@ use Rattle.racl_cli.specs.LiveRuns.{IsToldBehind, ages_in}
 use Rattle.racl_cli.specs.Runs.{AreStoredOf, keeps_stored, layout_for}
 use Rattle.racl_cli.specs.inner.LiveEnds.{MayTellBehind}
 use Rattle.racl_cli.specs.declared.counted_judging.Counted.{Counted}
-use Rattle.racl_cli.specs.declared.live_run.LiveHead.{LiveHead}
+use Rattle.racl_cli.specs.declared.live_run.LiveWay.{LiveWay}
 use Rattle.racl_cli.specs.declared.sized_tables_and_workers.SizedCallers.{SizedCallers}
 use Rattle.racl_cli.specs.declared.sized_tables_and_workers.SizedTables.{SizedTables}
 use Rattle.racl_cli.proofs.LiveLemmas.{by_live_workers}
@@ -84,27 +84,27 @@ counted_end orders asked packets said kept counted callers has ended =
     }
 
 -- what stands behind the totals may be told
-pub may_tell_behind : (head : LiveHead) (tables : SizedTables) (packets : List PacketFacts) (said : List Verdict) (counts : HitCounts) (callers : SizedCallers) (orders : Orders)
-    → IsPolicyText head.text.now (policy_facts head.filter.now.policy.now) → head.filter.now.times ≡ head.options.now.times
-    → AreAsAsked head.options.now.tables (ages_in head.options.now) tables → orders ≡ orders_for tables head.filter.now head.options.now.workers (cuts_four tables)
-    → HaveEndedCounting orders head.options.now.hits packets said counts callers → MayTellBehind head tables packets said counts callers
-may_tell_behind head tables packets said counts callers orders says times asked given ended =
+pub may_tell_behind : (way : LiveWay) (tables : SizedTables) (packets : List PacketFacts) (said : List Verdict) (counts : HitCounts) (callers : SizedCallers) (orders : Orders)
+    → IsPolicyText way.text.now (policy_facts way.filter.now.policy.now) → way.filter.now.times ≡ way.options.now.times
+    → AreAsAsked way.options.now.tables (ages_in way.options.now) tables → orders ≡ orders_for tables way.filter.now way.options.now.workers (cuts_four tables)
+    → HaveEndedCounting orders way.options.now.hits packets said counts callers → MayTellBehind way tables packets said counts callers
+may_tell_behind way tables packets said counts callers orders says times asked given ended =
     record { says = says; times = times; asked = asked; orders = orders; given = given; ended = ended }
 
 -- its callers hold nothing
-pub ended_idle : (head : LiveHead) (tables : SizedTables) (packets : List PacketFacts) (said : List Verdict) (counts : HitCounts) (callers : SizedCallers)
-    → MayTellBehind head tables packets said counts callers → AreIdleOf tables callers
-ended_idle head tables packets said counts callers may = subst (λ (o : Orders). AreIdleOf o.tables callers) may.given may.ended.by.idle
+pub ended_idle : (way : LiveWay) (tables : SizedTables) (packets : List PacketFacts) (said : List Verdict) (counts : HitCounts) (callers : SizedCallers)
+    → MayTellBehind way tables packets said counts callers → AreIdleOf tables callers
+ended_idle way tables packets said counts callers may = subst (λ (o : Orders). AreIdleOf o.tables callers) may.given may.ended.by.idle
 
 -- what stands behind the totals
-pub told_behind : (head : LiveHead) (tables : SizedTables) (packets : List PacketFacts) (said : List Verdict) (counts : HitCounts) (callers : SizedCallers)
-    (stored : StoredFacts) (behind : Behind) → MayTellBehind head tables packets said counts callers
-    → (keeps_stored head.options.now ≡ true → AreStoredOf (layout_for (size_of tables)) (views_with callers) stored)
-    → IsBehind head.options.now head.text.now counts stored behind
-    → IsToldBehind head.options.now head.text.now (policy_facts head.filter.now.policy.now) packets said (behind.hits.items ++ behind.sessions.items)
-told_behind head tables packets said counts callers stored behind may kept is =
-    let options = head.options.now in
-    let ready = head.filter.now in
+pub told_behind : (way : LiveWay) (tables : SizedTables) (packets : List PacketFacts) (said : List Verdict) (counts : HitCounts) (callers : SizedCallers)
+    (stored : StoredFacts) (behind : Behind) → MayTellBehind way tables packets said counts callers
+    → (keeps_stored way.options.now ≡ true → AreStoredOf (layout_for (size_of tables)) (views_with callers) stored)
+    → IsBehind way.options.now way.text.now counts stored behind
+    → IsToldBehind way.options.now way.text.now (policy_facts way.filter.now.policy.now) packets said (behind.hits.items ++ behind.sessions.items)
+told_behind way tables packets said counts callers stored behind may kept is =
+    let options = way.options.now in
+    let ready = way.filter.now in
     let one = by_live_workers options ready tables may.orders options.workers packets said may.given may.asked.four may.asked.size may.times options.few.0 (omega arith)
     (views_with callers, may.ended.by.said) in
     record {
@@ -113,7 +113,7 @@ told_behind head tables packets said counts callers stored behind may kept is =
       kept = λ asked. subst (λ v. AreStoredOf (layout_for options.tables) v stored) (sym one.1)
           (subst (λ s. AreStoredOf (layout_for s) (views_with callers) stored) may.asked.size (kept asked));
       hits = behind.hits.items;
-      told = λ captures. is.hits (told_facts (policy_facts ready.policy.now) head.text.now packets (record { verdicts = said; captures = captures }) options.shown) refl may.says
+      told = λ captures. is.hits (told_facts (policy_facts ready.policy.now) way.text.now packets (record { verdicts = said; captures = captures }) options.shown) refl may.says
           (λ asked. subst (λ (p : PolicyFacts). HaveCounted p packets said counts) (ap (λ (o : Orders). o.policy) may.given) (may.ended.counted asked));
       all = ap (λ (text : List ℕ). behind.hits.items ++ text) is.sessions;
     }

@@ -7,6 +7,7 @@ pub mod ExpectingLemmas
 pub mod InputLaws
 pub mod InterfaceLemmas
 pub mod LiveEndLemmas
+pub mod LiveInterfaceLemmas
 pub mod LiveLemmas
 pub mod LiveSaveLemmas
 pub mod OpenedLemmas

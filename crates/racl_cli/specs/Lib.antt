@@ -2,6 +2,7 @@ pub mod Crews
 pub mod DiffRuns
 pub mod ExpectingRuns
 pub mod InterfaceRuns
+pub mod LiveInterfaceRuns
 pub mod LiveRuns
 pub mod LiveSaves
 pub mod Reads

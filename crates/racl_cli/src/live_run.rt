@@ -42,8 +42,15 @@ pub struct LiveAsked<'t> {
     pub text: &'t [u8],
 }
 
-/// What a live run goes by: its options, its policy's text, rules that are ready, and the order of the capture's numbers; and
-/// where it gets memory.
+/// What packets are judged by while they come, and told: options, a policy's text, and its rules, which are ready.
+#[derive(Clone, Copy)]
+pub struct LiveWay<'t, 'f> {
+    pub options: &'t Options,
+    pub text: &'t [u8],
+    pub filter: &'t InterfaceFilters<'f>,
+}
+
+/// What a live run on one capture goes by: its way, the order of the capture's numbers, and where it gets memory.
 #[derive(Clone, Copy)]
 pub struct LiveHead<'t, 'f> {
     pub alloc: Global,
@@ -56,17 +63,17 @@ pub struct LiveHead<'t, 'f> {
 /// What stands behind the totals of a live run whose workers have ended: with these counts, and these tables, which end.
 pub fn told_behind_live(
     alloc: Global,
-    head: LiveHead<'_, '_>,
+    way: LiveWay<'_, '_>,
     tables: SizedTables,
     counts: &HitCounts,
     callers: SizedCallers,
 ) -> Result<Behind, AllocError>
-    requires { (packets : List PacketFacts) × (said : List Verdict) × MayTellBehind head tables packets said counts.now callers }
-    ensures { IfOk result (λ behind. (packets : List PacketFacts) (said : List Verdict) → MayTellBehind head.entry tables packets said counts.now callers
-        → IsToldBehind head.entry.options.now head.entry.text.now (policy_facts head.entry.filter.now.policy.now) packets said (behind.hits.items ++ behind.sessions.items)) }
+    requires { (packets : List PacketFacts) × (said : List Verdict) × MayTellBehind way tables packets said counts.now callers }
+    ensures { IfOk result (λ behind. (packets : List PacketFacts) (said : List Verdict) → MayTellBehind way.entry tables packets said counts.now callers
+        → IsToldBehind way.entry.options.now way.entry.text.now (policy_facts way.entry.filter.now.policy.now) packets said (behind.hits.items ++ behind.sessions.items)) }
 {
-    let stored = stored_of(alloc, keeps_stored(head.options), tables, callers)?;
-    behind_totals(alloc, head.options, head.text, counts, &stored)
+    let stored = stored_of(alloc, keeps_stored(way.options), tables, callers)?;
+    behind_totals(alloc, way.options, way.text, counts, &stored)
 }
 
 /// Of a live run the totals are told, and what stands behind them.
@@ -154,7 +161,12 @@ fn tell_capture<L: Teller, K: Saver, R: Source, W: Sink, T: Threads + Wait + Syn
     let Ok((counts, callers)) = judges.end(alloc) else {
         return Err(Fault::Memory);
     };
-    let Ok(behind) = told_behind_live(alloc, head, tables, &counts, callers) else {
+    let way = LiveWay {
+        options: head.options,
+        text: head.text,
+        filter: head.filter,
+    };
+    let Ok(behind) = told_behind_live(alloc, way, tables, &counts, callers) else {
         return Err(Fault::Memory);
     };
     match tell_end_behind(writer, teller, &totals, &behind) {

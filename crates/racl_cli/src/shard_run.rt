@@ -16,7 +16,7 @@ ghost use Rattle.racl_cli.specs.inner.OwnTotals.{IsShardOver, own_totals};
 use crate::capture_header_reading::keep_header;
 use crate::counted_judging::Counted;
 use crate::live_run::{
-    EXPECTED, LiveAsked, LiveHead, ages_early, many_for, tell_end_behind, told_behind_live,
+    EXPECTED, LiveAsked, LiveHead, LiveWay, ages_early, many_for, tell_end_behind, told_behind_live,
 };
 use crate::live_saves::LiveSaves;
 use crate::sized_tables_and_workers::{Manner, SizedWorkers, create_sized};
@@ -138,7 +138,12 @@ fn tell_shard<L: Teller + Drop, K: Saver, R: Source, W: Sink, T: Threads + Wait 
     let Ok((counts, callers)) = inner.end(alloc) else {
         return Err(Fault::Memory);
     };
-    let Ok(behind) = told_behind_live(alloc, head, tables, &counts, callers) else {
+    let way = LiveWay {
+        options: head.options,
+        text: head.text,
+        filter: head.filter,
+    };
+    let Ok(behind) = told_behind_live(alloc, way, tables, &counts, callers) else {
         return Err(Fault::Memory);
     };
     let totals = totals_over(&totals, own);

@@ -7,16 +7,21 @@ use Rattle.racl_views.specs.declared.hit_counts.HitCounts.{HitCounts}
 use Rattle.racl_cli.specs.Crews.{AreAsAsked, HaveEndedCounting, Orders, cuts_four, orders_for}
 use Rattle.racl_cli.specs.LiveRuns.{ages_in}
 use Rattle.racl_cli.specs.declared.live_run.LiveHead.{LiveHead}
+use Rattle.racl_cli.specs.declared.live_run.LiveWay.{LiveWay}
 use Rattle.racl_cli.specs.declared.sized_tables_and_workers.SizedCallers.{SizedCallers}
 use Rattle.racl_cli.specs.declared.sized_tables_and_workers.SizedTables.{SizedTables}
 
+-- what a live run goes by, without its capture
+abbrev pub way_in : LiveHead → LiveWay
+way_in head = record { options = head.options; text = head.text; filter = head.filter }
+
 -- what stands behind the totals may be told: the workers over these tables have ended, whose verdicts and counts these
 -- are
-pub record MayTellBehind (head : LiveHead) (tables : SizedTables) (packets : List PacketFacts) (said : List Verdict) (counts : HitCounts)
+pub record MayTellBehind (way : LiveWay) (tables : SizedTables) (packets : List PacketFacts) (said : List Verdict) (counts : HitCounts)
     (callers : SizedCallers) : Type 0 where
-  pub says : IsPolicyText head.text.now (policy_facts head.filter.now.policy.now)
-  pub times : head.filter.now.times ≡ head.options.now.times
-  pub asked : AreAsAsked head.options.now.tables (ages_in head.options.now) tables
+  pub says : IsPolicyText way.text.now (policy_facts way.filter.now.policy.now)
+  pub times : way.filter.now.times ≡ way.options.now.times
+  pub asked : AreAsAsked way.options.now.tables (ages_in way.options.now) tables
   pub orders : Orders
-  pub given : orders ≡ orders_for tables head.filter.now head.options.now.workers (cuts_four tables)
-  pub ended : HaveEndedCounting orders head.options.now.hits packets said counts callers
+  pub given : orders ≡ orders_for tables way.filter.now way.options.now.workers (cuts_four tables)
+  pub ended : HaveEndedCounting orders way.options.now.hits packets said counts callers

@@ -4,6 +4,7 @@ use Rattle.packet_view.specs.Captures.{packets_at}
 use Rattle.capture_stream.specs.Savings.{manner_of, outputs}
 use Rattle.capture_stream.proofs.TellLemmas.{fault_as, none_told, report_failed, failed_since}
 use Rattle.racl_cli.specs.Crews.{Orders, orders_of}
+use Rattle.racl_cli.specs.inner.LiveEnds.{way_in}
 use Rattle.racl_cli.specs.LiveRuns.{AreFirstVerdicts}
 use Rattle.racl_cli.proofs.CountedLemmas.{may_tell_behind}
 use Rattle.racl_cli.proofs.LiveEndLemmas.{end_fault, end_told, end_unwritten}
@@ -55,7 +56,7 @@ told_behind_live-requires g c =
     let ended = c.in-Ok-end.ensures _ _ (packets_at 0 all.all.packets) all.all.verdicts all.stand.1 in (
       packets_at 0 all.all.packets,
       all.all.verdicts,
-      may_tell_behind c.args.head _ _ _ _ _ (orders_of c.in-Ok-new.workers) c.requires.says c.requires.sound.0 (as_asked c.in-Ok.ensures.asked c.ages_early-ages.ensures) c.in-Ok-new.ensures.given ended,
+      may_tell_behind (way_in c.args.head) _ _ _ _ _ (orders_of c.in-Ok-new.workers) c.requires.says c.requires.sound.0 (as_asked c.in-Ok.ensures.asked c.ages_early-ages.ensures) c.in-Ok-new.ensures.given ended,
     )
 
 pub returns-in_default-end-clause-told : goal.returns-in_default-end-clause-told
@@ -83,7 +84,7 @@ returns-in-Ok-tell_end_behind-clause-told g c =
     let all = c.in-Ok-tell_live.ensures.told in
     let ended = c.in-Ok-end.ensures _ _ (packets_at 0 all.all.packets) all.all.verdicts all.stand.1 in
     let told = c.in-Ok-told_behind_live.ensures (packets_at 0 all.all.packets) all.all.verdicts
-    (may_tell_behind c.args.head _ _ _ _ _ (orders_of c.in-Ok-new.workers) c.requires.says c.requires.sound.0 (as_asked c.in-Ok.ensures.asked c.ages_early-ages.ensures) c.in-Ok-new.ensures.given ended) in
+    (may_tell_behind (way_in c.args.head) _ _ _ _ _ (orders_of c.in-Ok-new.workers) c.requires.says c.requires.sound.0 (as_asked c.in-Ok.ensures.asked c.ages_early-ages.ensures) c.in-Ok-new.ensures.given ended) in
     let options = c.args.head.options.now in
     let ready = c.args.head.filter.now in
     let first = first_verdicts options ready _ (orders_of c.in-Ok-new.workers) (packets_at 0 all.all.packets) all.all.verdicts c.in-Ok-new.ensures.given
@@ -97,7 +98,7 @@ returns-clause-told g c =
     let all = c.in-Ok-tell_live.ensures.told in
     let ended = c.in-Ok-end.ensures _ _ (packets_at 0 all.all.packets) all.all.verdicts all.stand.1 in
     let told = c.in-Ok-told_behind_live.ensures (packets_at 0 all.all.packets) all.all.verdicts
-    (may_tell_behind c.args.head _ _ _ _ _ (orders_of c.in-Ok-new.workers) c.requires.says c.requires.sound.0 (as_asked c.in-Ok.ensures.asked c.ages_early-ages.ensures) c.in-Ok-new.ensures.given ended) in
+    (may_tell_behind (way_in c.args.head) _ _ _ _ _ (orders_of c.in-Ok-new.workers) c.requires.says c.requires.sound.0 (as_asked c.in-Ok.ensures.asked c.ages_early-ages.ensures) c.in-Ok-new.ensures.given ended) in
     let options = c.args.head.options.now in
     let ready = c.args.head.filter.now in
     let first = first_verdicts options ready _ (orders_of c.in-Ok-new.workers) (packets_at 0 all.all.packets) all.all.verdicts c.in-Ok-new.ensures.given

@@ -8,6 +8,7 @@ use Rattle.capture_shards.specs.SharedSaves.{HaveSharedSaves}
 use Rattle.capture_shards.specs.Sharing.{shard_wording}
 use Rattle.capture_shards.specs.inner.OwnTests.{own_of}
 use Rattle.racl_cli.specs.Crews.{Orders, orders_of}
+use Rattle.racl_cli.specs.inner.LiveEnds.{way_in}
 use Rattle.racl_cli.specs.ShardRuns.{AreFirstOwn, own_manner}
 use Rattle.racl_cli.proofs.CountedLemmas.{may_tell_behind}
 use Rattle.racl_cli.proofs.LiveLemmas.{as_asked}
@@ -70,7 +71,7 @@ told_behind_live-requires g c =
     let packets = packets_at 0 all.all.packets in
     let asked = as_asked c.in-Ok.ensures.asked c.ages_early-ages.ensures in
     let ended = c.in-Ok-end.ensures _ _ (own_packets own 1 packets) all.stand.said all.stand.became.1 in
-    let may = may_tell_behind c.args.head _ _ _ _ _ (orders_of c.in-Ok-new.workers) c.requires.says c.requires.sound.0 asked c.in-Ok-new.ensures.given ended in
+    let may = may_tell_behind (way_in c.args.head) _ _ _ _ _ (orders_of c.in-Ok-new.workers) c.requires.says c.requires.sound.0 asked c.in-Ok-new.ensures.given ended in
     (own_packets own 1 packets, all.stand.said, may)
 
 pub returns-in_default-end-clause-told : goal.returns-in_default-end-clause-told
@@ -124,7 +125,7 @@ returns-in-Ok-tell_end_behind-clause-told g c =
     let first = shared_first options ready _ _ c.args.saver.now.shard packets all.all.verdicts refl c.in-Ok-new.ensures.given asked.four asked.size c.requires.sound.0 all.all.judged in
     let spread = all.stand.spread (λ other ps said are. are.count) in
     let ended = c.in-Ok-end.ensures _ _ (own_packets own 1 packets) all.stand.said all.stand.became.1 in
-    let may = may_tell_behind c.args.head _ _ _ _ _ (orders_of c.in-Ok-new.workers) c.requires.says c.requires.sound.0 asked c.in-Ok-new.ensures.given ended in
+    let may = may_tell_behind (way_in c.args.head) _ _ _ _ _ (orders_of c.in-Ok-new.workers) c.requires.says c.requires.sound.0 asked c.in-Ok-new.ensures.given ended in
     let told = c.in-Ok-told_behind_live.ensures (own_packets own 1 packets) all.stand.said may in
     own_end_told _ options c.args.head.text.now wording (policy_facts ready.policy.now) own c.args.head.order _ _ _ _ c.in-Ok-tell_live.told.totals all.all all.stand.said spread first all.text (HaveSharedSaves g.K.Saver.saved) _ _ all.whole all.spelt all.saved _ all.stand.own _ told _ (shard_wording (own_of c.tell_live.new.teller.shard) (g.L.Teller.wording c.tell_live.new.teller.inner)) c.totals_over-totals.result c.totals_over-totals.ensures
     c.in-Ok-tell_live.ensures.same c.in-Ok-tell_end_behind.ensures.0
@@ -141,7 +142,7 @@ returns-clause-told g c =
     let first = shared_first options ready _ _ c.args.saver.now.shard packets all.all.verdicts refl c.in-Ok-new.ensures.given asked.four asked.size c.requires.sound.0 all.all.judged in
     let spread = all.stand.spread (λ other ps said are. are.count) in
     let ended = c.in-Ok-end.ensures _ _ (own_packets own 1 packets) all.stand.said all.stand.became.1 in
-    let may = may_tell_behind c.args.head _ _ _ _ _ (orders_of c.in-Ok-new.workers) c.requires.says c.requires.sound.0 asked c.in-Ok-new.ensures.given ended in
+    let may = may_tell_behind (way_in c.args.head) _ _ _ _ _ (orders_of c.in-Ok-new.workers) c.requires.says c.requires.sound.0 asked c.in-Ok-new.ensures.given ended in
     let told = c.in-Ok-told_behind_live.ensures (own_packets own 1 packets) all.stand.said may in
     own_end_fault _ options c.args.head.text.now wording (policy_facts ready.policy.now) own c.args.head.order _ _ _ _ c.in-Ok-tell_live.told.totals all.all all.stand.said spread first all.text (HaveSharedSaves g.K.Saver.saved) _ _ all.whole all.spelt all.saved _ all.stand.own _ told _ c.in-Err-tell_end_behind.fault (shard_wording (own_of c.tell_live.new.teller.shard) (g.L.Teller.wording c.tell_live.new.teller.inner)) c.totals_over-totals.result
     c.totals_over-totals.ensures c.in-Ok-tell_live.ensures.same c.in-Err-tell_end_behind.ensures.0
