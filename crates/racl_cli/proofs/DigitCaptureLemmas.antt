@@ -1,5 +1,5 @@
 -- Captures as digits that are decoded one after the other.
-use Rattle.std.proofs.Common.{◌≡◌, ◌∙◌, ℕ, Bool, true, false, List, [], ◌∷◌, ◌++◌, Option, Some, None, length, append-nil, append_assoc, arith, refl, sym, ap, subst, inl, inr}
+use Rattle.std.proofs.Common.{◌≡◌, ◌∙◌, ℕ, List, [], ◌∷◌, ◌++◌, Option, Some, None, length, append-nil, append_assoc, arith, refl, sym, ap, subst, inl, inr}
 use Rattle.std.proofs.lemmas.List.{length-append}
 use Rattle.packet_view.specs.Captures.{End, IsCaptureAt, PacketFacts, end_of}
 use Rattle.acl_policy.specs.Policies.{IsAmong}

@@ -26,7 +26,7 @@ use Rattle.capture_shards.specs.Sharing.{IsSpread, lines_at, own_numbers, shard_
 use Rattle.capture_shards.proofs.LineLemmas.{shard_lines}
 use Rattle.capture_shards.proofs.PickedLists.{own_counts}
 use Rattle.racl_cli.specs.LiveRuns.{IsToldBehind}
-use Rattle.racl_cli.specs.ShardRuns.{AreFirstOwn, HasCutOwn, HasToldOwn, IsOwnFault, IsOwnReport, IsOwnReportBehind, own_lines, own_manner}
+use Rattle.racl_cli.specs.ShardRuns.{AreFirstOwn, HasCutOwn, HasToldOwn, IsOwnFault, IsOwnReportBehind, own_lines, own_manner}
 use Rattle.racl_cli.specs.inner.OwnTotals.{own_totals}
 
 module _ {J : Type 0} {Judged : J → List PacketFacts → List Verdict → Type 0} {begun : J} (T : Type 0) (options : Options) (text : List ℕ) (wording : Wording) (policy : PolicyFacts)

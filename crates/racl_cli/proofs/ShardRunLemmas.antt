@@ -1,6 +1,6 @@
 -- A run over the packets of one shard of a capture.
 use Rattle.std.proofs.KnownBytes.{Consumes-all, Consumes-trans}
-use Rattle.std.proofs.Common.{◌≡◌, ◌∙◌, ◌++◌, ◌≤◌, ℕ, List, [], Option, Result, Ok, Err, MatchResult, ap, arith, drop, inl, inr, length, refl, subst, sym}
+use Rattle.std.proofs.Common.{◌≡◌, ◌∙◌, ◌++◌, ℕ, List, [], Option, Result, Ok, Err, MatchResult, ap, arith, drop, inl, inr, refl, subst, sym}
 use Rattle.std.proofs.lemmas.List.{drop_all}
 use Rattle.packet_view.specs.Captures.{AreRecords, PacketFacts, end_of, packets_at}
 use Rattle.packet_view.specs.declared.capture.Order.{Order}
@@ -15,7 +15,6 @@ use Rattle.racl_io.specs.Tellings.{Wording}
 use Rattle.racl_options.specs.ShardWords.{shard_facts}
 use Rattle.racl_options.specs.declared.settings.Options.{Options}
 use Rattle.racl_options.specs.declared.settings.ShardAsked.{ShardAsked}
-use Rattle.capture_stream.specs.Lives.{AreCounted}
 use Rattle.capture_stream.specs.Savings.{manner_of, outputs}
 use Rattle.capture_stream.proofs.TellLemmas.{fault_as}
 use Rattle.racl_report.specs.declared.saved_packets.Saves.{Saves}
@@ -27,7 +26,7 @@ use Rattle.capture_shards.specs.declared.shard_judge.ShardJudge.{ShardJudge}
 use Rattle.capture_shards.specs.declared.shard_saver.ShardSaver.{ShardSaver}
 use Rattle.capture_shards.specs.inner.OwnTests.{own_of}
 use Rattle.capture_shards.proofs.OwnTestLemmas.{own_is}
-use Rattle.racl_cli.specs.Crews.{AreSaidSoFar, Orders, cuts_four, orders_for, orders_of, size_of}
+use Rattle.racl_cli.specs.Crews.{AreSaidSoFar, cuts_four, orders_for, orders_of, size_of}
 use Rattle.racl_cli.specs.LiveRuns.{HasHead, TellsAsAsked, ages_in}
 use Rattle.racl_cli.specs.Runs.{layout_for}
 use Rattle.racl_cli.specs.LiveSaves.{MayFail, failures_in}

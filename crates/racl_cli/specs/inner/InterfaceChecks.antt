@@ -3,10 +3,8 @@ use Rattle.std.specs.Prelude.{◌≡◌, List, []}
 use Rattle.packet_view.specs.Captures.{PacketFacts}
 use Rattle.acl_policy.specs.Policies.{policy_facts}
 use Rattle.racl_options.specs.declared.settings.Options.{Options}
-use Rattle.racl_views.specs.declared.capture_bytes.CaptureBytes.{CaptureBytes}
 use Rattle.racl_report.specs.InterfaceInputs.{AreTakenApart}
 use Rattle.racl_report.specs.declared.interface_input.InterfaceInput.{InterfaceInput}
-use Rattle.racl_io.specs.declared.totals_and_truncation.Captured.{Captured}
 use Rattle.racl_cli.specs.Reads.{IsSaid}
 use Rattle.racl_cli.specs.declared.interface_run.RightInput.{RightInput}
 

@@ -1,12 +1,8 @@
-use Rattle.std.proofs.Common.{◌≡◌, ◌∙◌, ℕ, List, [], ◌∷◌, None, ap, arith, false, length, map, rules, subst, sym}
-use Rattle.std.proofs.lemmas.List.{length-map}
+use Rattle.std.proofs.Common.{◌≡◌, ◌∙◌, ℕ, List, [], ◌∷◌, None, ap, false, length, map, rules, subst, sym}
 use Rattle.packet_view.specs.Captures.{PacketFacts, packet_facts}
 use Rattle.acl_policy.specs.Policies.{IsPolicyText, PolicyFacts, policy_facts}
 use Rattle.session_state.specs.declared.shown_verdicts.Shown.TheVariants.{Every}
 use Rattle.session_state.specs.declared.verdict.Verdict.{Verdict}
-use Rattle.bihash_words.specs.contracts.flow_shapes.ShapeV4Shape.TheImpl as four
-use Rattle.bihash_words.specs.contracts.flow_shapes.ShapeV6Shape.TheImpl as six
-use Rattle.flow_filter.specs.OneThread.{AreVerdicts, layout_of}
 use Rattle.racl_io.specs.Reports.{totals_of}
 use Rattle.racl_views.specs.RunEntries.{RunFacts, run_facts}
 use Rattle.packet_questions.specs.Answers.{AreAnswers, answer_facts, asked_facts, packet_asked}

@@ -4,7 +4,7 @@ use Rattle.packet_view.specs.Captures.{PacketFacts, packet_facts}
 use Rattle.packet_view.specs.CheckedCaptures.{remaining}
 use Rattle.acl_policy.specs.Policies.{section_facts}
 use Rattle.policy_check.specs.SameHost.{GoesOutFrom, seen_at}
-use Rattle.policy_check.proofs.HostLemmas.{any_here, any_none, so_on}
+use Rattle.policy_check.proofs.HostLemmas.{any_here, so_on}
 use Rattle.policy_check.proofs.frames_of_same_host.one_goes_out_from.Goals as goal
 
 pub packets-init : goal.packets-init

@@ -6,7 +6,7 @@ use Rattle.racl_io.specs.declared.totals_and_truncation.Captured.{Captured}
 use Rattle.racl_views.specs.CapturePackets.{HavePackets}
 use Rattle.racl_views.specs.RunEntries.{RunFacts}
 use Rattle.racl_views.specs.declared.capture_bytes.CaptureBytes.{CaptureBytes}
-use Rattle.racl_report.specs.RunReports.{JudgedFacts, told_facts}
+use Rattle.racl_report.specs.RunReports.{JudgedFacts}
 use Rattle.racl_report.proofs.InterfaceLaws.{counted_apart, have_packets}
 use Rattle.racl_cli.specs.Reads.{IsReached}
 use Rattle.racl_cli.proofs.InterfaceLemmas.{has_run_apart}

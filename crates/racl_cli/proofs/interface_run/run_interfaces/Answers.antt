@@ -1,4 +1,4 @@
-use Rattle.std.proofs.Common.{◌≡◌, ◌+◌, Result, Ok, Err, ap, arith}
+use Rattle.std.proofs.Common.{Result, Ok, Err, ap, arith}
 use Rattle.acl_policy.specs.Policies.{policy_facts}
 use Rattle.racl_io.specs.declared.fault.Fault.TheVariants.{Memory}
 use Rattle.racl_io.specs.declared.totals_and_truncation.Totals.{Totals}

@@ -1,8 +1,6 @@
-use Rattle.std.proofs.Common.{◌∙◌, ap, inl, refl, rules, subst, sym}
+use Rattle.std.proofs.Common.{ap, inl, refl, rules, sym}
 use Rattle.acl_policy.specs.Policies.{policy_facts}
-use Rattle.racl_io.specs.Tellings.{with_write}
 use Rattle.capture_stream.specs.Turns.{packets_of}
-use Rattle.capture_stream.proofs.ArrivalLemmas.{none_came}
 use Rattle.racl_cli.specs.Crews.{Orders, orders_of}
 use Rattle.racl_cli.specs.LiveRuns.{AreFirstVerdicts}
 use Rattle.racl_cli.proofs.CountedLemmas.{may_tell_behind}

@@ -1,4 +1,4 @@
-use Rattle.std.proofs.Common.{List, [], ap, inl, refl, rules, sym}
+use Rattle.std.proofs.Common.{[], ap, inl, refl, rules, sym}
 use Rattle.acl_policy.specs.Policies.{policy_facts}
 use Rattle.packet_view.specs.Captures.{packets_at}
 use Rattle.capture_stream.specs.Savings.{manner_of, outputs}

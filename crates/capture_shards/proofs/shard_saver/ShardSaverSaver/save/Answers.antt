@@ -1,4 +1,4 @@
-use Rattle.std.proofs.Common.{◌≡◌, ◌∙◌, ◌+◌, ◌∷◌, List, ap, arith, length, refl, subst}
+use Rattle.std.proofs.Common.{◌∙◌, ◌+◌, List, ap, arith, length, refl, subst}
 use Rattle.packet_view.specs.Captures.{packet_facts}
 use Rattle.session_state.specs.declared.verdict.Verdict.{Verdict}
 use Rattle.capture_shards.proofs.SharedSaveLemmas.{HaveComeTo, come_first, come_next, come_to_end, may_share_save, record_left}
