@@ -13,8 +13,8 @@ use racl_io::{Captured, Fault, Piece, Sink, Totals, totals_on};
 use session_state::Verdict;
 use std::alloc::Global;
 
-// Whether all is as expected: neither a verdict isn't, nor is a packet missing or a total another.
-fn is_met(unmet: bool, missing: bool) -> bool
+/// Whether all is as expected: neither a verdict isn't, nor is a packet missing or a total another.
+pub fn is_met(unmet: bool, missing: bool) -> bool
     ensures { result ≡ not (unmet || missing) }
 {
     !(unmet || missing)

@@ -13,7 +13,7 @@ mod unmet_lines;
 mod verdict_words;
 mod wanted_words;
 
-pub use compared_verdicts::write_compared;
+pub use compared_verdicts::{is_met, write_compared};
 pub use expectation::{Expectation, Expected, Total, Wanted};
 pub use expectation_fault::{ExpectationFault, Reason};
 pub use expectation_file::read_expectations;

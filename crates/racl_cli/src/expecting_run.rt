@@ -1,5 +1,5 @@
 //! One run over a capture whose verdicts are compared with expected ones while it comes.
-ghost use Rattle.std.specs.Prelude.{◌≡◌, ◌-◌, ◌<◌, ◌^◌, ◌++◌, ◌||◌, MatchResult, not};
+ghost use Rattle.std.specs.Prelude.{◌≡◌, ◌-◌, ◌<◌, ◌^◌, ◌++◌, MatchResult};
 ghost use Rattle.acl_policy.specs.Policies.{policy_facts};
 ghost use Rattle.racl_io.specs.Tellings.{HasToldText, with_write};
 ghost use Rattle.capture_stream.specs.Lives.{with_read};
@@ -14,7 +14,7 @@ use crate::unsaved_packets::Unsaved;
 use crate::workers_as_judges::HandingCrew;
 use acl_policy::read_policy;
 use capture_stream::{Headed, ToldCapture, tell_live};
-use expected_verdicts::{UnmetLines, any_open, write_met};
+use expected_verdicts::{UnmetLines, any_open, is_met, write_met};
 use flow_workers::Filter;
 use racl_io::{Fault, Piece, Sink, Source, Teller, Totals};
 use std::alloc::Global;
@@ -23,13 +23,6 @@ use std::thread::Threads;
 
 /// For how many packets rules are prepared.
 const PREPARED: usize = 16_777_216;
-
-// Whether all is as expected: neither a verdict isn't, nor is a packet missing or a total another.
-fn is_met(unmet: bool, missing: bool) -> bool
-    ensures { result ≡ not (unmet || missing) }
-{
-    !(unmet || missing)
-}
 
 // Behind the packets is told what else isn't as expected, or that all of so many expectations are met.
 fn tell_last<L: Teller, W: Sink>(
