@@ -24,4 +24,5 @@ pub use judge::Judge;
 pub use live_telling::{Headed, ToldCapture, tell_live};
 pub use saver::Saver;
 pub use stream_judging::{Opening, Streamed, judge_stream};
+pub use unsaved_packets::Unsaved;
 pub use windows_of_records::{Found, WindowSize};

@@ -25,7 +25,6 @@ mod runs_end_to_end;
 mod shard_run;
 mod sized_tables_and_workers;
 mod stored_sessions;
-mod unsaved_packets;
 mod workers_as_judges;
 
 pub use diff_input::{DiffFault, PolicyTexts};
