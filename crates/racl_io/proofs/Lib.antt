@@ -2,6 +2,8 @@ pub mod BufferLemmas
 pub mod FaultLemmas
 pub mod FrontLemmas
 pub mod InputLemmas
+pub mod LeftLemmas
+pub mod LineLemmas
 pub mod NumeralLemmas
 pub mod PartingLemmas
 pub mod PieceLemmas

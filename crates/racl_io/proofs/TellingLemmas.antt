@@ -1,5 +1,5 @@
 -- What is told one part after the other.
-use Rattle.std.proofs.Common.{◌≡◌, ◌∙◌, ◌+◌, ◌++◌, ℕ, Bool, true, false, List, [], ◌∷◌, None, Option, Result, Ok, Err, ap, ap₂, append-nil, append_assoc, arith, length, refl, subst, sym}
+use Rattle.std.proofs.Common.{◌≡◌, ◌∙◌, ◌+◌, ◌++◌, ◌<◌, ℕ, Bool, true, false, List, [], ◌∷◌, None, Some, Option, Result, Ok, Err, ap, ap₂, append-nil, append_assoc, arith, drop, flat_map, get_or, length, refl, subst, sym}
 use Rattle.std.specs.Prelude.{⊤, OnErr, OnOk, IfErr}
 use Rattle.std.proofs.lemmas.List.{take_all}
 use Rattle.std.proofs.KnownBytes.{Appends-trans}
@@ -12,7 +12,10 @@ use Rattle.racl_io.specs.declared.fault.Fault.TheVariants.{Write}
 use Rattle.racl_io.specs.Reports.{is_truncated, totals_line, totals_of, truncation_line}
 use Rattle.racl_io.specs.ShownReports.{line_shown, lines_shown, report_shown}
 use Rattle.racl_io.specs.Sinks.{GotFront, HasPutFront}
-use Rattle.racl_io.specs.Tellings.{HasToldText, IsTellingFault, Wording, end_text, lines_in, plain_wording, report_in, told_alone, with_write}
+use Rattle.racl_io.specs.Tellings.{HasToldText, IsTellingFault, Wording, end_text, lines_by, lines_in, named_wording, plain_wording, report_in, told_alone, truncation_of, with_write}
+use Rattle.racl_io.specs.declared.totals_and_truncation.Captured.{Captured}
+use Rattle.racl_io.specs.declared.totals_and_truncation.Totals.{Totals}
+use Rattle.racl_io.proofs.LeftLemmas.{drop_one}
 use Rattle.racl_io.proofs.ReportLemmas.{cut_at}
 
 -- a front of what follows a text is behind it
@@ -30,6 +33,18 @@ put_more bytes failures a b c text more (Ok x) wrote same put =
     (Appends-trans (bytes a) (bytes b) (bytes c) text more wrote put.0, put.1 ∙ same, tt, tt, tt)
 put_more bytes failures a b c text more (Err e) wrote same put =
     (tt, tt, put.2 ∙ ap (λ n. n + 1) same, put.3, front_on (bytes a) (bytes b) (bytes c) text more wrote put.4)
+
+-- both are the text
+pub put_behind : {W : Type 0} (bytes : W → Option (List ℕ)) (failures : W → ℕ) (a b c : W) (front piece text : List ℕ) (result : Result ⊤ Fault)
+    → Appends (bytes a) (bytes b) front → failures b ≡ failures a → front ++ piece ≡ text → HasPutFront bytes failures b c piece result
+    → HasPutFront bytes failures a c text result
+put_behind bytes failures a b c front piece text result wrote same all put =
+    subst (λ (t : List ℕ). HasPutFront bytes failures a c t result) all (put_more bytes failures a b c front piece result wrote same put)
+
+-- what holds whatever is answered
+pub whatever : {A E X : Type 0} (result : Result A E) → X → OnOk result X
+whatever (Ok x) holds = holds
+whatever (Err e) holds = tt
 
 -- what was written is told
 pub told_put : {A W : Type 0} (bytes : W → Option (List ℕ)) (failures : W → ℕ) (old new : W) (text : List ℕ) (result : Result A Fault)
@@ -65,6 +80,23 @@ plain_lines shown n [] [] each = refl
 plain_lines shown n [] (v ∷ vs) each = absurd (omega (arith, each))
 plain_lines shown n (p ∷ ps) [] each = absurd (omega (arith, each))
 plain_lines shown n (p ∷ ps) (v ∷ vs) each = ap (λ l. line_shown shown None n v ++ l) (plain_lines shown (n + 1) ps vs (omega (arith, each)))
+
+-- those that name interfaces
+pub named_lines : (shown : Shown) (n : ℕ) (packets : List PacketFacts) (verdicts : List Verdict)
+    → lines_in (named_wording shown) n packets verdicts ≡ lines_by (λ m packet verdict. line_shown shown (Some packet.interface) m verdict) n packets verdicts
+named_lines shown n packets verdicts = refl
+
+-- what stands behind them, after the line on one more capture
+pub ends_next : (front all : List ℕ) (captures : List Captured) (k : ℕ) (d : Captured) (totals : Totals) → k < length captures
+    → front ++ (flat_map truncation_of (drop k captures) ++ totals_line totals) ≡ all
+    → (front ++ truncation_of (get_or captures k d)) ++ (flat_map truncation_of (drop (k + 1) captures) ++ totals_line totals) ≡ all
+ends_next front all captures k d totals within told =
+    let line = truncation_of (get_or captures k d) in
+    let behind = flat_map truncation_of (drop (k + 1) captures) in
+    append_assoc front line (behind ++ totals_line totals)
+    ∙ ap (λ (t : List ℕ). front ++ t) (sym (append_assoc line behind (totals_line totals))
+    ∙ ap (λ (cs : List Captured). flat_map truncation_of cs ++ totals_line totals) (sym (drop_one captures k d within)))
+    ∙ told
 
 -- ---- One capture, whose interface isn't named
 

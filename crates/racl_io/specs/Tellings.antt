@@ -1,5 +1,6 @@
 -- How packets are told one part after the other, and what stands behind them (this project's profile).
-use Rattle.std.specs.Prelude.{◌≡◌, ◌+◌, ◌++◌, ℕ, Bool, List, [], ◌∷◌, None, Option, Result, MatchResult, length}
+use Rattle.std.specs.Prelude.{◌≡◌, ◌+◌, ◌++◌, ℕ, Bool, List, [], ◌∷◌, None, Some, Option, Result, MatchResult, length}
+use Rattle.std.specs.List.{flat_map}
 use Rattle.std.specs.Io.KnownBytes.{Appends}
 use Rattle.packet_view.specs.Captures.{PacketFacts}
 use Rattle.session_state.specs.declared.shown_verdicts.Shown.{Shown}
@@ -17,11 +18,15 @@ pub record Wording : Type 0 where
   pub line : ℕ → PacketFacts → Verdict → List ℕ
   pub end : Totals → List ℕ
 
+-- what a line for each tells of packets whose numbers begin with n
+abbrev pub lines_by : (ℕ → PacketFacts → Verdict → List ℕ) → ℕ → List PacketFacts → List Verdict → List ℕ
+lines_by line n [] verdicts = []
+lines_by line n (packet ∷ packets) [] = []
+lines_by line n (packet ∷ packets) (verdict ∷ verdicts) = line n packet verdict ++ lines_by line (n + 1) packets verdicts
+
 -- what is told of packets whose numbers begin with n
 abbrev pub lines_in : Wording → ℕ → List PacketFacts → List Verdict → List ℕ
-lines_in wording n [] verdicts = []
-lines_in wording n (packet ∷ packets) [] = []
-lines_in wording n (packet ∷ packets) (verdict ∷ verdicts) = wording.line n packet verdict ++ lines_in wording (n + 1) packets verdicts
+lines_in wording n packets verdicts = lines_by wording.line n packets verdicts
 
 -- what a report tells of a capture of so many packets, whose interface it doesn't name
 abbrev pub told_alone : ℕ → Bool → List Captured
@@ -39,6 +44,18 @@ end_text totals = truncation_line None totals.truncated totals.packets ++ totals
 -- the report's lines
 abbrev pub plain_wording : Shown → Wording
 plain_wording shown = record { line = λ n packet verdict. line_shown shown None n verdict; end = end_text }
+
+-- the report's lines, each of which names its packet's interface
+abbrev pub named_wording : Shown → Wording
+named_wording shown = record { line = λ n packet verdict. line_shown shown (Some packet.interface) n verdict; end = end_text }
+
+-- the line of a capture that is truncated, and of another none
+abbrev pub truncation_of : Captured → List ℕ
+truncation_of captured = truncation_line captured.named captured.truncated captured.packets
+
+-- what stands behind the lines of the packets of several captures
+abbrev pub ends_text : List Captured → Totals → List ℕ
+ends_text captures totals = flat_map truncation_of captures ++ totals_line totals
 
 -- how often a sink failed, where this is answered: a write that failed counts
 abbrev pub with_write : ℕ → Fault → ℕ

@@ -3,7 +3,7 @@ ghost use Rattle.std.specs.Prelude.{◌≡◌, ◌-◌, ◌<◌, ◌^◌, [], tr
 ghost use Rattle.racl_io.specs.Reports;
 ghost use Rattle.racl_io.specs.Reports.{totals_line, totals_of, truncation_line};
 ghost use Rattle.racl_io.specs.Sinks.{HasPutFront};
-ghost use Rattle.racl_io.specs.Tellings.{end_text};
+ghost use Rattle.racl_io.specs.Tellings.{end_text, ends_text};
 
 use crate::device::Sink;
 use crate::fault::Fault;
@@ -138,4 +138,24 @@ pub fn write_end<W: Sink>(writer: &mut W, piece: &mut Piece, totals: &Totals) ->
         Ok(()) => write_totals(writer, piece, totals),
         Err(fault) => Err(fault),
     }
+}
+
+/// Writes what stands in a report behind the lines of the packets of several captures: the line on each that is truncated, and
+/// the totals.
+pub fn write_ends<W: Sink>(
+    writer: &mut W,
+    piece: &mut Piece,
+    captures: &[Captured],
+    totals: &Totals,
+) -> Result<(), Fault>
+    requires { W.failures writer.old < 2 ^ 64 - 1 }
+    ensures { HasPutFront W.bytes W.failures writer.old writer.new (ends_text captures.now totals.now) result }
+{
+    'each: for captured in captures {
+        match write_truncation(writer, piece, captured) {
+            Ok(()) => {}
+            Err(fault) => return Err(fault),
+        }
+    }
+    write_totals(writer, piece, totals)
 }

@@ -1,4 +1,5 @@
 pub mod BehindTotals
+pub mod CapturesEnds
 pub mod Endings
 pub mod InterfaceInputs
 pub mod KeptInputs

@@ -3,6 +3,7 @@
 #![tactic(auto)]
 
 mod asked_report;
+mod end_of_captures;
 mod interface_captures;
 mod interface_input;
 mod judged_packets;
@@ -14,6 +15,7 @@ mod saved_packets;
 mod text_behind_totals;
 
 pub use asked_report::{write_judged, write_run};
+pub use end_of_captures::write_captures_end;
 pub use interface_captures::{is_interface_seen, told_of_interfaces};
 pub use interface_input::InterfaceInput;
 pub use judged_packets::Judged;

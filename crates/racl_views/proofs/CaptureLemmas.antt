@@ -5,7 +5,7 @@ use Rattle.packet_view.specs.Captures.{End, IsCaptureAt, PacketFacts, packet_fac
 use Rattle.packet_view.specs.declared.packet.Packet.{Packet}
 use Rattle.racl_views.specs.CapturePackets.{HavePackets}
 use Rattle.racl_views.specs.declared.capture_bytes.CaptureBytes.{CaptureBytes}
-use Rattle.racl_views.proofs.CountLemmas.{drop_one}
+use Rattle.racl_io.proofs.LeftLemmas.{drop_one}
 
 -- packets that are read, and those of captures that are left
 abbrev pub AreRead : List CaptureBytes → ℕ → List Packet → List PacketFacts → Type 0

@@ -14,7 +14,7 @@ use Rattle.racl_views.specs.ChosenRecords.{AreRecordsOf, HasRecords, IsChosen, I
 use Rattle.racl_views.specs.declared.chosen_packets.Chosen.{Chosen}
 use Rattle.racl_views.specs.inner.Batches.{bytes_where}
 use Rattle.racl_views.specs.inner.ChosenBytes.{HasNoRecord, chosen_in, found_first}
-use Rattle.racl_views.proofs.CountLemmas.{drop_one}
+use Rattle.racl_io.proofs.LeftLemmas.{drop_one}
 
 -- the bytes of a record that is at the front
 pub front_bytes : (order : Order) (bytes : List ℕ) (facts : RecordFacts) (rest : List ℕ) → IsPiece order bytes (Record facts rest)

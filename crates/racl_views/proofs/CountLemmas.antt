@@ -1,19 +1,15 @@
 -- Packets that are counted one after the other.
-use Rattle.std.proofs.Common.{◌≡◌, ◌∙◌, ◌++◌, ◌+◌, ◌-◌, ◌<◌, ◌≤◌, ℕ, suc, List, [], ◌∷◌, Option, append_assoc, arith, ap, count_by, drop, get_or, length, max, refl, subst, sym, cond}
-use Rattle.std.proofs.Math.Seq.{drop-cons}
+use Rattle.std.proofs.Common.{◌≡◌, ◌∙◌, ◌++◌, ◌+◌, ◌-◌, ◌<◌, ◌≤◌, ℕ, List, [], ◌∷◌, Option, append_assoc, arith, ap, count_by, drop, get_or, length, max, refl, subst, sym, cond}
 use Rattle.std.proofs.lemmas.List.Sums.{sum_by-append}
 use Rattle.packet_view.specs.Captures.{PacketFacts}
 use Rattle.acl_policy.specs.Policies.{PolicyFacts}
 use Rattle.session_state.specs.declared.verdict.Verdict.{Verdict}
+use Rattle.racl_io.proofs.LeftLemmas.{drop_one}
 use Rattle.racl_views.specs.Deciding.{AreDecided, IsDecided, decided_by, hits_on}
 use Rattle.racl_views.specs.Hits.{is_entry, latest_second}
 use Rattle.racl_views.specs.declared.rule_name.RuleName.{RuleName}
 
--- what is left begins with the next one
-pub drop_one : {A : Type 0} (xs : List A) (k : ℕ) (d : A) → k < length xs → drop k xs ≡ get_or xs k d ∷ drop (k + 1) xs
-drop_one xs k d within = let one : suc k ≡ k + 1 = omega arith in drop-cons xs k d within ∙ ap (λ n. get_or xs k d ∷ drop n xs) one
-
--- and before what is left stands the last one that was taken
+-- before what is left stands the last one that was taken
 pub drop_before : {A : Type 0} (xs : List A) (i : ℕ) (d : A) → 0 < i → i ≤ length xs → drop (i - 1) xs ≡ get_or xs (i - 1) d ∷ drop i xs
 drop_before xs i d some within =
     let back : i - 1 + 1 ≡ i = omega arith in drop_one xs (i - 1) d (omega arith) ∙ ap (λ n. get_or xs (i - 1) d ∷ drop n xs) back

@@ -1,17 +1,16 @@
 -- Entries of packets that are told one after the other.
-use Rattle.std.proofs.Common.{◌≡◌, ◌∙◌, ◌++◌, ◌+◌, ◌<◌, ◌≤◌, ℕ, zero, suc, List, [], ◌∷◌, append-nil, append_assoc, ap, arith, drop, get_or, length, length-drop, refl, sym, take}
-use Rattle.std.proofs.Math.ListN.{drop_of_length-le}
-use Rattle.std.proofs.lemmas.List.{drop-drop}
+use Rattle.std.proofs.Common.{◌≡◌, ◌∙◌, ◌++◌, ◌+◌, ◌<◌, ℕ, zero, suc, List, [], ◌∷◌, ap, drop, get_or, length, refl, sym, take}
 use Rattle.packet_view.specs.Captures.{PacketFacts}
 use Rattle.acl_policy.specs.Policies.{PolicyFacts}
 use Rattle.session_state.specs.declared.verdict.Verdict.{Verdict}
+use Rattle.racl_io.proofs.LeftLemmas.{drop_one}
+use Rattle.racl_io.proofs.LineLemmas as line
 use Rattle.packet_words.proofs.ViewLemmas.{at_seen}
 use Rattle.racl_views.specs.declared.rule_name.RuleLine.{RuleLine}
 use Rattle.racl_views.specs.Entries.{AreEntries, EntryFacts}
 use Rattle.racl_views.specs.RuleLines.{AreRules}
 use Rattle.racl_views.specs.RunEntries.{HasEntries, RunFacts, told_from}
 use Rattle.racl_views.specs.inner.EntryLists.{entries_on, entry_on}
-use Rattle.racl_views.proofs.CountLemmas.{drop_one}
 
 -- each packet has its entry
 pub all_entries : (policy : PolicyFacts) (rules : List RuleLine) (packets : List PacketFacts) (verdicts : List Verdict)
@@ -50,28 +49,11 @@ entries-drop policy rules (suc k) [] verdicts = refl
 entries-drop policy rules (suc k) (packet ∷ packets) [] = sym (no_entries policy rules (drop k packets))
 entries-drop policy rules (suc k) (packet ∷ packets) (verdict ∷ verdicts) = entries-drop policy rules k packets verdicts
 
--- what was written and what the piece has, after one more line
-pub told_more : (front written piece now line more all : List ℕ) → (front ++ piece) ++ (line ++ more) ≡ all → piece ++ line ≡ written ++ now
-    → ((front ++ written) ++ now) ++ more ≡ all
-told_more front written piece now line more all told pushed =
-    ap (λ (t : List ℕ). t ++ more) (append_assoc front written now ∙ ap (λ (t : List ℕ). front ++ t) (sym pushed) ∙ sym (append_assoc front piece line))
-    ∙ append_assoc (front ++ piece) line more ∙ told
-
 -- a run's entries, by what was looked up of the rules
 pub entries_by_rules : (run : RunFacts) (rules : List RuleLine) → AreRules run.text rules → HasEntries run (entries_on run.policy rules run.packets run.verdicts)
 entries_by_rules run rules are = record { rules = rules; lines = are; are = all_entries run.policy rules run.packets run.verdicts }
 
--- after the last line
+-- after the last of what is told
 pub told_all : (tell : ℕ → EntryFacts → List ℕ) (n : ℕ) (entries : List EntryFacts) (so_far all : List ℕ) → entries ≡ []
     → so_far ++ told_from tell n entries ≡ all → so_far ≡ all
-told_all tell n entries so_far all none told =
-    sym (append-nil so_far) ∙ ap (λ (es : List EntryFacts). so_far ++ told_from tell n es) (sym none) ∙ told
-
--- the packets that are left, after one more was taken
-pub left_more : (all old new : List PacketFacts) (packet : PacketFacts) (k : ℕ) → old ≡ drop k all → old ≡ packet ∷ new → new ≡ drop (k + 1) all
-left_more all old new packet k so_far took = ap (drop 1) (sym took) ∙ ap (drop 1) so_far ∙ drop-drop 1 k all
-
--- where they ran out, none are behind any more verdicts
-pub left_none : (all old : List PacketFacts) (k n : ℕ) → old ≡ drop k all → old ≡ [] → k ≤ n → [] ≡ drop n all
-left_none all old k n so_far none few =
-    sym (drop_of_length-le all (omega (arith, length-drop k all, ap length so_far, ap length none, few)))
+told_all tell n entries so_far all none told = line.told_all so_far (told_from tell n entries) all (ap (told_from tell n) none) told

@@ -12,6 +12,5 @@ pub mod LineLemmas
 pub mod ObjectDepths
 pub mod ObjectLemmas
 pub mod PartLemmas
-pub mod PutLemmas
 pub mod RuleTextLemmas
 pub mod ShownTexts

@@ -8,7 +8,7 @@ use Rattle.packet_view.specs.declared.tuple.Direction.TheVariants.{Inbound, Outb
 use Rattle.acl_policy.specs.Lines.{Begins, Blank, IsLine, LineFacts, Own, Ruled}
 use Rattle.acl_policy.specs.Policies.{AreAllSections, AreLines, AreSections, IsPolicyText, PolicyFacts, SectionFacts}
 use Rattle.acl_policy.proofs.LineLaws.{line_in-complete}
-use Rattle.racl_views.proofs.CountLemmas.{drop_one}
+use Rattle.racl_io.proofs.LeftLemmas.{drop_one}
 use Rattle.racl_views.specs.RuleLines.{AreRules, rule_here, rules_behind, rules_from}
 use Rattle.racl_views.specs.declared.rule_name.RuleLine.{RuleLine}
 use Rattle.racl_views.specs.inner.Spots.{said}

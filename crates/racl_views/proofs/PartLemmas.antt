@@ -1,39 +1,39 @@
 -- Packets that are told one part after the other are told as in the report.
-use Rattle.std.proofs.Common.{◌≡◌, ◌∙◌, ◌++◌, ◌+◌, ◌≤◌, ℕ, Bool, List, [], ◌∷◌, None, append-nil, append_assoc, ap, ap₂, arith, length, map, refl, sym}
+use Rattle.std.proofs.Common.{◌≡◌, ◌∙◌, ◌++◌, ◌+◌, ◌≤◌, ℕ, Bool, true, false, List, [], ◌∷◌, None, Some, append-nil, append_assoc, ap, ap₂, arith, length, map, refl, sym}
 use Rattle.std.proofs.lemmas.List.{take_all}
 use Rattle.std.specs.Str.Lines.{lines}
 use Rattle.packet_view.specs.Captures.{PacketFacts}
 use Rattle.acl_policy.specs.Policies.{IsPolicyText, PolicyFacts}
 use Rattle.session_state.specs.declared.verdict.Verdict.{Verdict}
 use Rattle.racl_io.specs.declared.totals_and_truncation.Captured.{Captured}
-use Rattle.racl_io.specs.declared.totals_and_truncation.Totals.{Totals}
 use Rattle.racl_io.specs.Reports.{totals_line, totals_of, truncation_line}
-use Rattle.racl_io.specs.Tellings.{Wording, end_text, lines_in, told_alone}
+use Rattle.racl_io.specs.Tellings.{Wording, end_text, lines_by, lines_in, told_alone}
 use Rattle.racl_io.proofs.TellingLemmas.{alone_truncated, end_alone}
 use Rattle.racl_views.specs.declared.rule_name.RuleLine.{RuleLine}
 use Rattle.racl_views.specs.Entries.{EntryFacts}
 use Rattle.racl_views.specs.ExplainedLines.{IsExplained, shown_line}
 use Rattle.racl_views.specs.Objects.{object_line, object_lines}
-use Rattle.racl_views.specs.PacketObjects.{IsToldInObjects, packet_objects, totals_object}
-use Rattle.racl_views.specs.PartTellings.{AreExplainedLines, AreObjectLines, TellsRun, ToldBy, run_by}
+use Rattle.racl_views.specs.PacketObjects.{IsToldInObjects, packet_objects, totals_object, truncation_objects}
+use Rattle.racl_views.specs.PartTellings.{AreExplainedLines, AreNamedLines, AreObjectLines, TellsLines, TellsRun, ToldBy, run_by}
 use Rattle.racl_views.specs.RuleLines.{AreRules, rules_from}
 use Rattle.racl_views.specs.RuleTexts.{rule_texts}
 use Rattle.racl_views.specs.RunEntries.{captures_told, told_from}
 use Rattle.racl_views.specs.inner.EntryLists.{entries_on, entry_on}
-use Rattle.racl_views.specs.inner.PartWordings.{captured_at, end_objects, explained_wording, objects_wording, wording_by}
+use Rattle.racl_views.specs.inner.PartWordings.{captured_at, end_objects, explained_wording, objects_wording}
 use Rattle.racl_views.specs.inner.Spots.{said}
-use Rattle.racl_views.specs.inner.Tellings.{truncation_by, truncation_objects}
+use Rattle.racl_views.specs.inner.Tellings.{truncation_by}
 use Rattle.racl_views.proofs.EntryLemmas.{entries_by_rules}
 use Rattle.racl_views.proofs.LineLemmas.{policy_rules}
 use Rattle.racl_views.proofs.ObjectLemmas.{lines_from, object_lines-append}
 
 -- what is told of packets is told of their entries
-pub lines_by : (policy : PolicyFacts) (rules : List RuleLine) (tell : ℕ → EntryFacts → List ℕ) (end : Totals → List ℕ) (n : ℕ) (packets : List PacketFacts)
-    (verdicts : List Verdict) → lines_in (wording_by policy rules tell end) n packets verdicts ≡ told_from tell n (entries_on policy rules packets verdicts)
-lines_by policy rules tell end n [] verdicts = refl
-lines_by policy rules tell end n (packet ∷ packets) [] = refl
-lines_by policy rules tell end n (packet ∷ packets) (verdict ∷ verdicts) =
-    ap (λ (t : List ℕ). tell n (entry_on policy rules packet verdict) ++ t) (lines_by policy rules tell end (n + 1) packets verdicts)
+pub lines_of_entries : (policy : PolicyFacts) (rules : List RuleLine) (tell : ℕ → EntryFacts → List ℕ) (n : ℕ) (packets : List PacketFacts)
+    (verdicts : List Verdict)
+    → lines_by (λ m packet verdict. tell m (entry_on policy rules packet verdict)) n packets verdicts ≡ told_from tell n (entries_on policy rules packets verdicts)
+lines_of_entries policy rules tell n [] verdicts = refl
+lines_of_entries policy rules tell n (packet ∷ packets) [] = refl
+lines_of_entries policy rules tell n (packet ∷ packets) (verdict ∷ verdicts) =
+    ap (λ (t : List ℕ). tell n (entry_on policy rules packet verdict) ++ t) (lines_of_entries policy rules tell (n + 1) packets verdicts)
 
 -- no more entries than packets
 few_entries : (policy : PolicyFacts) (rules : List RuleLine) (packets : List PacketFacts) (verdicts : List Verdict)
@@ -51,12 +51,12 @@ capture_alone tell end captured entries few =
 
 -- explained lines, by the rules of the text
 pub explained_tells : (by : ToldBy) (rules : List RuleLine) → AreRules by.text rules
-    → TellsRun AreExplainedLines IsExplained by (explained_wording by.shown by.policy rules (rule_texts by.text))
+    → TellsRun AreExplainedLines IsExplained by (explained_wording by.shown false by.policy rules (rule_texts by.text))
 explained_tells by rules are = record {
   lines = λ packets verdicts each. (
     entries_on by.policy rules packets verdicts,
     entries_by_rules (run_by by packets verdicts []) rules are,
-    lines_by by.policy rules (shown_line by.shown (rule_texts by.text) None) end_text 1 packets verdicts,
+    lines_of_entries by.policy rules (shown_line by.shown (rule_texts by.text) None) 1 packets verdicts,
   );
   report = λ packets verdicts truncated each. (
     entries_on by.policy rules packets verdicts,
@@ -66,7 +66,7 @@ explained_tells by rules are = record {
 }
   where
     whole : (packets : List PacketFacts) (verdicts : List Verdict) (truncated : Bool) → length verdicts ≡ length packets
-        → lines_in (explained_wording by.shown by.policy rules (rule_texts by.text)) 1 packets verdicts ++ end_text (totals_of verdicts (told_alone (length packets) truncated))
+        → lines_in (explained_wording by.shown false by.policy rules (rule_texts by.text)) 1 packets verdicts ++ end_text (totals_of verdicts (told_alone (length packets) truncated))
         ≡ captures_told (λ captured. shown_line by.shown (rule_texts by.text) captured.named)
         (λ captured. truncation_line captured.named captured.truncated captured.packets) 1 (entries_on by.policy rules packets verdicts) (told_alone (length packets) truncated)
         ++ totals_line (totals_of verdicts (told_alone (length packets) truncated))
@@ -77,7 +77,7 @@ explained_tells by rules are = record {
         let told = told_from (shown_line by.shown (rule_texts by.text) None) 1 entries in
         let cut = truncation_line None truncated n in
         let all = totals_line (totals_of verdicts (told_alone n truncated)) in
-        ap₂ (λ a b. a ++ b) (lines_by by.policy rules (shown_line by.shown (rule_texts by.text) None) end_text 1 packets verdicts) (end_alone verdicts n truncated each)
+        ap₂ (λ a b. a ++ b) (lines_of_entries by.policy rules (shown_line by.shown (rule_texts by.text) None) 1 packets verdicts) (end_alone verdicts n truncated each)
         ∙ sym (append_assoc told cut all)
         ∙ ap (λ t. t ++ all) (sym (capture_alone (λ captured. shown_line by.shown (rule_texts by.text) captured.named)
         (λ captured. truncation_line captured.named captured.truncated captured.packets) captured entries (few_entries by.policy rules packets verdicts)))
@@ -101,7 +101,7 @@ objects_tell by rules are = record {
     packets_told : (packets : List PacketFacts) (verdicts : List Verdict) → lines_in (objects_wording by.shown by.policy rules (rule_texts by.text)) 1 packets verdicts
         ≡ object_lines (told_from (packet_objects by.shown (rule_texts by.text)) 1 (entries_on by.policy rules packets verdicts))
     packets_told packets verdicts =
-        lines_by by.policy rules (λ n entry. object_lines (packet_objects by.shown (rule_texts by.text) n entry)) end_objects 1 packets verdicts
+        lines_of_entries by.policy rules (λ n entry. object_lines (packet_objects by.shown (rule_texts by.text) n entry)) 1 packets verdicts
         ∙ sym (lines_from (packet_objects by.shown (rule_texts by.text)) 1 (entries_on by.policy rules packets verdicts))
 
     end_told : (verdicts : List Verdict) (n : ℕ) (truncated : Bool) → length verdicts ≡ n
@@ -128,6 +128,26 @@ objects_tell by rules are = record {
         (few_entries by.policy rules packets verdicts)))
         ∙ sym (object_lines-append (captures_told (λ captured. packet_objects by.shown (rule_texts by.text)) truncation_objects 1 entries (captured ∷ [])) (totals ∷ []))
 
+-- ---- Several captures
+
+-- explained lines that name interfaces, by the rules of the text
+pub explained_names_tell : (by : ToldBy) (rules : List RuleLine) → AreRules by.text rules
+    → TellsLines AreNamedLines by (explained_wording by.shown true by.policy rules (rule_texts by.text))
+explained_names_tell by rules are = record {
+  lines = λ packets verdicts each. (
+    entries_on by.policy rules packets verdicts,
+    entries_by_rules (run_by by packets verdicts []) rules are,
+    lines_of_entries by.policy rules (λ n entry. shown_line by.shown (rule_texts by.text) (Some entry.interface) n entry) 1 packets verdicts,
+  );
+}
+
+-- objects
+pub objects_tell_lines : (by : ToldBy) (rules : List RuleLine) → AreRules by.text rules
+    → TellsLines AreObjectLines by (objects_wording by.shown by.policy rules (rule_texts by.text))
+objects_tell_lines by rules are = let tells = objects_tell by rules are in record { lines = tells.lines }
+
+-- ---- There is a way
+
 -- the rules that a text says
 pub said_rules : (by : ToldBy) → IsPolicyText by.text by.policy → AreRules by.text (rules_from [] (map said (lines by.text)))
 said_rules by is = policy_rules by.text by.policy (rules_from [] (map said (lines by.text))) refl is
@@ -139,3 +159,7 @@ some_explained by is = (_, explained_tells by _ (said_rules by is))
 -- and in objects
 pub some_objects : (by : ToldBy) → IsPolicyText by.text by.policy → (wording : Wording) × TellsRun AreObjectLines IsToldInObjects by wording
 some_objects by is = (_, objects_tell by _ (said_rules by is))
+
+-- in explained lines that name interfaces
+pub some_named : (by : ToldBy) → IsPolicyText by.text by.policy → (wording : Wording) × TellsLines AreNamedLines by wording
+some_named by is = (_, explained_names_tell by _ (said_rules by is))

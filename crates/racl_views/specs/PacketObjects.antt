@@ -1,5 +1,6 @@
 -- What a run's packets, captures and totals are as objects of JSON; what isn't known has no key (this project's profile).
 use Rattle.std.specs.Prelude.{◌≡◌, ℕ, ◌==◌, ◌-◌, ◌||◌, true, List, [], ◌∷◌, ◌++◌, codes, get_or, unwrap_or, if◌then◌else◌}
+use Rattle.std.specs.List.{flat_map}
 use Rattle.json.specs.Json.{Json, boolean}
 use Rattle.packet_view.specs.Addresses.{icmp_of}
 use Rattle.packet_view.specs.Frames.{FrameFacts, Ip, Malformed, NotIp, Short}
@@ -121,15 +122,23 @@ abbrev pub truncation_object : Captured → Json
 truncation_object captured =
     object_of (number (codes "interface") (unwrap_or captured.named 0) ∷ number (codes "truncated_after") captured.packets ∷ [])
 
+-- of another there is none
+abbrev pub truncation_objects : Captured → List Json
+truncation_objects captured = if captured.truncated then truncation_object captured ∷ [] else []
+
 -- that of the totals
 abbrev pub totals_object : Totals → Json
 totals_object t =
     object_of (number (codes "packets") t.packets ∷ number (codes "pass") t.passed ∷ number (codes "drop") t.dropped ∷ [])
 
+-- what stands behind the objects of the packets of several captures
+abbrev pub object_ends : List Captured → Totals → List ℕ
+object_ends captures totals = object_lines (flat_map truncation_objects captures ++ totals_object totals ∷ [])
+
 -- those of all packets that are shown, of truncations and of the totals
 abbrev pub run_objects : RunFacts → List EntryFacts → List Json
 run_objects run entries =
-    captures_told (λ captured. packet_objects run.shown (rule_texts run.text)) (λ captured. if captured.truncated then truncation_object captured ∷ [] else []) 1 entries run.captures
+    captures_told (λ captured. packet_objects run.shown (rule_texts run.text)) truncation_objects 1 entries run.captures
     ++ totals_object (totals_of run.verdicts run.captures) ∷ []
 
 -- what is told of a run in objects

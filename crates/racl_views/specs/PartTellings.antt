@@ -1,5 +1,5 @@
 -- Packets of a run that are told one part after the other, while its capture comes (this project's profile).
-use Rattle.std.specs.Prelude.{◌≡◌, ℕ, Bool, List, [], None, length}
+use Rattle.std.specs.Prelude.{◌≡◌, ℕ, Bool, List, [], None, Some, length}
 use Rattle.packet_view.specs.Captures.{PacketFacts}
 use Rattle.acl_policy.specs.Policies.{PolicyFacts}
 use Rattle.session_state.specs.declared.shown_verdicts.Shown.{Shown}
@@ -18,6 +18,11 @@ abbrev pub AreExplainedLines : RunFacts → List ℕ → Type 0
 AreExplainedLines run told =
     (entries : List EntryFacts) × HasEntries run entries × (told ≡ told_from (shown_line run.shown (rule_texts run.text) None) 1 entries)
 
+-- those that name each packet's own interface
+abbrev pub AreNamedLines : RunFacts → List ℕ → Type 0
+AreNamedLines run told = (entries : List EntryFacts) × HasEntries run entries
+    × (told ≡ told_from (λ n entry. shown_line run.shown (rule_texts run.text) (Some entry.interface) n entry) 1 entries)
+
 -- the objects of its packets alone
 abbrev pub AreObjectLines : RunFacts → List ℕ → Type 0
 AreObjectLines run told =
@@ -32,6 +37,11 @@ pub record ToldBy : Type 0 where
 abbrev pub run_by : ToldBy → List PacketFacts → List Verdict → List Captured → RunFacts
 run_by by packets verdicts captures =
     record { policy = by.policy; text = by.text; packets = packets; verdicts = verdicts; captures = captures; shown = by.shown }
+
+-- What is told of the first packets of captures is their lines.
+pub record TellsLines (Lines : RunFacts → List ℕ → Type 0) (by : ToldBy) (wording : Wording) : Type 0 where
+  pub lines : (packets : List PacketFacts) (verdicts : List Verdict) → length verdicts ≡ length packets
+      → Lines (run_by by packets verdicts []) (lines_in wording 1 packets verdicts)
 
 -- What is told of the first packets of a capture is their lines, and all that is told of it is the report on it.
 pub record TellsRun (Lines Report : RunFacts → List ℕ → Type 0) (by : ToldBy) (wording : Wording) : Type 0 where

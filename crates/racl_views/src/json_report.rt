@@ -5,7 +5,8 @@ ghost use Rattle.packet_view.specs.CheckedCaptures.{remaining};
 ghost use Rattle.acl_policy.specs.Policies.{IsPolicyText, policy_facts};
 ghost use Rattle.racl_io.specs.Reports.{packets_in, totals_of};
 ghost use Rattle.racl_io.specs.Sinks.{Writes};
-ghost use Rattle.racl_views.specs.PacketObjects.{IsToldInObjects};
+ghost use Rattle.racl_io.specs.Tellings.{HasToldText};
+ghost use Rattle.racl_views.specs.PacketObjects.{IsToldInObjects, object_ends};
 ghost use Rattle.racl_views.specs.RuleTexts.{shown_of};
 ghost use Rattle.racl_views.specs.RunEntries.{captures_told, run_facts, told_from};
 ghost use Rattle.racl_views.specs.inner.PartWordings.{end_objects, objects_wording};
@@ -14,13 +15,12 @@ ghost use Rattle.racl_views.specs.inner.Tellings.{IsTableOf, entries_by, entry_b
 use crate::json_objects::{push_packet, push_totals, push_truncation};
 use crate::packet_entry::entry_of;
 use crate::packet_telling::Telling;
-use crate::passed_count::passed;
 use crate::rule_lines_by_place::rule_table_by_place;
 use crate::rule_table::RuleTable;
 use crate::run_and_verdicts::Run;
 use acl_policy::Policy;
 use packet_view::{Packet, Packets};
-use racl_io::{Captured, Fault, Sink, Teller, Totals, totals_on, write_all};
+use racl_io::{Captured, Fault, Sink, Teller, Totals, passed, totals_on, write_all};
 use session_state::{Shown, Verdict, has_line};
 use std::alloc::{AllocError, Global};
 
@@ -232,5 +232,37 @@ impl<'a> Teller for ObjectLines<'a> {
             Ok(text) => write_all(writer, &text),
             Err(_) => Err(Fault::Memory),
         }
+    }
+}
+
+// The objects behind those of the packets of several captures.
+fn objects_at_ends(
+    alloc: Global,
+    captures: &[Captured],
+    totals: &Totals,
+) -> Result<Vec<u8>, AllocError>
+    ensures { IfOk result (λ text. text.items ≡ object_ends captures.now totals.now) }
+{
+    let mut text = Vec::new(alloc);
+    'each: for captured in captures {
+        text = tell_truncation_in_json(text, captured)?;
+    }
+    push_totals(text, totals)
+}
+
+/// Writes what stands behind the objects of the packets of several captures: the object of each that is truncated, and that of
+/// the totals. Memory is asked for before the first byte is written.
+pub fn write_object_ends<W: Sink>(
+    alloc: Global,
+    writer: &mut W,
+    captures: &[Captured],
+    totals: &Totals,
+) -> Result<(), Fault>
+    requires { W.failures writer.old < 2 ^ 64 - 1 }
+    ensures { HasToldText W.bytes W.failures writer.old writer.new (object_ends captures.now totals.now) result }
+{
+    match objects_at_ends(alloc, captures, totals) {
+        Ok(text) => write_all(writer, &text),
+        Err(_) => Err(Fault::Memory),
     }
 }

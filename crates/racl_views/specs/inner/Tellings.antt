@@ -1,21 +1,15 @@
 -- What is told while packets are told.
-use Rattle.std.specs.Prelude.{◌≡◌, ◌+◌, ◌++◌, ℕ, if◌then◌else◌, List, [], ◌∷◌, Option, Result, IfErr, OnErr, OnOk, map, ⊤}
-use Rattle.std.specs.Io.KnownBytes.{Appends}
-use Rattle.json.specs.Json.{Json}
+use Rattle.std.specs.Prelude.{◌≡◌, ℕ, Bool, if◌then◌else◌, List, Option, Some, map}
 use Rattle.packet_view.specs.Captures.{PacketFacts}
 use Rattle.acl_policy.specs.Policies.{IsPolicyText, PolicyFacts, policy_facts}
 use Rattle.session_state.specs.declared.verdict.Verdict.{Verdict}
-use Rattle.racl_io.specs.declared.fault.Fault.{Fault}
-use Rattle.racl_io.specs.declared.fault.Fault.TheVariants.{Write}
 use Rattle.racl_io.specs.declared.totals_and_truncation.Captured.{Captured}
-use Rattle.racl_io.specs.Reports.{truncation_line}
-use Rattle.racl_io.specs.Sinks.{GotFront}
 use Rattle.racl_views.specs.declared.rule_table.RuleTable.{RuleTable}
 use Rattle.racl_views.specs.declared.packet_telling.Telling.{Telling}
 use Rattle.racl_views.specs.Entries.{EntryFacts}
 use Rattle.racl_views.specs.ExplainedLines.{shown_line}
 use Rattle.racl_views.specs.Objects.{object_lines}
-use Rattle.racl_views.specs.PacketObjects.{packet_objects, truncation_object}
+use Rattle.racl_views.specs.PacketObjects.{packet_objects, truncation_objects}
 use Rattle.racl_views.specs.RuleLines.{AreRules}
 use Rattle.racl_views.specs.RuleTexts.{rule_texts, shown_of}
 use Rattle.racl_views.specs.inner.EntryLists.{entries_on, entry_on}
@@ -28,19 +22,19 @@ texts_by t = map shown_of t.table.now.texts.items
 abbrev pub line_by : Telling → Option ℕ → ℕ → EntryFacts → List ℕ
 line_by t named = shown_line t.shown (texts_by t) named
 
--- the line of a truncation, where there is one
-abbrev pub truncation_told : Captured → List ℕ
-truncation_told captured = truncation_line captured.named captured.truncated captured.packets
+-- the interface that a packet's line names: the packet's own, or that of all
+abbrev pub name_for : Bool → Option ℕ → EntryFacts → Option ℕ
+name_for names named entry = if names then Some entry.interface else named
+
+-- the explained line that names it
+abbrev pub line_named : Telling → Bool → Option ℕ → ℕ → EntryFacts → List ℕ
+line_named t names named n entry = line_by t (name_for names named entry) n entry
 
 -- the line of its object, where it is shown
 abbrev pub object_by : Telling → ℕ → EntryFacts → List ℕ
 object_by t n entry = object_lines (packet_objects t.shown (texts_by t) n entry)
 
--- the object of a capture that is truncated, and of another none
-abbrev pub truncation_objects : Captured → List Json
-truncation_objects captured = if captured.truncated then truncation_object captured ∷ [] else []
-
--- that of a truncation
+-- that of the object of a capture that is truncated
 abbrev pub truncation_by : Captured → List ℕ
 truncation_by captured = object_lines (truncation_objects captured)
 
@@ -56,13 +50,3 @@ entry_by t packet verdict = entry_on (policy_facts t.policy.now) t.table.now.rul
 abbrev pub IsTableOf : List ℕ → RuleTable → Type 0
 IsTableOf text table =
     (policy : PolicyFacts) → IsPolicyText text policy → AreRules text table.rules.items × (map shown_of table.texts.items ≡ rule_texts text)
-
--- A sink and a piece got this text: what the piece had and the text were written, up to what it has now. Or the sink failed
--- once more, and got a front of what the piece had.
-abbrev pub HasPushed : {W : Type 0} → (W → Option (List ℕ)) → (W → ℕ) → W → W → List ℕ → List ℕ → List ℕ → Result ⊤ Fault → Type 0
-HasPushed bytes failures old new before after text result =
-    OnOk result ((written : List ℕ) × Appends (bytes old) (bytes new) written × (before ++ text ≡ written ++ after))
-    × OnOk result (failures new ≡ failures old)
-    × OnErr result (failures new ≡ failures old + 1)
-    × IfErr result (λ e. e ≡ Write)
-    × OnErr result (GotFront (bytes old) (bytes new) before)

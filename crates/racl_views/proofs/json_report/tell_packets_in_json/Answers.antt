@@ -3,11 +3,12 @@ use Rattle.std.proofs.Math.ListN.{drop_of_length-le}
 use Rattle.packet_view.specs.Captures.{PacketFacts, packet_facts}
 use Rattle.packet_view.specs.CheckedCaptures.{remaining}
 use Rattle.acl_policy.specs.Policies.{policy_facts}
+use Rattle.racl_io.proofs.LeftLemmas.{left_more, left_none}
 use Rattle.racl_views.specs.Entries.{EntryFacts}
 use Rattle.racl_views.specs.RunEntries.{told_from}
 use Rattle.racl_views.specs.inner.EntryLists.{entries_on}
 use Rattle.racl_views.specs.inner.Tellings.{entries_by, object_by}
-use Rattle.racl_views.proofs.EntryLemmas.{entries_next, left_more, left_none, no_entries, told_all}
+use Rattle.racl_views.proofs.EntryLemmas.{entries_next, no_entries, told_all}
 use Rattle.racl_views.proofs.json_report.tell_packets_in_json.Goals as goal
 
 pub verdicts-preserved : goal.verdicts-preserved

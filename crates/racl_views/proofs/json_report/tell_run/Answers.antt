@@ -2,9 +2,8 @@ use Rattle.std.proofs.Common.{◌∙◌, ◌++◌, ℕ, List, [], ◌∷◌, ap,
 use Rattle.racl_io.specs.declared.totals_and_truncation.Totals.{Totals}
 use Rattle.racl_io.specs.Reports.{totals_of}
 use Rattle.racl_views.specs.Objects.{object_line, object_lines}
-use Rattle.racl_views.specs.PacketObjects.{packet_objects, totals_object}
+use Rattle.racl_views.specs.PacketObjects.{packet_objects, totals_object, truncation_objects}
 use Rattle.racl_views.specs.RuleTexts.{shown_of}
-use Rattle.racl_views.specs.inner.Tellings.{truncation_objects}
 use Rattle.racl_views.specs.RunEntries.{captures_told, run_facts}
 use Rattle.racl_views.specs.inner.EntryLists.{entries_on}
 use Rattle.racl_views.proofs.EntryLemmas.{entries_by_rules}

@@ -8,8 +8,7 @@ use Rattle.racl_views.specs.PacketObjects.{packet_objects}
 use Rattle.racl_views.specs.RuleTexts.{shown_of}
 use Rattle.racl_views.specs.RunEntries.{told_from}
 use Rattle.racl_views.specs.inner.EntryLists.{entries_on}
-use Rattle.racl_views.specs.inner.PartWordings.{end_objects}
-use Rattle.racl_views.proofs.PartLemmas.{lines_by}
+use Rattle.racl_views.proofs.PartLemmas.{lines_of_entries}
 use Rattle.racl_views.proofs.json_report.ObjectLinesTeller.tell.Goals as goal
 
 pub returns-in-Ok-write_all-clause-told : goal.returns-in-Ok-write_all-clause-told
@@ -20,7 +19,7 @@ returns-in-Ok-write_all-clause-told g c =
     let packets = remaining c.args.packets in
     let n = c.args.others + 1 in
     let told = told_from (λ m entry. object_lines (packet_objects teller.shown (map shown_of teller.table.texts.items) m entry)) n (entries_on policy rules packets c.args.verdicts.now) in
-    let same = lines_by policy rules (λ m entry. object_lines (packet_objects teller.shown (map shown_of teller.table.texts.items) m entry)) end_objects n packets c.args.verdicts.now
+    let same = lines_of_entries policy rules (λ m entry. object_lines (packet_objects teller.shown (map shown_of teller.table.texts.items) m entry)) n packets c.args.verdicts.now
     ∙ sym (c.deref.ensures.value ∙ c.in-Ok.ensures.told ∙ ap (λ (t : List ℕ). t ++ told) c.new-text.ensures.items) in (
       subst (λ (t : List ℕ). Appends (g.W.Sink.bytes c.args.writer.now) (g.W.Sink.bytes c.write_all.new.writer) t) (sym same) c.in-Ok-write_all.ensures.whole,
       c.in-Ok-write_all.ensures.ok,
@@ -34,7 +33,7 @@ returns-clause-told g c =
     let packets = remaining c.args.packets in
     let n = c.args.others + 1 in
     let told = told_from (λ m entry. object_lines (packet_objects teller.shown (map shown_of teller.table.texts.items) m entry)) n (entries_on policy rules packets c.args.verdicts.now) in
-    let same = lines_by policy rules (λ m entry. object_lines (packet_objects teller.shown (map shown_of teller.table.texts.items) m entry)) end_objects n packets c.args.verdicts.now
+    let same = lines_of_entries policy rules (λ m entry. object_lines (packet_objects teller.shown (map shown_of teller.table.texts.items) m entry)) n packets c.args.verdicts.now
     ∙ sym (c.deref.ensures.value ∙ c.in-Ok.ensures.told ∙ ap (λ (t : List ℕ). t ++ told) c.new-text.ensures.items) in
     let wrote = c.in-Err-write_all.ensures in
     told_put_as {A = ℕ} g.W.Sink.bytes g.W.Sink.failures c.args.writer.now c.write_all.new.writer _ _ (Err c.in-Err-write_all.fault) same tt tt wrote.failed wrote.fault wrote.front

@@ -1,6 +1,6 @@
 use Rattle.std.proofs.Common.{◌≡◌, take}
 use Rattle.racl_io.specs.Reports
-use Rattle.racl_views.proofs.passed_count.passed.Given as goal
+use Rattle.racl_io.proofs.passed_count.passed.Given as goal
 
 -- those so far are counted
 abbrev pub invariant-verdicts : goal.invariant-verdicts
