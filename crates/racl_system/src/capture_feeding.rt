@@ -1,5 +1,5 @@
 //! Bytes of captures that come apart, as threads that read hand them on.
-ghost use Rattle.std.specs.Prelude.{◌≤◌, IfSome, length};
+ghost use Rattle.std.specs.Prelude.{◌≡◌, ◌≤◌, IfSome, length};
 
 use capture_stream::Arrival;
 use crossbeam_channel::Sender;
@@ -27,7 +27,8 @@ pub enum Fed {
     Refused,
 }
 
-/// Where the bytes of the capture of an interface are handed on.
+/// Where the bytes of the capture of an interface are handed on. No clause can name what a channel holds, so that what its
+/// methods hand on has none, but that no part is too long, which is a fact of `Part`.
 #[derive(Drop)]
 pub struct Feed {
     pub alloc: Global,
@@ -38,7 +39,7 @@ pub struct Feed {
 // Some bytes of a capture; None where memory ran out.
 fn part_of(alloc: Global, interface: u8, bytes: &[u8]) -> Option<Part>
     requires { length bytes.now ≤ 65536 }
-    ensures { IfSome result (λ part. length part.arrival.bytes.items ≤ 65536) }
+    ensures { IfSome result (λ part. (part.arrival.interface ≡ interface) × (part.arrival.bytes.items ≡ bytes.now)) }
 {
     let Ok(bytes) = Vec::from_slice(alloc, bytes) else {
         return None;

@@ -1,4 +1,7 @@
 //! The captures of a live run on several interfaces, each of which is read as it comes.
+ghost use Rattle.std.specs.Prelude.{◌≡◌, ◌≤◌, IfErr, IfOk, IfSome, None, length};
+ghost use Rattle.racl_io.specs.Inputs.{most_bytes};
+ghost use Rattle.racl_system.specs.Readers.{IsLiveStatus};
 
 use crate::capture_feeding::{Fed, Feed, Part};
 use crate::live_files::live_policy_text;
@@ -115,7 +118,9 @@ fn begin_captures<'a, T: Threads + Wait + Copy + Send + 'static>(
     rt: &'a T,
     alloc: Global,
     captures: &[CaptureFile<'_>],
-) -> io::Result<Option<ComingCaptures<'a, T>>> {
+) -> io::Result<Option<ComingCaptures<'a, T>>>
+    ensures { IfOk result (λ found. IfSome found (λ coming. (coming.left ≡ length captures.now) × (coming.failures ≡ 0))) }
+{
     let (to, from) = bounded(alloc, MOST_WAITING)?;
     let mut files = Vec::new(alloc);
     for file in captures {
@@ -125,8 +130,10 @@ fn begin_captures<'a, T: Threads + Wait + Copy + Send + 'static>(
             return Ok(None);
         }
     }
-    let copied = *rt;
-    let _ = spawn(rt, move || hand_merged(&copied, files))?;
+    if !files.is_empty() {
+        let copied = *rt;
+        let _ = spawn(rt, move || hand_merged(&copied, files))?;
+    }
     Ok(Some(ComingCaptures {
         rt,
         from,
@@ -160,13 +167,19 @@ fn unread_of(alloc: Global, captures: &[CaptureFile<'_>]) -> Vec<Seen<'static>> 
 
 /// Reads the policy of a live run on several interfaces, of which it says what is unlikely to be meant, and has threads read the
 /// captures: regular files in one, in the order of their packets' moments, and each other one as it comes. Where one can't be had,
-/// or two are of one interface, that is told, and the status is answered.
+/// or two are of one interface, that is told, and the status is answered: 1 where two are, or the text is too large, else 4. No
+/// clause can name what the threads hand on.
 pub fn opened_live_interfaces<'a, T: Threads + Wait + Copy + Send + 'static>(
     system: &HostRuntime,
     rt: &'a T,
     alloc: Global,
     interfaces: &Interfaces<'_>,
-) -> io::Result<Result<LiveInterfaces<'a, T>, u8>> {
+) -> io::Result<Result<LiveInterfaces<'a, T>, u8>>
+    ensures few { IfOk result (λ found. IfOk found (λ opened. length opened.text.items ≤ most_bytes)) }
+    ensures left { IfOk result (λ found. IfOk found (λ opened. opened.captures.left ≡ length interfaces.now.captures.items)) }
+    ensures failures { IfOk result (λ found. IfOk found (λ opened. opened.captures.failures ≡ 0)) }
+    ensures status { IfOk result (λ found. IfErr found (IsLiveStatus None)) }
+{
     let text = match live_policy_text(system, alloc, interfaces.policy) {
         Ok(Ok(text)) => text,
         Ok(Err(status)) => return Ok(Err(status)),

@@ -2,7 +2,7 @@
 ghost use Rattle.std.specs.Prelude.{◌≡◌, IfOk, IsTrue, false};
 ghost use Rattle.racl_io.specs.Faults.{IsFaultOfCapture};
 ghost use Rattle.racl_report.specs.Statuses.{status_of};
-ghost use Rattle.racl_system.specs.LiveInterfaces.{placeless_outcome};
+ghost use Rattle.racl_system.specs.LiveInterfaces.{can_be_of_capture, placeless_outcome};
 
 use crate::say_and_answer_status::say_ending;
 use crate::say_policy_remarks::{Seen, say_foreign, say_unlooked};
@@ -277,6 +277,41 @@ pub fn say_end_of_live(
     Ok(status)
 }
 
+// Whether a fault is one of a capture, whatever its part that came last has to do with it.
+fn is_of_capture(fault: Fault) -> bool
+    ensures { result ≡ can_be_of_capture fault }
+{
+    matches!(
+        fault,
+        Fault::Read
+            | Fault::Short
+            | Fault::Magic
+            | Fault::Version
+            | Fault::LinkType
+            | Fault::LongRecord(_)
+    )
+}
+
+// Says which of the captures of interfaces has the fault with which a live run ended, where one has it.
+fn say_faulty_live(
+    rt: &impl Eprint,
+    interfaces: &Interfaces<'_>,
+    found: &FaultAt,
+) -> io::Result<()> {
+    let FaultAt { fault, interface } = *found;
+    if !is_of_capture(fault) {
+        return Ok(());
+    }
+    let is_one = interfaces.captures.len() == 1;
+    for file in interfaces.captures.as_slice() {
+        if interface == Some(file.interface) {
+            let shown = if is_one { None } else { interface };
+            say_remark(rt, file.name, shown, &[], fault)?;
+        }
+    }
+    Ok(())
+}
+
 /// Says how a live run on several interfaces ended, and which capture has the fault, where one has it; and answers the status.
 pub fn say_end_of_live_interfaces(
     rt: &impl Eprint,
@@ -295,16 +330,8 @@ pub fn say_end_of_live_interfaces(
         Ok(status) => status,
         Err(error) => return Err(error),
     };
-    if let Err(FaultAt {
-        fault,
-        interface: Some(number),
-    }) = outcome
-    {
-        for file in interfaces.captures.as_slice() {
-            if file.interface == *number {
-                say_remark(rt, file.name, Some(*number), &[], *fault)?;
-            }
-        }
+    if let Err(found) = outcome {
+        say_faulty_live(rt, interfaces, found)?;
     }
     if let Some(hint) = hint(&told, text) {
         rt.eprintln(&hint)?;

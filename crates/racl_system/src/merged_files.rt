@@ -1,4 +1,5 @@
 //! Captures in regular files, whose packets are handed on together, in the order of their moments.
+ghost use Rattle.std.specs.Prelude.{[], ◌≡◌, None, false};
 
 use crate::capture_feeding::{Feed, PART_BYTES};
 use packet_view::{Order, Piece, capture_header, next_record};
@@ -37,7 +38,14 @@ struct Turn {
 
 impl<F: Read> MergedFile<F> {
     /// A file of which nothing was read.
-    pub fn new(feed: Feed, file: F) -> MergedFile<F> {
+    pub fn new(feed: Feed, file: F) -> MergedFile<F>
+        ensures feed { result.feed ≡ feed }
+        ensures source { result.source ≡ record { inner = file; failures = 0 } }
+        ensures order { result.order ≡ None }
+        ensures held { result.held.items ≡ [] }
+        ensures handed { result.handed ≡ 0 }
+        ensures ended { result.ended ≡ false }
+    {
         let held = Vec::new(feed.alloc);
         MergedFile {
             feed,
@@ -85,12 +93,13 @@ impl<F: Read> MergedFile<F> {
 
     // Hands on the header, where it is whole and right. Of a wrong one all stays, and no more is read. Whether more is wanted.
     fn take_header(&mut self, rt: &impl Wait) -> bool {
-        if self.order.is_some() || self.rest().len() < HEADER_BYTES {
+        let rest = self.rest();
+        if self.order.is_some() || rest.len() < HEADER_BYTES {
             return true;
         }
-        match capture_header(self.rest()) {
+        match capture_header(rest) {
             Ok(order) => {
-                let is_wanted = self.feed.hand_all(rt, &self.rest()[..HEADER_BYTES]);
+                let is_wanted = self.feed.hand_all(rt, &rest[..HEADER_BYTES]);
                 self.order = Some(order);
                 self.handed = self.handed.saturating_add(HEADER_BYTES);
                 is_wanted
@@ -102,6 +111,15 @@ impl<F: Read> MergedFile<F> {
         }
     }
 
+    // Whether its header was handed on. One that is wrong or short is handed on now, before the packets of other files, since
+    // nothing is wanted behind it.
+    fn has_header(&self, rt: &impl Wait) -> bool {
+        if self.order.is_none() {
+            let _ = self.hand_rest(rt);
+        }
+        self.order.is_some()
+    }
+
     // Reads until a record is whole, or no more can be read. Whether more is wanted.
     fn fill(&mut self, rt: &impl Wait) -> bool {
         'reads: for _ in rt.forever() {
@@ -109,7 +127,7 @@ impl<F: Read> MergedFile<F> {
                 return false;
             }
             if !self.wants_more() {
-                return true;
+                return self.has_header(rt);
             }
             match self.read_more() {
                 Ok(()) => {}
