@@ -168,7 +168,7 @@ class LiveInterfaces(Case):
 
     def test_long_record_behind_others(self):
         got = self.live([(1, header() + ONE[0] + LONG)])
-        self.compare(got, wanted(b"1 if 1 pass rule 1 reflect\n", f"racl: record 2 is too long\nracl: that is {self.folder}/1, the capture of interface 1\n{PUT_TOGETHER}", 1))
+        self.compare(got, wanted(b"1 if 1 pass rule 1 reflect\n", f"racl: record 2 is too long\nracl: that is {self.folder}/1\n{PUT_TOGETHER}", 1))
 
     def test_missing_files(self):
         words, missing = self.words_of(BOTH), f"{self.folder}/missing"

@@ -15,11 +15,12 @@ use racl_cli::{
 use racl_io::{Device, Fault, FrontKept, Source};
 use racl_options::{Asked, DiffFiles, Files, Interfaces, Options, Origin, diff_options};
 use racl_system::{
-    DiffInput, ExpectingInput, LiveFiles, LiveInterfaces, Output, Ran, SeenFiles, Watched, asked_or_status,
-    diff_or_status, expansion_status, failure_status, opened_diff, opened_expecting, opened_input,
-    opened_live, opened_live_interfaces, read_interface_input, saves_to, say_capture_fault, say_end_of_interfaces,
-    say_end_of_live, say_end_of_live_interfaces, say_end_of_run, say_outcome, say_policy_fault, say_unsaved, say_used_twice,
-    say_wrong_expectations, settled, standard_source, texts_of, watched_where,
+    DiffInput, ExpectingInput, LiveFiles, LiveInterfaces, Output, Ran, SeenFiles, Watched,
+    asked_or_status, diff_or_status, expansion_status, failure_status, opened_diff,
+    opened_expecting, opened_input, opened_live, opened_live_interfaces, read_interface_input,
+    saves_to, say_capture_fault, say_end_of_interfaces, say_end_of_live,
+    say_end_of_live_interfaces, say_end_of_run, say_outcome, say_policy_fault, say_unsaved,
+    say_used_twice, say_wrong_expectations, settled, standard_source, texts_of, watched_where,
 };
 use std::alloc::Global;
 use std::env::args;
@@ -261,7 +262,9 @@ fn status_of_live_interfaces<T: Threads + Wait + Sync + Copy + Send + 'static>(
     options: &Options,
     interfaces: &Interfaces<'_>,
 ) -> io::Result<u8> {
-    let LiveInterfaces { text, mut captures } = match opened_live_interfaces(rt, threads, alloc, interfaces) {
+    let LiveInterfaces { text, mut captures } = match opened_live_interfaces(
+        rt, threads, alloc, interfaces,
+    ) {
         Ok(Ok(opened)) => opened,
         Ok(Err(status)) => return Ok(status),
         Err(error) => return Err(error),
