@@ -1,5 +1,5 @@
 -- Several captures that come, from one part to the next, to their end or a fault.
-use Rattle.std.proofs.Common.{◌≡◌, ◌≢◌, ◌∙◌, ◌≤◌, ◌<◌, ◌+◌, ◌-◌, ◌⊎◌, ℕ, Bool, List, [], ◌∷◌, ◌++◌, Option, Some, None, ap, append-nil, append_assoc, arith, inl, inr, length, refl, subst, sym}
+use Rattle.std.proofs.Common.{◌≡◌, ◌∙◌, ◌≤◌, ◌⊎◌, ℕ, List, [], ◌∷◌, ◌++◌, Option, Some, None, ap, append-nil, append_assoc, arith, inl, inr, length, refl, subst, sym}
 use Rattle.std.proofs.lemmas.List.Sums.{count_by-le-length}
 use Rattle.std.proofs.KnownBytes.{Appends-nil}
 use Rattle.packet_view.specs.Captures.{PacketFacts, RecordFacts}
@@ -9,13 +9,12 @@ use Rattle.session_state.specs.Passes.{passes}
 use Rattle.session_state.specs.declared.verdict.Verdict.{Verdict}
 use Rattle.racl_io.specs.declared.fault.Fault.{Fault}
 use Rattle.racl_io.specs.declared.fault.Fault.TheVariants as fault
-use Rattle.racl_io.specs.declared.totals_and_truncation.Totals.{Totals}
 use Rattle.racl_io.specs.Faults.{capture_fault}
-use Rattle.racl_io.specs.Reports.{is_truncated, passed, totals_of, without_pages}
+use Rattle.racl_io.specs.Reports.{is_truncated}
 use Rattle.racl_io.specs.Tellings.{Wording}
 use Rattle.racl_io.proofs.ReportLemmas.{totals_counted}
 use Rattle.capture_stream.specs.Arrivals.{AreAllGiven, Gives, Part, part_in}
-use Rattle.capture_stream.specs.ComingCaptures.{HasToldCaptures, HasToldFront, HasToldTurns, IsFaultOfComing}
+use Rattle.capture_stream.specs.ComingCaptures.{HasToldCaptures, HasToldTurns, IsFaultOfComing}
 use Rattle.capture_stream.specs.Lives.{most_live, with_read}
 use Rattle.capture_stream.specs.Turns.{Turn, cuts_of, packets_of, parts_of}
 use Rattle.capture_stream.specs.declared.arrival.Arrival.{Arrival}

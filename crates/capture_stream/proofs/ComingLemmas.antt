@@ -1,9 +1,9 @@
 -- Several captures that come: all of them after each part, at their end and at a fault.
-use Rattle.std.proofs.Common.{◌≡◌, ◌≢◌, ◌∙◌, ◌≤◌, ◌<◌, ◌+◌, ◌-◌, ◌^◌, ◌⊎◌, ℕ, Bool, List, [], ◌∷◌, ◌++◌, Option, Some, None, ap, ap₂, append-nil, append_assoc, arith, eq-eqb, eqb-true, inl, inr, length, refl, subst, sym, true, false, true≢false}
+use Rattle.std.proofs.Common.{◌≡◌, ◌≢◌, ◌∙◌, ◌≤◌, ◌<◌, ◌+◌, ◌⊎◌, ℕ, Bool, List, [], ◌∷◌, ◌++◌, Option, ap, ap₂, append-nil, arith, eq-eqb, eqb-true, inl, inr, length, refl, subst, sym, true, false, true≢false}
 use Rattle.std.specs.Prelude.{get_or, if◌then◌else◌, nat_eq, set, MatchResult, Result, Ok, Err, ⊤}
 use Rattle.std.proofs.lemmas.List.{get_or-set_other, get_or-set_same, length-append, length-map, length-set, set-get_or}
 use Rattle.std.proofs.lemmas.List.Elements.{filter-append}
-use Rattle.std.proofs.KnownBytes.{Appends-nil, Appends-trans}
+use Rattle.std.proofs.KnownBytes.{Appends-trans}
 use Rattle.std.specs.Io.KnownBytes.{Appends}
 use Rattle.packet_view.specs.Captures.{PacketFacts, RecordFacts, packet_at, packets_at}
 use Rattle.packet_view.specs.declared.capture.CaptureFault.TheVariants as capture
@@ -17,16 +17,15 @@ use Rattle.racl_io.specs.Sinks.{GotFront}
 use Rattle.racl_io.specs.Tellings.{Wording, lines_in}
 use Rattle.racl_io.proofs.ReportLemmas.{passed_of_both, without_pages_of_both}
 use Rattle.racl_io.proofs.TellingLemmas.{front_on}
-use Rattle.capture_stream.specs.Arrivals.{Part, part_in}
 use Rattle.capture_stream.specs.Histories.{AreRight, Follows}
 use Rattle.capture_stream.specs.Lives.{AreCounted, most_live}
-use Rattle.capture_stream.specs.Turns.{AreHeaded, AreTurns, HasCaptureEnded, HaveCome, IsTurn, Turn, bytes_at, cuts_of, own_of, packets_of, records_at}
+use Rattle.capture_stream.specs.Turns.{AreHeaded, AreTurns, HaveCome, IsTurn, Turn, bytes_at, cuts_of, own_of, packets_of, records_at}
 use Rattle.capture_stream.specs.declared.arrival.Arrival.{Arrival}
 use Rattle.capture_stream.specs.declared.lane.Lane.{Lane}
 use Rattle.capture_stream.specs.declared.live_telling.Live.{Live}
 use Rattle.capture_stream.specs.declared.arrivals_telling.Coming.{Coming}
-use Rattle.capture_stream.specs.inner.Comings.{AreCutTold, AreTold, HasCutMore, HasLongMore, HasTakenEnd, HasTakenPart, HasToldBytes, HasToldMore, IsBytesFault, IsComing, IsPartFault, MayTurn, lines_after, turn_of}
-use Rattle.capture_stream.specs.inner.Lanes.{AreLanes, IsHeadFault, IsLane}
+use Rattle.capture_stream.specs.inner.Comings.{AreCutTold, AreTold, HasTakenEnd, HasTakenPart, HasToldBytes, IsBytesFault, IsComing, IsPartFault, MayTurn, lines_after, turn_of}
+use Rattle.capture_stream.specs.inner.Lanes.{AreLanes, IsLane}
 use Rattle.capture_stream.proofs.FeedLemmas.{packets_both}
 use Rattle.capture_stream.proofs.TellLemmas.{lines_on}
 use Rattle.capture_stream.proofs.TurnLemmas.{lane_come}

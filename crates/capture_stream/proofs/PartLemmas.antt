@@ -1,5 +1,5 @@
 -- A part of one of several captures: what it adds to the capture's lane.
-use Rattle.std.proofs.Common.{◌≡◌, ◌≢◌, ◌∙◌, ◌<◌, ◌+◌, ◌⊎◌, ℕ, List, [], ◌∷◌, ◌++◌, Option, Some, None, Result, Ok, Err, MatchResult, ap, append_assoc, arith, inl, inr, length, refl, subst, sym}
+use Rattle.std.proofs.Common.{◌≡◌, ◌∙◌, ◌<◌, ◌+◌, ℕ, List, ◌++◌, Option, Some, None, Result, Ok, Err, MatchResult, ap, arith, inl, inr, length, subst, sym}
 use Rattle.std.specs.Prelude.{⊤}
 use Rattle.std.proofs.lemmas.List.{length-append}
 use Rattle.std.specs.Io.KnownBytes.{Appends}
@@ -16,7 +16,7 @@ use Rattle.capture_stream.specs.declared.arrival.Arrival.{Arrival}
 use Rattle.capture_stream.specs.declared.lane.Lane.{Lane}
 use Rattle.capture_stream.specs.declared.live_telling.Live.{Live}
 use Rattle.capture_stream.specs.declared.arrivals_telling.Waiting.{Waiting}
-use Rattle.capture_stream.specs.inner.Comings.{HasCutTurn, HasSaidTurn, HasToldBytes, HasToldMore, HasToldTurn, IsBytesFault, IsTurnFault}
+use Rattle.capture_stream.specs.inner.Comings.{HasToldBytes, HasToldMore, HasToldTurn, IsBytesFault, IsTurnFault}
 use Rattle.capture_stream.specs.inner.Lanes.{HasWaiting, IsLane, IsShort}
 use Rattle.capture_stream.proofs.TurnLemmas.{headed_joined, waiting_longer}
 

@@ -1,11 +1,9 @@
 -- Several captures that come: what waits of one, and what is told of all at each step, at their end and at a fault.
 use Rattle.std.proofs.Common.{◌≡◌, ◌≢◌, ◌∙◌, ◌≤◌, ◌<◌, ◌+◌, ◌-◌, ◌^◌, ◌⊎◌, ℕ, Bool, List, [], ◌∷◌, ◌++◌, Option, Some, None, ap, append-nil, append_assoc, arith, drop, inl, inr, length, refl, subst, sym, take, true, false}
-use Rattle.std.specs.Prelude.{get_or, if◌then◌else◌, nat_eq, set}
-use Rattle.std.proofs.lemmas.List.{get_or-set_other, get_or-set_same, length-append, length-map, length-take-le, take-append-drop}
+use Rattle.std.proofs.lemmas.List.{length-take-le, take-append-drop}
 use Rattle.std.proofs.lemmas.Option.{none-some}
-use Rattle.std.proofs.KnownBytes.{Appends-nil, Appends-trans}
 use Rattle.std.specs.Io.KnownBytes.{Appends}
-use Rattle.packet_view.specs.Captures.{AreRecords, HasFileHeader, IsCutRecord, IsEnd, PacketFacts, RecordFacts, end_of, packet_at, packets_at}
+use Rattle.packet_view.specs.Captures.{AreRecords, HasFileHeader, IsCutRecord, IsEnd, PacketFacts, RecordFacts, end_of, packets_at}
 use Rattle.packet_view.specs.Fronts.{Stops}
 use Rattle.packet_view.specs.declared.capture.CaptureFault.{CaptureFault}
 use Rattle.packet_view.specs.declared.capture.CaptureFault.TheVariants as capture
@@ -19,23 +17,20 @@ use Rattle.racl_io.specs.declared.fault.Fault.{Fault}
 use Rattle.racl_io.specs.declared.fault.Fault.TheVariants as fault
 use Rattle.racl_io.specs.Faults.{capture_fault}
 use Rattle.racl_io.specs.Buffers.{held_by}
-use Rattle.racl_io.specs.Reports.{passed, without_pages}
 use Rattle.racl_io.specs.Sinks.{GotFront}
 use Rattle.racl_io.specs.Tellings.{Wording, lines_in, with_write}
-use Rattle.racl_io.proofs.ReportLemmas.{passed_of_both, without_pages_of_both}
-use Rattle.racl_io.proofs.TellingLemmas.{front_on}
 use Rattle.capture_stream.specs.Histories.{AreRight, Follows}
 use Rattle.capture_stream.specs.Feeding.{rest_in}
 use Rattle.capture_stream.specs.Lives.{HaveFailed, most_live}
-use Rattle.capture_stream.specs.Savings.{Manner, Outputs, manner_of, outputs}
-use Rattle.capture_stream.specs.Turns.{AreHeaded, AreTurns, HasCaptureEnded, HaveCome, IsTurn, Turn, bytes_at, cuts_of, packets_of, records_at}
+use Rattle.capture_stream.specs.Savings.{Outputs, manner_of, outputs}
+use Rattle.capture_stream.specs.Turns.{AreHeaded, HasCaptureEnded, HaveCome}
 use Rattle.capture_stream.specs.declared.lane.Lane.{Lane}
 use Rattle.capture_stream.specs.declared.live_telling.Live.{Live}
 use Rattle.capture_stream.specs.declared.arrivals_telling.Waiting.{Waiting}
-use Rattle.capture_stream.specs.inner.Comings.{HasCutTurn, HasSaidTurn, HasToldTurn, IsLoaded, IsTurnFault, MayTurn, turn_lines}
+use Rattle.capture_stream.specs.inner.Comings.{HasSaidTurn, HasToldTurn, IsLoaded, IsTurnFault, MayTurn, turn_lines}
 use Rattle.capture_stream.specs.inner.Feedings.{IsCutAt, IsLongAt}
-use Rattle.capture_stream.specs.inner.Lanes.{AreLanes, HasWaiting, IsLane, IsShort}
-use Rattle.capture_stream.specs.inner.Tellings.{HasCutWaiting, HasToldWaiting, IsWaitingFault, MayTell, lines_behind}
+use Rattle.capture_stream.specs.inner.Lanes.{HasWaiting, IsLane, IsShort}
+use Rattle.capture_stream.specs.inner.Tellings.{HasToldWaiting, IsWaitingFault, MayTell, lines_behind}
 
 -- ---- One capture
 

@@ -1,5 +1,5 @@
 -- Several captures of which the first packets were told.
-use Rattle.std.specs.Prelude.{◌≡◌, ◌≢◌, ◌+◌, ◌-◌, ◌<◌, ◌≤◌, ◌⊎◌, ◌++◌, ℕ, List, [], ◌∷◌, MatchResult, None, Option, Result, Some, length, ⊤}
+use Rattle.std.specs.Prelude.{◌≡◌, ◌≢◌, ◌+◌, ◌<◌, ◌⊎◌, ◌++◌, ℕ, List, [], ◌∷◌, MatchResult, None, Option, Result, Some, length, ⊤}
 use Rattle.std.specs.Io.KnownBytes.{Appends}
 use Rattle.packet_view.specs.Captures.{AreRecords, IsTooLong, PacketFacts, RecordFacts, packets_at}
 use Rattle.packet_view.specs.Fronts.{Stops}

@@ -1,4 +1,4 @@
-use Rattle.std.proofs.Common.{◌≡◌, ◌∙◌, ◌≤◌, None, Option, arith, length, subst, sym}
+use Rattle.std.proofs.Common.{◌∙◌, ◌≤◌, Option, arith, length, subst, sym}
 use Rattle.packet_view.specs.Captures.{HasFileHeader}
 use Rattle.packet_view.specs.declared.capture.Order.{Order}
 use Rattle.capture_stream.specs.Turns.{AreHeaded}

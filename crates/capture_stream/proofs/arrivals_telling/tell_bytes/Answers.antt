@@ -1,4 +1,4 @@
-use Rattle.std.proofs.Common.{◌++◌, List, Option, Some, inl, refl, subst, ℕ}
+use Rattle.std.proofs.Common.{◌++◌, Option, inl, refl, subst}
 use Rattle.packet_view.specs.declared.capture.Order.{Order}
 use Rattle.racl_io.specs.Buffers.{held_by}
 use Rattle.capture_stream.specs.inner.Lanes.{HasWaiting}

@@ -1,4 +1,4 @@
-use Rattle.std.proofs.Common.{◌≤◌, ap, arith, refl}
+use Rattle.std.proofs.Common.{ap, arith, refl}
 use Rattle.racl_io.specs.Buffers.{held_by}
 use Rattle.capture_stream.proofs.TurnLemmas.{turn_fault, turn_few, turn_long, turn_may, turn_told, written_so}
 use Rattle.capture_stream.proofs.arrivals_telling.tell_turn.Goals as goal
