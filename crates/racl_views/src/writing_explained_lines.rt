@@ -144,11 +144,9 @@ impl<'a> ExplainedLines<'a> {
     ) -> Result<ExplainedLines<'a>, AllocError>
         ensures { IfOk result (λ lines. (lines.shown ≡ shown) × (lines.policy.now ≡ policy.now) × IsTableOf text.now lines.table × (lines.names ≡ true)) }
     {
-        let lines = ExplainedLines::new(alloc, shown, policy, text)?;
-        Ok(ExplainedLines {
-            names: true,
-            ..lines
-        })
+        let mut lines = ExplainedLines::new(alloc, shown, policy, text)?;
+        lines.names = true;
+        Ok(lines)
     }
 }
 

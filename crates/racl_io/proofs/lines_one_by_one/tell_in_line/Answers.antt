@@ -1,4 +1,4 @@
-use Rattle.std.proofs.Common.{◌≡◌, ◌∙◌, ◌++◌, ℕ, List, ap, append-nil, append_assoc, sym}
+use Rattle.std.proofs.Common.{◌∙◌, ◌++◌, ℕ, List, ap, append-nil, append_assoc, sym}
 use Rattle.packet_view.specs.Captures.{packet_facts}
 use Rattle.racl_io.proofs.lines_one_by_one.tell_in_line.Goals as goal
 

@@ -1,4 +1,4 @@
-use Rattle.std.proofs.Common.{◌≡◌, ◌∙◌, ◌++◌, ◌+◌, ℕ, List, ap, drop, flat_map, sym}
+use Rattle.std.proofs.Common.{◌∙◌, ◌++◌, ◌+◌, ℕ, List, ap, drop, flat_map, sym}
 use Rattle.std.proofs.KnownBytes.{Appends-trans}
 use Rattle.std.proofs.Math.ListN.{drop_of_length-le}
 use Rattle.racl_io.specs.declared.totals_and_truncation.Captured.{Captured}
@@ -13,7 +13,7 @@ each-preserved g c =
     let h = c.each.invariant in
     let captures = c.args.captures.now in
     record {
-      front = h.front ++ truncation_of c.each.captured.now;
+      front = h.front ++ _;
       written = Appends-trans _ _ _ _ _ h.written c.in-Ok.ensures.0;
       told = ends_next h.front _ captures c.each.captured-index _ c.args.totals.now c.each-test.true h.told;
       sound = c.in-Ok.ensures.1 ∙ h.sound;
