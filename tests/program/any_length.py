@@ -76,4 +76,4 @@ class AnyLength(Case):
 
     def test_words(self):
         got = self.program.run(["--any-length"], b"pcap\n")
-        self.compare({"status": got["status"], "said": b"--live and --any-length need POLICY CAPTURE" in got["stderr"]}, {"status": 2, "said": True})
+        self.compare({"status": got["status"], "said": b"--any-length needs POLICY CAPTURE, and --live that or --interface" in got["stderr"]}, {"status": 2, "said": True})
