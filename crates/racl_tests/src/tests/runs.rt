@@ -3,6 +3,7 @@ use racl_cli::{Lines, Options, TableSize};
 use session_state::{Shown, Timeouts};
 
 mod live;
+mod live_interfaces;
 mod slow_and_failing_devices;
 
 // For tests of runs: a whole input with a request, its answer, and an answer that nobody asked for.
