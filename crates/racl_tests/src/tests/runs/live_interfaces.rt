@@ -117,7 +117,7 @@ packets 5 pass 2 drop 3
         "\
 {\"packet\":1,\"verdict\":\"pass\",\"reason\":\"rule\",\"rule\":1,\"reflect\":true,\"line\":3,\"text\":\"out permit+reflect ipv4 10.0.0.1 any udp dport 53\",\"interface\":1,\"direction\":\"out\",\"time\":100,\"microsecond\":0,\"bytes\":42,\"protocol\":17,\"source\":\"10.0.0.1\",\"source_port\":1000,\"destination\":\"10.0.0.2\",\"destination_port\":53}
 {\"packet\":4,\"verdict\":\"pass\",\"reason\":\"session\",\"interface\":1,\"direction\":\"in\",\"time\":105,\"microsecond\":0,\"bytes\":42,\"protocol\":17,\"source\":\"10.0.0.2\",\"source_port\":53,\"destination\":\"10.0.0.1\",\"destination_port\":1000}
-{\"truncated_after\":2,\"interface\":2}
+{\"interface\":2,\"truncated_after\":2}
 {\"packets\":5,\"pass\":2,\"drop\":3}
 ",
     ),
