@@ -1,5 +1,5 @@
 //! One run over captures of several interfaces, which are told while they come.
-ghost use Rattle.std.specs.Prelude.{◌≡◌, ◌-◌, ◌<◌, ◌^◌, ◌++◌, MatchResult};
+ghost use Rattle.std.specs.Prelude.{◌≡◌, ◌-◌, ◌<◌, ◌^◌, ◌++◌, MatchResult, None};
 ghost use Rattle.acl_policy.specs.Policies.{IsPolicyText, policy_facts};
 ghost use Rattle.racl_io.specs.Tellings.{HasToldText, Wording, with_write};
 ghost use Rattle.racl_report.specs.BehindTotals.{captures_end};
