@@ -22,7 +22,7 @@ use Rattle.racl_views.specs.declared.writing_explained_lines.ExplainedLines.{Exp
 use Rattle.racl_views.specs.inner.PartWordings.{explained_wording, objects_wording}
 use Rattle.racl_views.specs.inner.Tellings.{IsTableOf}
 use Rattle.racl_views.proofs.PartLemmas.{explained_names_tell, objects_tell_lines, some_named, some_objects}
-use Rattle.racl_report.specs.BehindTotals.{captures_end}
+use Rattle.racl_report.specs.CapturesEnds.{captures_end}
 use Rattle.capture_stream.specs.Arrivals.{Gives, Part}
 use Rattle.capture_stream.specs.ComingCaptures.{HasToldCaptures, HasToldFront, HasToldTurns, IsFaultOfComing}
 use Rattle.capture_stream.specs.Turns.{cuts_of, packets_of, parts_of}

@@ -16,7 +16,7 @@ use Rattle.racl_io.specs.Sinks.{GotFront}
 use Rattle.racl_io.specs.Tellings.{Wording, lines_by, lines_in}
 use Rattle.racl_views.specs.PartTellings.{AreNamedLines, AreObjectLines, TellsLines}
 use Rattle.racl_views.specs.RunEntries.{RunFacts}
-use Rattle.racl_report.specs.BehindTotals.{captures_end}
+use Rattle.racl_report.specs.CapturesEnds.{captures_end}
 use Rattle.capture_stream.specs.Arrivals.{AreAllGiven, Gives, Part}
 use Rattle.capture_stream.specs.ComingCaptures.{IsFaultOfComing}
 use Rattle.capture_stream.specs.Turns.{AreTurns, Turn, cuts_of, packets_of, parts_of}

@@ -2,7 +2,7 @@
 ghost use Rattle.std.specs.Prelude.{◌≡◌, ◌-◌, ◌<◌, ◌^◌, ◌++◌, MatchResult, None};
 ghost use Rattle.acl_policy.specs.Policies.{IsPolicyText, policy_facts};
 ghost use Rattle.racl_io.specs.Tellings.{HasToldText, Wording, with_write};
-ghost use Rattle.racl_report.specs.BehindTotals.{captures_end};
+ghost use Rattle.racl_report.specs.CapturesEnds.{captures_end};
 ghost use Rattle.capture_stream.specs.Lives.{with_read};
 ghost use Rattle.racl_cli.specs.LiveInterfaceRuns.{HasRunComing, IsComingRunFault, TellsComing, TellsNamed};
 

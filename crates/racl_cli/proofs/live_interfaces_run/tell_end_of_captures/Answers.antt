@@ -1,4 +1,4 @@
-use Rattle.racl_report.specs.BehindTotals.{captures_end}
+use Rattle.racl_report.specs.CapturesEnds.{captures_end}
 use Rattle.racl_cli.proofs.CountedLemmas.{end_cut, end_then}
 use Rattle.racl_cli.proofs.live_interfaces_run.tell_end_of_captures.Goals as goal
 
