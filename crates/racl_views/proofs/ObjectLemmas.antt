@@ -1,5 +1,5 @@
 -- Lines of objects, one behind the other.
-use Rattle.std.proofs.Common.{◌≡◌, ◌∙◌, ◌++◌, ◌+◌, ◌<◌, ℕ, List, [], ◌∷◌, append_assoc, ap, ap₂, drop, flat_map, get_or, length, refl, sym, take}
+use Rattle.std.proofs.Common.{◌≡◌, ◌∙◌, ◌++◌, ◌+◌, ◌<◌, ℕ, List, [], ◌∷◌, append_assoc, ap, ap₂, drop, flat_map, get_or, length, refl, sym, take, Result, Ok, Err, IfOk}
 use Rattle.json.specs.Json.{Json}
 use Rattle.racl_io.specs.declared.totals_and_truncation.Captured.{Captured}
 use Rattle.racl_io.specs.declared.totals_and_truncation.Totals.{Totals}
@@ -46,3 +46,9 @@ ends_next so_far now all captures k d totals within more told =
     ∙ ap (λ (t : List ℕ). so_far ++ t) (sym (object_lines-append cut (behind ++ last)) ∙ ap object_lines (sym (append_assoc cut behind last))
     ∙ ap (λ (cs : List Captured). object_lines (flat_map truncation_objects cs ++ last)) (sym (drop_one captures k d within)))
     ∙ told
+
+-- a text that was made as one is made as what it is
+pub ended_as : {V E : Type 0} (items : V → List ℕ) (result : Result V E) (text all : List ℕ) → text ≡ all → IfOk result (λ v. items v ≡ text)
+    → IfOk result (λ v. items v ≡ all)
+ended_as items (Ok v) text all same is = is ∙ same
+ended_as items (Err e) text all same is = tt

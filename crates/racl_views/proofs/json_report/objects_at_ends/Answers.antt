@@ -1,9 +1,9 @@
-use Rattle.std.proofs.Common.{◌≡◌, ◌∙◌, ◌++◌, ◌+◌, ◌∷◌, ℕ, List, [], ap, append-nil, drop, flat_map, sym}
+use Rattle.std.proofs.Common.{◌∙◌, ◌++◌, ◌+◌, ◌∷◌, ℕ, List, [], ap, append-nil, drop, flat_map, sym}
 use Rattle.std.proofs.Math.ListN.{drop_of_length-le}
 use Rattle.racl_io.specs.declared.totals_and_truncation.Captured.{Captured}
 use Rattle.racl_views.specs.Objects.{object_line, object_lines}
 use Rattle.racl_views.specs.PacketObjects.{totals_object, truncation_objects}
-use Rattle.racl_views.proofs.ObjectLemmas.{ends_next}
+use Rattle.racl_views.proofs.ObjectLemmas.{ended_as, ends_next}
 use Rattle.racl_views.proofs.json_report.objects_at_ends.Goals as goal
 
 pub each-preserved : goal.each-preserved
@@ -14,6 +14,7 @@ pub returns : goal.returns
 returns c =
     let last = object_line (totals_object c.args.totals.now) in
     let none = drop_of_length-le c.args.captures.now c.each-test.false in
-    c.push_totals.ensures ∙ ap (λ (t : List ℕ). c.each.text.items ++ t) (sym (append-nil last))
+    let all = ap (λ (t : List ℕ). c.each.text.items ++ t) (sym (append-nil last))
     ∙ ap (λ (cs : List Captured). c.each.text.items ++ object_lines (flat_map truncation_objects cs ++ totals_object c.args.totals.now ∷ [])) (sym none)
-    ∙ c.each.invariant
+    ∙ c.each.invariant in
+    ended_as (λ v. v.items) c.push_totals.result _ _ all c.push_totals.ensures
