@@ -108,7 +108,10 @@ fn begin_capture<T: Threads + Wait + Copy + Send + 'static>(
     }
     let (system, copied) = (*system, *rt);
     let name = String::from_str(alloc, name)?;
-    let _ = spawn(rt, move || hand_named(system, &copied, name.as_str(), &feed))?;
+    let _ = spawn(
+        rt,
+        move || hand_named(system, &copied, name.as_str(), &feed),
+    )?;
     Ok(())
 }
 
@@ -146,7 +149,10 @@ fn begin_captures<'a, T: Threads + Wait + Copy + Send + 'static>(
 fn twice_among(captures: &[CaptureFile<'_>]) -> Option<u8> {
     for place in 0..captures.len() {
         let number = captures[place].interface;
-        if captures[..place].iter().any(|other| other.interface == number) {
+        if captures[..place]
+            .iter()
+            .any(|other| other.interface == number)
+        {
             return Some(number);
         }
     }
@@ -158,7 +164,13 @@ fn unread_of(alloc: Global, captures: &[CaptureFile<'_>]) -> Vec<Seen<'static>> 
     let mut seen = Vec::new(alloc);
     for file in captures {
         let interface = file.interface;
-        if seen.push(Seen { interface, front: &[] }).is_err() {
+        if seen
+            .push(Seen {
+                interface,
+                front: &[],
+            })
+            .is_err()
+        {
             return seen;
         }
     }
@@ -198,7 +210,13 @@ pub fn opened_live_interfaces<'a, T: Threads + Wait + Copy + Send + 'static>(
         Err(error) => return Err(error),
     };
     let seen = unread_of(alloc, captures);
-    say_unlooked(system, alloc, interfaces.policy, text.as_slice(), seen.as_slice());
+    say_unlooked(
+        system,
+        alloc,
+        interfaces.policy,
+        text.as_slice(),
+        seen.as_slice(),
+    );
     Ok(Ok(LiveInterfaces {
         text,
         captures: coming,

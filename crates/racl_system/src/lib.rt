@@ -31,8 +31,8 @@ pub use coming_captures::{ComingCaptures, LiveInterfaces, opened_live_interfaces
 pub use command_words::{asked_or_status, diff_or_status, texts_of};
 pub use diff_input::{DiffInput, opened_diff, say_capture_fault, say_policy_fault};
 pub use end_of_run::{
-    Ran, SeenFiles, say_end_of_interfaces, say_end_of_live, say_end_of_live_interfaces, say_end_of_run,
-    say_outcome,
+    Ran, SeenFiles, say_end_of_interfaces, say_end_of_live, say_end_of_live_interfaces,
+    say_end_of_run, say_outcome,
 };
 pub use expecting_input::{ExpectingInput, opened_expecting, say_wrong_expectations};
 pub use file_expanding::expansion_status;

@@ -91,18 +91,28 @@ impl<F: Read> MergedFile<F> {
         }
     }
 
+    // Hands on so many bytes of the front, which all are read. Whether more is wanted.
+    fn hand_front(&self, rt: &impl Wait, count: usize) -> bool {
+        let rest = self.rest();
+        self.feed.hand_all(rt, &rest[..count.min(rest.len())])
+    }
+
+    // Hands on so many bytes of the front, which then are behind it. Whether more is wanted.
+    fn take_front(&mut self, rt: &impl Wait, count: usize) -> bool {
+        let is_wanted = self.hand_front(rt, count);
+        self.handed = self.handed.saturating_add(count);
+        is_wanted
+    }
+
     // Hands on the header, where it is whole and right. Of a wrong one all stays, and no more is read. Whether more is wanted.
     fn take_header(&mut self, rt: &impl Wait) -> bool {
-        let rest = self.rest();
-        if self.order.is_some() || rest.len() < HEADER_BYTES {
+        if self.order.is_some() || self.rest().len() < HEADER_BYTES {
             return true;
         }
-        match capture_header(rest) {
+        match capture_header(self.rest()) {
             Ok(order) => {
-                let is_wanted = self.feed.hand_all(rt, &rest[..HEADER_BYTES]);
                 self.order = Some(order);
-                self.handed = self.handed.saturating_add(HEADER_BYTES);
-                is_wanted
+                self.take_front(rt, HEADER_BYTES)
             }
             Err(_) => {
                 self.ended = true;
@@ -144,40 +154,18 @@ impl<F: Read> MergedFile<F> {
         false
     }
 
-    // Where the packet of the record at these bytes' front stands, in the file at this place; None where no record is whole there.
-    fn turn_at(&self, bytes: &[u8], place: usize) -> Option<Turn> {
-        match next_record(bytes, self.order?) {
-            Piece::Whole { moment, micros, .. } => Some(Turn {
-                moment,
-                micros,
-                place,
-            }),
-            Piece::End | Piece::Truncated | Piece::TooLong => None,
-        }
-    }
-
     // Where its next packet stands, where it is the file at this place; None where it has no more that is whole.
     fn turn(&self, place: usize) -> Option<Turn> {
-        self.turn_at(self.rest(), place)
+        turn_at(self.rest(), self.order?, place)
     }
 
     // Hands on the records at the front whose packets stand before this one, the next of another file. Whether more is wanted.
     fn hand_before(&mut self, rt: &impl Wait, place: usize, next: Option<Turn>) -> bool {
-        let all = self.rest();
-        let mut left = all;
-        for _ in 0..MOST_RECORDS {
-            let Some(turn) = self.turn_at(left, place) else {
-                break;
-            };
-            if matches!(next, Some(next) if next < turn) {
-                break;
-            }
-            left = behind_record(left, self.order);
-        }
-        let count = all.len().saturating_sub(left.len());
-        let is_wanted = self.feed.hand_all(rt, &all[..count]);
-        self.handed = self.handed.saturating_add(count);
-        is_wanted
+        let Some(order) = self.order else {
+            return false;
+        };
+        let count = count_before(self.rest(), order, place, next);
+        self.take_front(rt, count)
     }
 
     // Hands on what is left, and that the file has ended. Whether more is wanted.
@@ -190,15 +178,50 @@ impl<F: Read> MergedFile<F> {
     }
 }
 
-// What stands behind the record at the front.
-fn behind_record(bytes: &[u8], order: Option<Order>) -> &[u8] {
-    let Some(order) = order else {
-        return &[];
-    };
+// Where the packet of the record at these bytes' front stands, in the file at this place; None where no record is whole there.
+fn turn_at(bytes: &[u8], order: Order, place: usize) -> Option<Turn> {
     match next_record(bytes, order) {
-        Piece::Whole { rest, .. } => rest,
-        Piece::End | Piece::Truncated | Piece::TooLong => &[],
+        Piece::Whole { moment, micros, .. } => Some(Turn {
+            moment,
+            micros,
+            place,
+        }),
+        Piece::End | Piece::Truncated | Piece::TooLong => None,
     }
+}
+
+// What stands behind the record at the front, where its packet stands before this one, the next of another file.
+fn behind_first(bytes: &[u8], order: Order, place: usize, next: Option<Turn>) -> Option<&[u8]> {
+    let Piece::Whole {
+        moment,
+        micros,
+        rest,
+        ..
+    } = next_record(bytes, order)
+    else {
+        return None;
+    };
+    let turn = Turn {
+        moment,
+        micros,
+        place,
+    };
+    match next {
+        Some(next) if next < turn => None,
+        _ => Some(rest),
+    }
+}
+
+// How many bytes the records at the front have whose packets stand before this one, the next of another file.
+fn count_before(bytes: &[u8], order: Order, place: usize, next: Option<Turn>) -> usize {
+    let mut left = bytes;
+    for _ in 0..MOST_RECORDS {
+        let Some(rest) = behind_first(left, order, place, next) else {
+            break;
+        };
+        left = rest;
+    }
+    bytes.len().saturating_sub(left.len())
 }
 
 // The first of the packets that stand next in these files, but for the one at a place.
