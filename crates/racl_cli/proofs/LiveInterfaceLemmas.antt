@@ -2,9 +2,11 @@
 use Rattle.std.proofs.Common.{◌≡◌, ◌++◌, ℕ, Bool, true, List, [], Option, append-nil, inl, inr, map, refl, subst, sym}
 use Rattle.std.proofs.KnownBytes.{Appends-nil, Appends-trans}
 use Rattle.std.specs.Io.KnownBytes.{Appends}
-use Rattle.std.specs.Prelude.{◌⊎◌}
+use Rattle.std.specs.Prelude.{◌≢◌, ◌⊎◌}
 use Rattle.packet_view.specs.Captures.{PacketFacts}
-use Rattle.acl_policy.specs.Policies.{IsPolicyText, PolicyFacts, policy_facts}
+use Rattle.acl_policy.specs.Policies.{IsPolicyFault, IsPolicyText, PolicyFacts, policy_facts}
+use Rattle.acl_policy.specs.declared.policy.PolicyFault.{PolicyFault}
+use Rattle.acl_policy.specs.declared.policy.PolicyFault.TheVariants as policy
 use Rattle.session_state.specs.declared.shown_verdicts.Shown.{Shown}
 use Rattle.session_state.specs.declared.verdict.Verdict.{Verdict}
 use Rattle.racl_options.specs.declared.settings.Lines.{Lines}
@@ -13,6 +15,7 @@ use Rattle.racl_options.specs.declared.settings.Options.{Options}
 use Rattle.racl_io.specs.declared.fault.Fault.{Fault}
 use Rattle.racl_io.specs.declared.fault.Fault.TheVariants as fault
 use Rattle.racl_io.specs.declared.totals_and_truncation.Captured.{Captured}
+use Rattle.racl_io.specs.Faults.{policy_fault}
 use Rattle.racl_io.specs.Tellings.{IsTellingFault, Wording, lines_in, named_wording}
 use Rattle.racl_io.proofs.TellingLemmas.{front_on}
 use Rattle.racl_views.specs.PartTellings.{TellsLines, ToldBy}
@@ -83,6 +86,14 @@ none_came_as Judged wording begun before old found memory = inl (
     text = Appends-nil old;
   },
 )
+
+-- the policy's text has the fault, or memory ran out
+pub wrong_text : (text : List ℕ) (cause : PolicyFault) (found : FaultAt) → found.fault ≡ policy_fault cause → (cause ≢ policy.Memory → IsPolicyFault text cause)
+    → (found.fault ≡ fault.Memory) ⊎ ((c : PolicyFault) × IsPolicyFault text c × (found.fault ≡ policy_fault c))
+wrong_text text policy.Memory found same is = inl same
+wrong_text text policy.NotUtf8 found same is = inr (policy.NotUtf8, is (λ other. absurd other), same)
+wrong_text text (policy.BadLine number) found same is = inr (policy.BadLine number, is (λ other. absurd other), same)
+wrong_text text (policy.TooMany number) found same is = inr (policy.TooMany number, is (λ other. absurd other), same)
 
 -- ---- The end
 

@@ -1,6 +1,6 @@
 -- A run over a capture that is told while it comes.
 use Rattle.std.proofs.KnownBytes.{Consumes-all, Consumes-trans}
-use Rattle.std.proofs.Common.{◌≡◌, ◌∙◌, ◌≤◌, ◌++◌, ℕ, Bool, List, [], Option, Result, Ok, Err, MatchResult, ap, arith, inl, inr, length, map, refl, subst, sym, drop, true}
+use Rattle.std.proofs.Common.{◌≡◌, ◌∙◌, ◌≤◌, ◌++◌, ℕ, Bool, List, [], Option, Result, Ok, Err, MatchResult, ap, arith, inl, inr, length, map, refl, subst, sym, drop, false, true}
 use Rattle.std.proofs.lemmas.List.{drop_all, length-map}
 use Rattle.packet_view.specs.Captures.{AreRecords, PacketFacts, end_of, packet_at, packets_at}
 use Rattle.packet_view.specs.declared.capture.Order.{Order}
@@ -156,15 +156,16 @@ plain_as_asked options text policy shown form same =
 
 -- in explained lines
 pub explained_as_asked : (options : Options) (text : List ℕ) (policy : PolicyFacts) (lines : ExplainedLines) → options.lines ≡ Explained → lines.shown ≡ options.shown
-    → policy_facts lines.policy.now ≡ policy → IsTableOf text lines.table → IsPolicyText text policy
-    → TellsAsAsked options text policy (explained_wording lines.shown (policy_facts lines.policy.now) lines.table.rules.items (map shown_of lines.table.texts.items))
-explained_as_asked options text policy lines form shown same table says =
+    → policy_facts lines.policy.now ≡ policy → IsTableOf text lines.table → lines.names ≡ false → IsPolicyText text policy
+    → TellsAsAsked options text policy (explained_wording lines.shown lines.names (policy_facts lines.policy.now) lines.table.rules.items (map shown_of lines.table.texts.items))
+explained_as_asked options text policy lines form shown same table names says =
     let rules = lines.table.rules.items in
     let is = table policy says in
-    subst (λ (s : Shown). TellsAsAsked options text policy (explained_wording s (policy_facts lines.policy.now) rules (map shown_of lines.table.texts.items))) (sym shown)
-    (subst (λ (p : PolicyFacts). TellsAsAsked options text policy (explained_wording options.shown p rules (map shown_of lines.table.texts.items))) (sym same)
-    (subst (λ (t : List (List ℕ)). TellsAsAsked options text policy (explained_wording options.shown policy rules t)) (sym is.1)
-    (in_form options text policy Explained _ form (explained_tells (told_by options text policy) rules is.0))))
+    subst (λ (s : Shown). TellsAsAsked options text policy (explained_wording s lines.names (policy_facts lines.policy.now) rules (map shown_of lines.table.texts.items))) (sym shown)
+    (subst (λ (n : Bool). TellsAsAsked options text policy (explained_wording options.shown n (policy_facts lines.policy.now) rules (map shown_of lines.table.texts.items))) (sym names)
+    (subst (λ (p : PolicyFacts). TellsAsAsked options text policy (explained_wording options.shown false p rules (map shown_of lines.table.texts.items))) (sym same)
+    (subst (λ (t : List (List ℕ)). TellsAsAsked options text policy (explained_wording options.shown false policy rules t)) (sym is.1)
+    (in_form options text policy Explained _ form (explained_tells (told_by options text policy) rules is.0)))))
 
 -- in objects
 pub objects_as_asked : (options : Options) (text : List ℕ) (policy : PolicyFacts) (lines : ObjectLines) → options.lines ≡ Json → lines.shown ≡ options.shown

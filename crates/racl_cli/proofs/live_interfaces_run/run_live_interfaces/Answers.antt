@@ -1,18 +1,19 @@
-use Rattle.std.proofs.Common.{◌∙◌, inl, inr, refl, subst, sym}
+use Rattle.std.proofs.Common.{◌∙◌, inl, refl, subst, sym}
 use Rattle.acl_policy.specs.Policies.{IsPolicyText, policy_facts}
 use Rattle.acl_policy.specs.declared.policy.Policy.{Policy}
 use Rattle.capture_stream.proofs.ArrivalLemmas.{gives_none}
+use Rattle.racl_cli.proofs.LiveInterfaceLemmas.{wrong_text}
 use Rattle.racl_cli.proofs.live_interfaces_run.run_live_interfaces.Goals as goal
 
 pub returns-in-Err-clause-told : goal.returns-in-Err-clause-told
 returns-in-Err-clause-told g c =
-    inl (gives_none (g.A.Arrivals.parts c.args.arrivals.now), refl, inr (_, c.in-Err.ensures.fault, c.placeless.ensures.0 ∙ c.from.ensures))
+    inl (gives_none (g.A.Arrivals.parts c.args.arrivals.now), refl, wrong_text c.args.asked.text.now c.in-Err.cause c.placeless.result (c.placeless.ensures.0 ∙ c.from.ensures) c.in-Err.ensures.fault)
 
 pub returns-in_default-clause-told : goal.returns-in_default-clause-told
-returns-in_default-clause-told g c = inl (gives_none (g.A.Arrivals.parts c.args.arrivals.now), refl, inl c.placeless-2.ensures.0)
+returns-in_default-clause-told g c = inl (gives_none (g.A.Arrivals.parts c.args.arrivals.now), refl, inl c.placeless-in_default.ensures.0)
 
 pub returns-in_default-ready_with-clause-told : goal.returns-in_default-ready_with-clause-told
-returns-in_default-ready_with-clause-told g c = inl (gives_none (g.A.Arrivals.parts c.args.arrivals.now), refl, inl c.placeless-3.ensures.0)
+returns-in_default-ready_with-clause-told g c = inl (gives_none (g.A.Arrivals.parts c.args.arrivals.now), refl, inl c.placeless-in_default-ready_with.ensures.0)
 
 pub tell_captures_as_asked-requires-clause-says : goal.tell_captures_as_asked-requires-clause-says
 tell_captures_as_asked-requires-clause-says g c κs lives =

@@ -16,7 +16,7 @@ returns-in_default-clause-told g c =
 pub returns-in_default-new-clause-told : goal.returns-in_default-new-clause-told
 returns-in_default-new-clause-told g c =
     inl (none_came_as (AreFirstVerdicts _ c.args.way.options.now) (g.L.Teller.wording c.args.teller.now) (policy_facts c.args.way.filter.now.policy.now)
-    (g.A.Arrivals.parts c.args.arrivals.now) (g.W.Sink.bytes c.args.writer.now) c.placeless-2.result c.placeless-2.ensures.0)
+    (g.A.Arrivals.parts c.args.arrivals.now) (g.W.Sink.bytes c.args.writer.now) c.placeless-in_default-new.result c.placeless-in_default-new.ensures.0)
 
 pub tell_arrivals-requires-clause-begun : goal.tell_arrivals-requires-clause-begun
 tell_arrivals-requires-clause-begun g c = (
@@ -65,9 +65,9 @@ returns-in_default-end-clause-told g c =
     let ready = c.args.way.filter.now in
     let asked = as_asked c.in-Ok.ensures.asked c.ages_early-ages.ensures in
     let tells = first_verdicts options ready _ (orders_of c.in-Ok-new.workers) in
-    let first = λ packets verdicts judged. tells packets verdicts c.in-Ok-new.ensures.given asked.four asked.size c.requires.sound.0 options.few.0 judged in
     inl (end_refused _ options c.args.way.text.now (g.L.Teller.wording c.args.teller.now) (policy_facts ready.policy.now) _ _ _ _ c.in-Ok-tell_arrivals.told
-    c.in-Ok-tell_arrivals.ensures.told first c.placeless-3.result c.placeless-3.ensures.0)
+    c.in-Ok-tell_arrivals.ensures.told
+    (λ packets verdicts judged. tells packets verdicts c.in-Ok-new.ensures.given asked.four asked.size c.requires.sound.0 options.few.0 judged) c.placeless-in_default-end.result c.placeless-in_default-end.ensures.0)
 
 pub returns-in_default-told_behind_live-clause-told : goal.returns-in_default-told_behind_live-clause-told
 returns-in_default-told_behind_live-clause-told g c =
@@ -75,9 +75,9 @@ returns-in_default-told_behind_live-clause-told g c =
     let ready = c.args.way.filter.now in
     let asked = as_asked c.in-Ok.ensures.asked c.ages_early-ages.ensures in
     let tells = first_verdicts options ready _ (orders_of c.in-Ok-new.workers) in
-    let first = λ packets verdicts judged. tells packets verdicts c.in-Ok-new.ensures.given asked.four asked.size c.requires.sound.0 options.few.0 judged in
     inl (end_refused _ options c.args.way.text.now (g.L.Teller.wording c.args.teller.now) (policy_facts ready.policy.now) _ _ _ _ c.in-Ok-tell_arrivals.told
-    c.in-Ok-tell_arrivals.ensures.told first c.placeless-4.result c.placeless-4.ensures.0)
+    c.in-Ok-tell_arrivals.ensures.told
+    (λ packets verdicts judged. tells packets verdicts c.in-Ok-new.ensures.given asked.four asked.size c.requires.sound.0 options.few.0 judged) c.placeless-in_default-told_behind_live.result c.placeless-in_default-told_behind_live.ensures.0)
 
 pub returns-in-Ok-tell_end_of_captures-clause-told : goal.returns-in-Ok-tell_end_of_captures-clause-told
 returns-in-Ok-tell_end_of_captures-clause-told g c =
@@ -85,12 +85,12 @@ returns-in-Ok-tell_end_of_captures-clause-told g c =
     let ready = c.args.way.filter.now in
     let asked = as_asked c.in-Ok.ensures.asked c.ages_early-ages.ensures in
     let tells = first_verdicts options ready _ (orders_of c.in-Ok-new.workers) in
-    let first = λ packets verdicts judged. tells packets verdicts c.in-Ok-new.ensures.given asked.four asked.size c.requires.sound.0 options.few.0 judged in
     let all = c.in-Ok-tell_arrivals.ensures.told in
     let ended = c.in-Ok-end.ensures _ _ (packets_of all.all.turns) all.all.verdicts all.stand.1 in
     let may = may_tell_behind c.args.way _ _ _ _ _ (orders_of c.in-Ok-new.workers) c.requires.says c.requires.sound.0 asked c.in-Ok-new.ensures.given ended in
     let behind = c.in-Ok-told_behind_live.ensures (packets_of all.all.turns) all.all.verdicts may in
-    all_told _ options c.args.way.text.now (g.L.Teller.wording c.args.teller.now) (policy_facts ready.policy.now) _ _ _ _ c.in-Ok-tell_arrivals.told all first _ behind _
+    all_told _ options c.args.way.text.now (g.L.Teller.wording c.args.teller.now) (policy_facts ready.policy.now) _ _ _ _ c.in-Ok-tell_arrivals.told all
+    (λ packets verdicts judged. tells packets verdicts c.in-Ok-new.ensures.given asked.four asked.size c.requires.sound.0 options.few.0 judged) _ behind _
     c.in-Ok-tell_end_of_captures.ensures.0
 
 pub returns-clause-told : goal.returns-clause-told
@@ -99,10 +99,10 @@ returns-clause-told g c =
     let ready = c.args.way.filter.now in
     let asked = as_asked c.in-Ok.ensures.asked c.ages_early-ages.ensures in
     let tells = first_verdicts options ready _ (orders_of c.in-Ok-new.workers) in
-    let first = λ packets verdicts judged. tells packets verdicts c.in-Ok-new.ensures.given asked.four asked.size c.requires.sound.0 options.few.0 judged in
     let all = c.in-Ok-tell_arrivals.ensures.told in
     let ended = c.in-Ok-end.ensures _ _ (packets_of all.all.turns) all.all.verdicts all.stand.1 in
     let may = may_tell_behind c.args.way _ _ _ _ _ (orders_of c.in-Ok-new.workers) c.requires.says c.requires.sound.0 asked c.in-Ok-new.ensures.given ended in
     let behind = c.in-Ok-told_behind_live.ensures (packets_of all.all.turns) all.all.verdicts may in
-    end_fault _ options c.args.way.text.now (g.L.Teller.wording c.args.teller.now) (policy_facts ready.policy.now) _ _ _ _ c.in-Ok-tell_arrivals.told all first _ behind _
-    c.placeless-5.result c.in-Err-tell_end_of_captures.fault c.placeless-5.ensures.0 c.in-Err-tell_end_of_captures.ensures.0
+    end_fault _ options c.args.way.text.now (g.L.Teller.wording c.args.teller.now) (policy_facts ready.policy.now) _ _ _ _ c.in-Ok-tell_arrivals.told all
+    (λ packets verdicts judged. tells packets verdicts c.in-Ok-new.ensures.given asked.four asked.size c.requires.sound.0 options.few.0 judged) _ behind _
+    c.placeless-in-Err-tell_end_of_captures.result c.in-Err-tell_end_of_captures.fault c.placeless-in-Err-tell_end_of_captures.ensures.0 c.in-Err-tell_end_of_captures.ensures.0

@@ -35,8 +35,8 @@ returns-in-Err-naming-clause-told g c =
     let (wording, tells) = some_way_named c.args.way.options.now c.args.way.text.now policy Explained c.in-Explained.is c.requires.says in (
       wording,
       tells,
-      inl (none_came_as (AreFirstVerdicts _ c.args.way.options.now) wording policy (g.A.Arrivals.parts c.args.arrivals.now) (g.W.Sink.bytes c.args.writer.now) c.placeless-2.result
-          c.placeless-2.ensures.0),
+      inl (none_came_as (AreFirstVerdicts _ c.args.way.options.now) wording policy (g.A.Arrivals.parts c.args.arrivals.now) (g.W.Sink.bytes c.args.writer.now) c.placeless-in-Err-naming.result
+          c.placeless-in-Err-naming.ensures.0),
     )
 
 pub returns-in-Ok-new-clause-told : goal.returns-in-Ok-new-clause-told
@@ -54,6 +54,6 @@ returns-in-Err-new-clause-told g c =
     let (wording, tells) = some_way_named c.args.way.options.now c.args.way.text.now policy Json c.in-Json.is c.requires.says in (
       wording,
       tells,
-      inl (none_came_as (AreFirstVerdicts _ c.args.way.options.now) wording policy (g.A.Arrivals.parts c.args.arrivals.now) (g.W.Sink.bytes c.args.writer.now) c.placeless-3.result
-          c.placeless-3.ensures.0),
+      inl (none_came_as (AreFirstVerdicts _ c.args.way.options.now) wording policy (g.A.Arrivals.parts c.args.arrivals.now) (g.W.Sink.bytes c.args.writer.now) c.placeless-in-Err-new.result
+          c.placeless-in-Err-new.ensures.0),
     )

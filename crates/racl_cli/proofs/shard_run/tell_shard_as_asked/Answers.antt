@@ -49,7 +49,7 @@ returns-in-Ok-new-clause-told g c =
     let policy = policy_facts c.args.head.filter.now.policy.now in
     let made = c.in-Ok-new.ensures in (
       _,
-      explained_as_asked c.args.head.options.now c.args.head.text.now policy c.in-Ok-new.lines c.in-Explained.is made.0 (ap policy_facts made.1) made.2 c.requires.says,
+      explained_as_asked c.args.head.options.now c.args.head.text.now policy c.in-Ok-new.lines c.in-Explained.is made.0 (ap policy_facts made.1) made.2 made.3 c.requires.says,
       c.tell_shard-in-Ok-new.ensures.told,
     )
 
