@@ -1,5 +1,5 @@
 -- A live run on several interfaces.
-use Rattle.std.proofs.Common.{◌≡◌, ◌++◌, ℕ, Bool, true, List, [], Option, append-nil, inl, inr, map, refl, subst, sym}
+use Rattle.std.proofs.Common.{◌≡◌, ◌∙◌, ◌++◌, ℕ, Bool, true, List, [], Option, append-nil, inl, inr, map, refl, subst, sym, Result, Ok, Err, MatchResult}
 use Rattle.std.proofs.KnownBytes.{Appends-nil, Appends-trans}
 use Rattle.std.specs.Io.KnownBytes.{Appends}
 use Rattle.std.specs.Prelude.{◌≢◌, ◌⊎◌}
@@ -15,6 +15,7 @@ use Rattle.racl_options.specs.declared.settings.Options.{Options}
 use Rattle.racl_io.specs.declared.fault.Fault.{Fault}
 use Rattle.racl_io.specs.declared.fault.Fault.TheVariants as fault
 use Rattle.racl_io.specs.declared.totals_and_truncation.Captured.{Captured}
+use Rattle.racl_io.specs.declared.totals_and_truncation.Totals.{Totals}
 use Rattle.racl_io.specs.Faults.{policy_fault}
 use Rattle.racl_io.specs.Tellings.{IsTellingFault, Wording, lines_in, named_wording}
 use Rattle.racl_io.proofs.TellingLemmas.{front_on}
@@ -32,7 +33,7 @@ use Rattle.capture_stream.specs.Turns.{cuts_of, packets_of, parts_of}
 use Rattle.capture_stream.specs.declared.arrival.FaultAt.{FaultAt}
 use Rattle.capture_stream.specs.declared.arrivals_telling.ToldArrivals.{ToldArrivals}
 use Rattle.capture_stream.proofs.ArrivalLemmas.{gives_none}
-use Rattle.racl_cli.specs.LiveInterfaceRuns.{AreNamed, HasCutComing, HasToldComing, IsReportOfTurns, TellsNamed}
+use Rattle.racl_cli.specs.LiveInterfaceRuns.{AreNamed, HasCutComing, HasRunComing, HasToldComing, IsComingRunFault, IsReportOfTurns, TellsComing, TellsNamed}
 use Rattle.racl_cli.specs.LiveRuns.{AreFirstVerdicts, IsToldBehind}
 
 -- ---- What is known of verdicts is known as something else, too
@@ -91,9 +92,9 @@ none_came_as Judged wording begun before old found memory = inl (
 pub wrong_text : (text : List ℕ) (cause : PolicyFault) (found : FaultAt) → found.fault ≡ policy_fault cause → (cause ≢ policy.Memory → IsPolicyFault text cause)
     → (found.fault ≡ fault.Memory) ⊎ ((c : PolicyFault) × IsPolicyFault text c × (found.fault ≡ policy_fault c))
 wrong_text text policy.Memory found same is = inl same
-wrong_text text policy.NotUtf8 found same is = inr (policy.NotUtf8, is (λ other. absurd other), same)
-wrong_text text (policy.BadLine number) found same is = inr (policy.BadLine number, is (λ other. absurd other), same)
-wrong_text text (policy.TooMany number) found same is = inr (policy.TooMany number, is (λ other. absurd other), same)
+wrong_text text policy.NotUtf8 found same is = inr (policy.NotUtf8, is (λ other. cc), same)
+wrong_text text (policy.BadLine number) found same is = inr (policy.BadLine number, is (λ other. cc), same)
+wrong_text text (policy.TooMany number) found same is = inr (policy.TooMany number, is (λ other. cc), same)
 
 -- ---- The end
 
@@ -123,9 +124,9 @@ module _ {J : Type 0} {Became : J → List PacketFacts → List Verdict → J �
     abbrev is_report : IsReportOfTurns options text wording policy all.all.turns told.totals (lines ++ end)
     is_report = record { verdicts = all.all.verdicts; count = all.all.count; behind = behind; told = is_behind; counted = all.totals; all = refl }
 
-    pub all_told : (new : Option (List ℕ)) → Appends mid new (captures_end options.lines told.cuts.items told.totals ++ behind)
+    pub all_told : (new : Option (List ℕ)) (cuts : List Captured) → cuts ≡ told.cuts.items → Appends mid new (captures_end options.lines cuts told.totals ++ behind)
         → HasToldComing options text wording policy before after old new told.totals
-    all_told new more = record {
+    all_told new cuts same more = record {
       turns = all.all.turns;
       are = all.all.are;
       given = all_given;
@@ -133,7 +134,7 @@ module _ {J : Type 0} {Became : J → List PacketFacts → List Verdict → J �
       report = lines ++ end;
       is = is_report;
       written = Appends-trans old mid new lines end all.all.text
-          (subst (λ (cs : List Captured). Appends mid new (captures_end options.lines cs told.totals ++ behind)) all.cuts more);
+          (subst (λ (cs : List Captured). Appends mid new (captures_end options.lines cs told.totals ++ behind)) (same ∙ all.cuts) more);
     }
 
     fault_at_end : (new : Option (List ℕ)) (found : FaultAt) (why : Fault) → found.fault ≡ why → IsTellingFault mid new end why
@@ -153,11 +154,11 @@ module _ {J : Type 0} {Became : J → List PacketFacts → List Verdict → J �
     })
     fault_at_end new found why is wrong = absurd wrong
 
-    pub end_fault : (new : Option (List ℕ)) (found : FaultAt) (why : Fault) → found.fault ≡ why
-        → IsTellingFault mid new (captures_end options.lines told.cuts.items told.totals ++ behind) why
+    pub end_fault : (new : Option (List ℕ)) (cuts : List Captured) → cuts ≡ told.cuts.items → (found : FaultAt) (why : Fault) → found.fault ≡ why
+        → IsTellingFault mid new (captures_end options.lines cuts told.totals ++ behind) why
         → IsFaultOfComing (AreFirstVerdicts T options) wording policy before after old new found ⊎ HasCutComing options text wording policy before after old new found
-    end_fault new found why is cut =
-        fault_at_end new found why is (subst (λ (cs : List Captured). IsTellingFault mid new (captures_end options.lines cs told.totals ++ behind) why) all.cuts cut)
+    end_fault new cuts same found why is cut =
+        fault_at_end new found why is (subst (λ (cs : List Captured). IsTellingFault mid new (captures_end options.lines cs told.totals ++ behind) why) (same ∙ all.cuts) cut)
 
 -- ---- How packets are told
 
@@ -210,3 +211,12 @@ some_way_named options text policy Explained form says =
 some_way_named options text policy Json form says =
     let (wording, tells) = some_objects (told_by options text policy) says in
     (wording, in_form options text policy Json wording form (record { lines = tells.lines }))
+
+-- the policy was read, and so it was told, or why not
+pub run_ends : (T : Type 0) (options : Options) (text : List ℕ) (policy : PolicyFacts) (before after : Option (List Part)) (old new : Option (List ℕ)) (wording : Wording)
+    (result : Result Totals FaultAt) → IsPolicyText text policy → TellsNamed options text policy wording
+    → TellsComing T options text wording policy before after old new result
+    → MatchResult result (HasRunComing options text before after old new) (IsComingRunFault T options text before after old new)
+run_ends T options text policy before after old new wording (Ok totals) says tells told =
+    record { policy = policy; says = says; wording = wording; tells = tells; told = told }
+run_ends T options text policy before after old new wording (Err found) says tells why = inr (policy, says, wording, tells, why)

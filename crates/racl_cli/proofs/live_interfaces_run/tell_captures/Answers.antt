@@ -91,7 +91,7 @@ returns-in-Ok-tell_end_of_captures-clause-told g c =
     let behind = c.in-Ok-told_behind_live.ensures (packets_of all.all.turns) all.all.verdicts may in
     all_told _ options c.args.way.text.now (g.L.Teller.wording c.args.teller.now) (policy_facts ready.policy.now) _ _ _ _ c.in-Ok-tell_arrivals.told all
     (λ packets verdicts judged. tells packets verdicts c.in-Ok-new.ensures.given asked.four asked.size c.requires.sound.0 options.few.0 judged) _ behind _
-    c.in-Ok-tell_end_of_captures.ensures.0
+    c.deref.result.now c.deref.ensures.value c.in-Ok-tell_end_of_captures.ensures.0
 
 pub returns-clause-told : goal.returns-clause-told
 returns-clause-told g c =
@@ -105,4 +105,4 @@ returns-clause-told g c =
     let behind = c.in-Ok-told_behind_live.ensures (packets_of all.all.turns) all.all.verdicts may in
     end_fault _ options c.args.way.text.now (g.L.Teller.wording c.args.teller.now) (policy_facts ready.policy.now) _ _ _ _ c.in-Ok-tell_arrivals.told all
     (λ packets verdicts judged. tells packets verdicts c.in-Ok-new.ensures.given asked.four asked.size c.requires.sound.0 options.few.0 judged) _ behind _
-    c.placeless-in-Err-tell_end_of_captures.result c.in-Err-tell_end_of_captures.fault c.placeless-in-Err-tell_end_of_captures.ensures.0 c.in-Err-tell_end_of_captures.ensures.0
+    c.deref.result.now c.deref.ensures.value c.placeless-in-Err-tell_end_of_captures.result c.in-Err-tell_end_of_captures.fault c.placeless-in-Err-tell_end_of_captures.ensures.0 c.in-Err-tell_end_of_captures.ensures.0
