@@ -1,6 +1,6 @@
 -- What is read of the files of interfaces' captures.
-use Rattle.std.proofs.Common.{◌≡◌, ◌∙◌, ◌+◌, ◌<◌, ◌≤◌, ◌++◌, ◌⊎◌, inl, inr, ap, arith, refl, subst, sym, ℕ, Bool, true, false, suc, List, [], ◌∷◌, Option, None, Some, length, take}
-use Rattle.std.specs.Prelude.{IfSome, map}
+use Rattle.std.proofs.Common.{◌≡◌, ◌∙◌, ◌+◌, ◌<◌, ◌≤◌, ◌++◌, ◌⊎◌, inl, inr, ap, arith, refl, subst, sym, ℕ, true, false, List, [], ◌∷◌, Option, None, Some, length, take}
+use Rattle.std.specs.Prelude.{IfSome}
 use Rattle.std.specs.Iterator.{Yields}
 use Rattle.std.specs.Vec.Iter.{into_iter_items, into_iter_len, into_iter_steps}
 use Rattle.std.proofs.iter.Next.{Yields-more}
@@ -17,7 +17,6 @@ use Rattle.racl_views.specs.declared.capture_bytes.CaptureBytes.{CaptureBytes}
 use Rattle.racl_report.specs.InterfaceInputs.{AreAllBytes, bytes_in}
 use Rattle.racl_report.specs.Statuses.{status_of_fault}
 use Rattle.racl_system.specs.InterfaceFiles.{AreAllOf, AreOver, AreUnread, GivenFacts, IsInterfacesStatus, IsUnreadInput, given_by}
-use Rattle.racl_system.specs.MarkedPolicies.{IsFileStatus}
 use Rattle.racl_system.specs.declared.interface_capture.InterfaceCapture.{InterfaceCapture}
 use Rattle.racl_system.proofs.ReaderLemmas.{all_of_front, status_is, status_of_unheld}
 

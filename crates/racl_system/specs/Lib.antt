@@ -9,3 +9,4 @@ pub mod Readers
 pub mod SaveFiles
 pub mod Syncs
 pub mod WordStatuses
+pub mod inner

@@ -1,5 +1,7 @@
 //! Captures in regular files, whose packets are handed on together, in the order of their moments.
-ghost use Rattle.std.specs.Prelude.{[], ◌≡◌, None, false};
+ghost use Rattle.std.specs.Prelude.{[], ◌≡◌, ℕ, List, IfSome, None, false, true};
+ghost use Rattle.packet_view.specs.Captures.{IsPiece, Record, RecordFacts};
+ghost use Rattle.racl_system.specs.inner.Merges.{comes_before, may_come, turn_of};
 
 use crate::capture_feeding::{Feed, PART_BYTES};
 use packet_view::{Order, Piece, capture_header, next_record};
@@ -29,11 +31,20 @@ pub struct MergedFile<F> {
 }
 
 /// Where a packet stands among those of all files: by the second, the microsecond, and the place of its file.
-#[derive(Clone, Copy, Debug, PartialEq, Eq, PartialOrd, Ord)]
+#[derive(Clone, Copy, Debug, PartialEq, Eq)]
 struct Turn {
     moment: u32,
     micros: u32,
     place: usize,
+}
+
+// Whether a packet stands before another.
+fn is_before(a: Turn, b: Turn) -> bool
+    ensures { result ≡ comes_before a b }
+{
+    a.moment < b.moment
+        || a.moment == b.moment
+            && (a.micros < b.micros || a.micros == b.micros && a.place < b.place)
 }
 
 impl<F: Read> MergedFile<F> {
@@ -179,7 +190,9 @@ impl<F: Read> MergedFile<F> {
 }
 
 // Where the packet of the record at these bytes' front stands, in the file at this place; None where no record is whole there.
-fn turn_at(bytes: &[u8], order: Order, place: usize) -> Option<Turn> {
+fn turn_at(bytes: &[u8], order: Order, place: usize) -> Option<Turn>
+    ensures { IfSome result (λ turn. (packet : RecordFacts) × (rest : List ℕ) × IsPiece order bytes.now (Record packet rest) × (turn ≡ turn_of place packet)) }
+{
     match next_record(bytes, order) {
         Piece::Whole { moment, micros, .. } => Some(Turn {
             moment,
@@ -191,7 +204,9 @@ fn turn_at(bytes: &[u8], order: Order, place: usize) -> Option<Turn> {
 }
 
 // What stands behind the record at the front, where its packet stands before this one, the next of another file.
-fn behind_first(bytes: &[u8], order: Order, place: usize, next: Option<Turn>) -> Option<&[u8]> {
+fn behind_first(bytes: &[u8], order: Order, place: usize, next: Option<Turn>) -> Option<&[u8]>
+    ensures { IfSome result (λ rest. (packet : RecordFacts) × IsPiece order bytes.now (Record packet rest.now) × (may_come place next packet ≡ true)) }
+{
     let Piece::Whole {
         moment,
         micros,
@@ -207,7 +222,7 @@ fn behind_first(bytes: &[u8], order: Order, place: usize, next: Option<Turn>) ->
         place,
     };
     match next {
-        Some(next) if next < turn => None,
+        Some(next) if is_before(next, turn) => None,
         _ => Some(rest),
     }
 }
@@ -232,7 +247,7 @@ fn first_turn<F: Read>(files: &[MergedFile<F>], but: Option<usize>) -> Option<Tu
             continue;
         }
         first = match (first, files[place].turn(place)) {
-            (Some(first), Some(turn)) if turn < first => Some(turn),
+            (Some(first), Some(turn)) if is_before(turn, first) => Some(turn),
             (None, turn) => turn,
             (first, _) => first,
         };

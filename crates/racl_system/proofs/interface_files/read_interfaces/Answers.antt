@@ -1,4 +1,4 @@
-use Rattle.std.proofs.Common.{◌∙◌, ◌≡◌, ◌+◌, ◌-◌, ◌<◌, ◌≤◌, ◌⊎◌, [], ◌∷◌, ◌++◌, ap, arith, inl, inr, refl, rules, subst, sym, length, ℕ}
+use Rattle.std.proofs.Common.{◌∙◌, ◌≡◌, ◌+◌, ◌<◌, ◌⊎◌, [], ◌∷◌, ◌++◌, ap, arith, inr, refl, subst, sym, length}
 use Rattle.std.specs.Prelude.{IfSome}
 use Rattle.packet_view.specs.Bytes.{AreBytes}
 use Rattle.racl_io.specs.Inputs.{most_bytes}
