@@ -175,6 +175,6 @@ fn a_capture_with_a_fault_is_named(rt: HostRuntime) -> Result<(), Fail> {
         interface: Some(2),
     };
     assert!(rt; outcome == Err(fault));
-    assert!(rt; writer.taken.as_slice() == b"1 if 1 pass rule 1 reflect\n");
+    assert!(rt; writer.taken.as_slice() == b"1 if 1 pass rule 1 reflect\n".as_slice());
     Ok(())
 }
