@@ -90,7 +90,9 @@ class LiveInterfaces(Case):
         cut = [(number, data + data[24:44]) for number, data in BOTH]
         told = MERGED.replace(b"packets", b"if 1 truncated after 3\nif 2 truncated after 3\npackets")
         self.compare(self.live(cut), wanted(told, status=3))
-        self.compare(self.live([cut[1], BOTH[0]]), wanted(MERGED.replace(b"packets", b"if 2 truncated after 3\npackets"), status=3))
+        # (of equal moments the packet of the file that is named first comes first)
+        turned = MERGED.replace(b"2 if 1 pass rule 1 reflect\n3 if 2 pass rule 1 reflect", b"2 if 2 pass rule 1 reflect\n3 if 1 pass rule 1 reflect")
+        self.compare(self.live([cut[1], BOTH[0]]), wanted(turned.replace(b"packets", b"if 2 truncated after 3\npackets"), status=3))
 
     def test_many_packets(self):
         """Files whose packets lie among each other in runs of any length, with more than are handed on at once."""
@@ -151,16 +153,61 @@ class LiveInterfaces(Case):
         self.compare({"lines": lines}, {"lines": [b"1 if 2 drop default\n", b"2 if 2 pass rule 1 reflect\n", b"3 if 2 pass session\n"]})
         self.compare({"rest": rest}, {"rest": b"4 if 1 pass rule 1 reflect\n5 if 1 pass session\n6 if 1 drop default\npackets 6 pass 4 drop 2\n"})
 
+    def test_reads_that_end_behind_a_record(self):
+        """What a read gives may end where a record does."""
+        made = [record(100 + it, bytes(136)) for it in range(432)]
+        told = b"".join(b"%d if 1 pass not-ip\n" % it for it in range(1, 433)) + b"packets 432 pass 432 drop 0\n"
+        self.assertEqual(len(header() + b"".join(made[:431])), 65536)
+        self.compare(self.live([(1, header() + b"".join(made))]), wanted(told))
+
+    def test_short_reads(self):
+        """Reads give few bytes at a time, and are interrupted."""
+        for most in ("7", "100"):
+            self.compare(self.live(BOTH, env={**self.interrupting(), "MOST_READ": most}), wanted(MERGED), most)
+
+    def test_failed_reads(self):
+        """A read of a file or a FIFO that fails is told, behind lines of what came, with the capture that it is of."""
+        name = f"{self.folder}/frames"
+        for fails, captures in (("1", BOTH), ("2", BOTH), ("1", BOTH[:1]), ("2", BOTH[:1])):
+            for is_pipe in (False, True):
+                words, path = self.words_of(captures), f"{self.folder}/1"
+                if is_pipe:
+                    os.mkfifo(name)
+                    words[1], path = f"1={name}", name
+                    feeder = subprocess.Popen(["sh", "-c", 'cat "$1" >"$2"', "sh", f"{self.folder}/1", name], stderr=subprocess.DEVNULL)
+                got = self.program.run(["--live", *words, self.policy], env={**self.interrupting(), "FAILED_FILE": path, "FAILED_READ": fails})
+                if is_pipe:
+                    feeder.kill()
+                    feeder.wait()
+                    os.remove(name)
+                of = ", the capture of interface 1" if len(captures) > 1 else ""
+                self.compare(got, wanted(got["stdout"], f"racl: read failed\nracl: that is {path}{of}\n", 4), fails, len(captures), is_pipe)
+                self.assertNotIn(b"packets", got["stdout"])
+                if len(captures) == 1:
+                    self.compare({"lines": got["stdout"].count(b"\n")}, {"lines": 0 if fails == "1" else len(ONE)})
+
+    def test_a_folder(self):
+        got = self.program.run(["--live", *self.words_of(BOTH[:1]), "--interface", f"2={self.folder}", self.policy])
+        self.compare({"status": got["status"], "said": f"racl: {self.folder}: Is a directory (os error 21)\n" in got["stderr"].decode()}, {"status": 4, "said": True})
+
+    def test_remarks(self):
+        """What is unlikely to be meant is told of each interface."""
+        policy = self.hold("policy", b"interface 1\n" + NAMES + b"interface 2\nin permit ipv4 any any\nout deny ipv4 any any\n")
+        got = self.program.run(["--live", "--summary", *self.words_of([*BOTH, (9, header())]), policy])
+        said = (f"racl: {policy}: interface 2 has no mac line, so none of its out rules is looked at\n"
+                f"racl: {policy}: interface 9 has no rule, so each of its packets of IP is dropped\n")
+        self.compare(got, wanted(got["stdout"], said))
+
     def test_standard_input(self):
         words = ["--live", "--interface", "1=-", self.policy]
         self.compare(self.program.run(words, BOTH[0][1]),
                      wanted(b"1 if 1 pass rule 1 reflect\n2 if 1 pass session\n3 if 1 drop default\npackets 3 pass 2 drop 1\n"))
 
-    @each([("no capture", CAPTURE[:10], "not a pcap capture"), ("no header", b"", "not a pcap capture"), ("another kind", b"\x0a\x0d\x0d\x0a" + bytes(24), "not a pcap capture"),
+    @each([("no capture", CAPTURE[:10], "capture header is short"), ("no header", b"", "capture header is short"), ("another kind", b"\x0a\x0d\x0d\x0a" + bytes(24), "not a pcap capture"),
            ("another link", header(link=101), "capture is not Ethernet"), ("a long record", header() + ONE[0] + LONG, "record 2 is too long")])
     def faults(self, data, said):
         """A capture with a fault ends the run, behind the lines of the packets that came before, and is named."""
-        got = self.live([(2, data), (9, header())])
+        got = self.live([(2, data), (1, header())])
         told = {**wanted(None, None, 1), "stdout": got["stdout"]}
         self.compare(got, told)
         self.assertTrue(got["stderr"].startswith(f"racl: {said}\nracl: that is {self.folder}/2, the capture of interface 2\n".encode()), got["stderr"])
@@ -177,9 +224,10 @@ class LiveInterfaces(Case):
         self.compare(self.program.run(["--live", *words, "--interface", f"3={missing}", self.policy]), told, "capture")
 
     def test_an_interface_twice(self):
-        words = [*self.words_of(BOTH), "--interface", f"1={self.folder}/2"]
-        whole = self.program.run([*words, self.policy])
-        self.compare(self.program.run(["--live", *words, self.policy]), whole)
+        for words in ([*self.words_of(BOTH), "--interface", f"1={self.folder}/2"], [*self.words_of(BOTH)[2:], *self.words_of(BOTH)[:2], "--interface", f"1={self.folder}/2"]):
+            whole = self.program.run([*words, self.policy])
+            self.compare(self.program.run(["--live", *words, self.policy]), whole)
+            self.assertEqual(whole["status"], 1)
 
     def test_wrong_policy(self):
         got = self.program.run(["--live", *self.words_of(BOTH), self.hold("policy", b"in deny\n")])
@@ -204,7 +252,7 @@ class LiveInterfaces(Case):
                 pass
         self.timer.cancel()
         ran.stderr.close()
-        self.assertEqual(status, 4)
+        self.compare({"status": status}, {"status": 4})
 
     def test_words(self):
         got = self.program.run(["--live", "--drops", f"{self.folder}/drops", *self.words_of(BOTH), self.policy])

@@ -52,7 +52,6 @@ WRONG_WORDS = [
     (["--tables", "large", "--tables", "large"], None),
     (["--passes", "saved"], None),
     (["--live"], None),
-    (["--live", "--interface", "1=capture", "policy"], None),
 ]
 
 

@@ -10,16 +10,16 @@ use Rattle.packet_view.specs.declared.tuple.Family.TheVariants.{V4, V6}
 use Rattle.acl_policy.specs.declared.rule.Action.{Action}
 use Rattle.acl_policy.specs.declared.rule.Action.TheVariants.{Deny, Permit, Reflect}
 use Rattle.acl_policy.specs.Lines.{Begins, Blank, IsInterface, IsLine, LineFacts, Own, Ruled, Say, action_word, direction_word, family_word, traffic_of}
-use Rattle.policy_words.specs.inner.Reading.{next_in}
+use Rattle.acl_policy.specs.inner.WordReading.{next_in}
 use Rattle.acl_policy.specs.inner.Reading.Lines.{action_in, direction_in, ends_in, family_in, head_in, heading_in, interface_in, line_in, own_line_in, rule_line_in, said_in}
-use Rattle.policy_words.specs.inner.Reading.Prefixes.{mac_in, prefix_in}
-use Rattle.policy_words.specs.inner.Reading.Traffic.{number_up_to_in, traffic_in}
-use Rattle.policy_words.specs.Words.{without_comment, words_of}
-use Rattle.policy_words.proofs.OptionLemmas.{bind_some, bytes_eq-true, chosen, if_last-some, next_in-some, same_some}
-use Rattle.policy_words.proofs.PieceLaws.{mac_in-complete, mac_in-sound}
-use Rattle.policy_words.proofs.PrefixLaws.{prefix_in-complete, prefix_in-sound}
-use Rattle.policy_words.proofs.RangeLaws.{number_up_to-complete, number_up_to-sound}
-use Rattle.policy_words.proofs.TrafficLaws.{traffic_in-complete, traffic_in-sound}
+use Rattle.acl_policy.specs.inner.WordReading.Prefixes.{mac_in, prefix_in}
+use Rattle.acl_policy.specs.inner.WordReading.Traffic.{number_up_to_in, traffic_in}
+use Rattle.acl_policy.specs.Words.{without_comment, words_of}
+use Rattle.acl_policy.proofs.OptionLemmas.{bind_some, bytes_eq-true, chosen, if_last-some, next_in-some, same_some}
+use Rattle.acl_policy.proofs.PieceLaws.{mac_in-complete, mac_in-sound}
+use Rattle.acl_policy.proofs.PrefixLaws.{prefix_in-complete, prefix_in-sound}
+use Rattle.acl_policy.proofs.RangeLaws.{number_up_to-complete, number_up_to-sound}
+use Rattle.acl_policy.proofs.TrafficLaws.{traffic_in-complete, traffic_in-sound}
 
 pub direction_in-sound : (word : List ℕ) (direction : Direction) → direction_in word ≡ Some direction → word ≡ direction_word direction
 direction_in-sound word direction found = elim (chosen (bytes_eq word (codes "in")) (Some Inbound) _ (Some direction) found) [

@@ -1,5 +1,11 @@
 pub mod Lines
 pub mod Matching
+pub mod Numerals
 pub mod Policies
+pub mod Prefixes
+pub mod Readers
 pub mod Rules
+pub mod Traffic
+pub mod Widths
+pub mod Words
 pub mod inner

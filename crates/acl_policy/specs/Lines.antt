@@ -7,12 +7,12 @@ use Rattle.packet_view.specs.declared.tuple.Family.TheVariants.{V4, V6}
 use Rattle.packet_view.specs.declared.tuple.Mac.{Mac}
 use Rattle.acl_policy.specs.declared.rule.Action.{Action}
 use Rattle.acl_policy.specs.declared.rule.Action.TheVariants.{Deny, Permit, Reflect}
-use Rattle.policy_words.specs.declared.protocol_parts.Traffic.{Traffic}
-use Rattle.policy_words.specs.Numerals.{IsNumber}
-use Rattle.policy_words.specs.Prefixes.{IsMac, IsPrefix}
+use Rattle.acl_policy.specs.declared.protocol_parts.Traffic.{Traffic}
+use Rattle.acl_policy.specs.Numerals.{IsNumber}
+use Rattle.acl_policy.specs.Prefixes.{IsMac, IsPrefix}
 use Rattle.acl_policy.specs.Rules.{RuleFacts}
-use Rattle.policy_words.specs.Traffic.{IsTraffic}
-use Rattle.policy_words.specs.Words.{without_comment, words_of}
+use Rattle.acl_policy.specs.Traffic.{IsTraffic}
+use Rattle.acl_policy.specs.Words.{without_comment, words_of}
 
 -- a line without words, the beginning of an interface's section, the own address, or a rule of a direction
 pub data LineFacts : Type 0 where

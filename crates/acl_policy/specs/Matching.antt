@@ -6,7 +6,7 @@ use Rattle.packet_view.specs.declared.tuple.Fields.TheVariants.{Absent, Ports, T
 use Rattle.packet_view.specs.Tuples.{TupleFacts}
 use Rattle.acl_policy.specs.declared.rule.Action.{Action}
 use Rattle.acl_policy.specs.Rules.{RuleFacts}
-use Rattle.policy_words.specs.Widths.{width}
+use Rattle.acl_policy.specs.Widths.{width}
 
 -- The address begins with the first bits of the prefix, as many as its length says.
 abbrev pub HoldsPrefix : Family → ℕ × ℕ → ℕ → Type 0

@@ -1,16 +1,19 @@
 //! What a line of a policy says.
 ghost use Rattle.std.specs.Prelude.{◌≡◌, ◌≤◌, ◌<◌, IfSome, option_map};
 ghost use Rattle.acl_policy.specs.inner.Reading.Lines.{ends_in, head_in, heading_in, line_facts, line_in, own_line_in, rule_line_in};
-ghost use Rattle.policy_words.specs.Widths.{width};
-ghost use Rattle.policy_words.specs.Words.{words_of};
+ghost use Rattle.acl_policy.specs.Widths.{width};
+ghost use Rattle.acl_policy.specs.Words.{words_of};
 ghost use Rattle.packet_view.specs.Addresses.{address_limit};
 
+use crate::line_words::{before_comment, is_end, next_word};
+use crate::mac::mac_of;
 use crate::policy_line_words::{
     action_of_word, direction_of_word, family_of_word, interface_of_word,
 };
+use crate::prefix::prefix_of;
+use crate::protocol_parts::traffic_of;
 use crate::rule::{Action, Rule};
 use packet_view::{Direction, Family, Mac};
-use policy_words::{before_comment, is_end, mac_of, next_word, prefix_of, traffic_of};
 
 /// What a line says: nothing, the beginning of an interface's section, the interface's own address, or a rule of a
 /// direction.

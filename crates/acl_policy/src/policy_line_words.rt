@@ -2,9 +2,9 @@
 ghost use Rattle.std.specs.Prelude.{◌≡◌};
 ghost use Rattle.acl_policy.specs.inner.Reading.Lines.{action_in, direction_in, family_in, interface_in};
 
+use crate::number_parsing::number_up_to;
 use crate::rule::Action;
 use packet_view::{Direction, Family};
-use policy_words::number_up_to;
 
 /// A word of a policy's line that says a direction.
 pub fn direction_of_word(word: &[u8]) -> Option<Direction>

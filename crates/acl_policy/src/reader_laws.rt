@@ -2,7 +2,7 @@
 ghost use Rattle.std.specs.Prelude.{◌≡◌, ◌↔◌, ◌++◌, ◌∷◌, [], ℕ, List, Ok, Err};
 ghost use Rattle.packet_view.specs.declared.tuple.Direction.{Direction};
 ghost use Rattle.packet_view.specs.declared.tuple.Family.{Family};
-ghost use Rattle.policy_words.specs.Readers.{IsReaderOf};
+ghost use Rattle.acl_policy.specs.Readers.{IsReaderOf};
 ghost use Rattle.acl_policy.specs.declared.policy.PolicyFault.TheVariants.{BadLine, TooMany};
 ghost use Rattle.acl_policy.specs.declared.rule.Action.{Action};
 ghost use Rattle.acl_policy.specs.Lines.{IsInterface, IsLine, action_word, direction_word, family_word};

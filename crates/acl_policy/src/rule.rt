@@ -1,7 +1,7 @@
 //! A rule: which packets it is about, and what becomes of them.
 ghost use Rattle.std.specs.Prelude.{◌≤◌, ◌<◌};
 ghost use Rattle.packet_view.specs.Addresses.{address_limit};
-ghost use Rattle.policy_words.specs.Widths.{width};
+ghost use Rattle.acl_policy.specs.Widths.{width};
 
 use packet_view::Family;
 

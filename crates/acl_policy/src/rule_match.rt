@@ -3,13 +3,13 @@ ghost use Rattle.std.specs.Prelude.{◌≡◌, ◌≤◌, ◌<◌, ◌↔◌, �
 ghost use Rattle.acl_policy.specs.declared.rule.Action.{Action};
 ghost use Rattle.acl_policy.specs.Matching.{HasFields, HoldsPrefix, IsRuling, IsIn, Matches};
 ghost use Rattle.acl_policy.specs.Rules.{rule_facts};
-ghost use Rattle.policy_words.specs.Widths.{width};
+ghost use Rattle.acl_policy.specs.Widths.{width};
 ghost use Rattle.packet_view.specs.Addresses.{address_limit};
 ghost use Rattle.packet_view.specs.Tuples.{tuple_facts};
 
 use crate::rule::{Action, Rule};
+use crate::width_and_icmp_of_family::width_of;
 use packet_view::{Family, Fields, Tuple};
-use policy_words::width_of;
 
 /// Whether an address matches a prefix of a rule.
 #[tactic(auto, using(crate::proofs::PrefixBits::begins_alike))]

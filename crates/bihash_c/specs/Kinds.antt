@@ -6,10 +6,10 @@ use Rattle.bihash_words.specs.contracts.flow_shapes.ShapeV6Shape.TheImpl as shap
 use Rattle.bihash_words.specs.declared.flow_shapes.ShapeV4.{ShapeV4}
 use Rattle.bihash_words.specs.declared.flow_shapes.ShapeV6.{ShapeV6}
 use Rattle.bihash_words.specs.declared.shape.Shape.{Ghosts}
-use Rattle.large_shapes.specs.contracts.large_flow_shapes.LargeV4Shape.TheImpl as large_v4
-use Rattle.large_shapes.specs.contracts.large_flow_shapes.LargeV6Shape.TheImpl as large_v6
-use Rattle.large_shapes.specs.declared.large_flow_shapes.LargeV4.{LargeV4}
-use Rattle.large_shapes.specs.declared.large_flow_shapes.LargeV6.{LargeV6}
+use Rattle.bihash_words.specs.contracts.large_flow_shapes.LargeV4Shape.TheImpl as large_v4
+use Rattle.bihash_words.specs.contracts.large_flow_shapes.LargeV6Shape.TheImpl as large_v6
+use Rattle.bihash_words.specs.declared.large_flow_shapes.LargeV4.{LargeV4}
+use Rattle.bihash_words.specs.declared.large_flow_shapes.LargeV6.{LargeV6}
 use Rattle.bihash_c.specs.declared.key.Key.{Key}
 use Rattle.bihash_c.specs.declared.table_kind.Kind.{Kind}
 use Rattle.bihash_c.specs.declared.table_kind.Kind.TheVariants.{Two, LargeTwo, Five, LargeFive}

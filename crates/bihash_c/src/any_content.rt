@@ -1,7 +1,6 @@
 //! What is behind a handle, by the kind of its table.
 use crate::handle_content::Content;
-use bihash_words::{ShapeV4, ShapeV6};
-use large_shapes::{LargeV4, LargeV6};
+use bihash_words::{LargeV4, LargeV6, ShapeV4, ShapeV6};
 
 /// What is behind a handle of a table of any kind.
 #[derive(Drop)]

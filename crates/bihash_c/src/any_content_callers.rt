@@ -9,8 +9,7 @@ use crate::answer_numbers::{DONE, Stamp};
 use crate::any_content::AnyContent;
 use crate::handle_content::Content;
 use crate::table_kind::Kind;
-use bihash_words::flow_shapes_are_sound;
-use large_shapes::large_shapes_are_sound;
+use bihash_words::{flow_shapes_are_sound, large_shapes_are_sound};
 use std::alloc::Global;
 
 impl AnyContent {

@@ -7,8 +7,9 @@ ghost use Rattle.bihash_c.specs.Options.{BucketTold};
 use crate::key::Key;
 use crate::options::{Options, kind_of};
 use crate::table_kind::Kind;
-use bihash_words::{ShapeV4, ShapeV6, bucket_of, flow_shapes_are_sound};
-use large_shapes::{LargeV4, LargeV6, large_shapes_are_sound};
+use bihash_words::{
+    LargeV4, LargeV6, ShapeV4, ShapeV6, bucket_of, flow_shapes_are_sound, large_shapes_are_sound,
+};
 
 /// The number that no bucket has.
 pub const NO_BUCKET: u64 = u64::MAX;

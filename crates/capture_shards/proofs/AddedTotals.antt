@@ -10,7 +10,7 @@ use Rattle.packet_view.proofs.FrameLemmas.{view_shown}
 use Rattle.session_state.specs.Passes.{passes}
 use Rattle.session_state.specs.declared.verdict.Verdict.{Verdict}
 use Rattle.flow_filter.specs.OneThread.{Layout}
-use Rattle.packet_dealing.specs.Dealings.{flow_of_frame}
+use Rattle.flow_dealing.specs.Dealings.{flow_of_frame}
 use Rattle.racl_io.specs.Reports.{lacks_pages}
 use Rattle.capture_shards.specs.Shards.{AddUp, AreMerged, AreOwns, Own, over_shards, own_in, shard_of}
 use Rattle.capture_shards.proofs.OneReport.{shard_within}

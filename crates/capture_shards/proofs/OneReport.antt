@@ -24,7 +24,7 @@ use Rattle.flow_filter.specs.Readings.{AreReadings, Framed, IsReading, Reading, 
 use Rattle.flow_filter.specs.Updates.{Update, update_in, update_of}
 use Rattle.flow_filter.proofs.HomeLemmas.{homes_are_one}
 use Rattle.flow_filter.proofs.OneThreadLemmas.{one_verdicts, some_verdicts}
-use Rattle.packet_dealing.specs.Dealings.{flow_of_frame, flow_of_reading}
+use Rattle.flow_dealing.specs.Dealings.{flow_of_frame, flow_of_reading}
 use Rattle.capture_shards.specs.Shards.{AreMerged, AreOwns, AreShardVerdicts, IsOwnOf, Own, own_in, own_packets, shard_of}
 use Rattle.capture_shards.proofs.PickedLists.{HasOwner, own_all, own_map, own_zip, same_by_owns}
 

@@ -14,11 +14,11 @@ use Rattle.session_state.specs.declared.flow.FlowKey.{FlowKey}
 use Rattle.session_state.specs.declared.flow.FlowKey.TheVariants.{Four, Six}
 use Rattle.flow_filter.specs.OneThread.{Layout, home_of, layout_of}
 use Rattle.flow_filter.specs.Updates.{words_of}
-use Rattle.packet_dealing.specs.Dealings.{flow_of_frame, hash_in}
-use Rattle.packet_dealing.specs.Dealt.{HasFlow}
-use Rattle.packet_dealing.specs.HashedFlows as dealt
-use Rattle.packet_dealing.specs.declared.hashed_flow.HashedFlow.{HashedFlow}
-use Rattle.packet_dealing.proofs.OwnAddresses.{same_flow_shown}
+use Rattle.flow_dealing.specs.Dealings.{flow_of_frame, hash_in}
+use Rattle.flow_dealing.specs.Dealt.{HasFlow}
+use Rattle.flow_dealing.specs.HashedFlows as dealt
+use Rattle.flow_dealing.specs.declared.hashed_flow.HashedFlow.{HashedFlow}
+use Rattle.flow_dealing.proofs.OwnAddresses.{same_flow_shown}
 use Rattle.capture_shards.specs.Shards.{IsOver, IsOwnOf, shard_of}
 use Rattle.capture_shards.specs.declared.shard.Shard.{Shard}
 use Rattle.capture_shards.specs.inner.OwnTests.{IsHashed, bucket_in, flow_seen, own_of, place_in}

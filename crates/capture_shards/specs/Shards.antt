@@ -10,7 +10,7 @@ use Rattle.session_state.specs.declared.timeouts.Timeouts.{Timeouts}
 use Rattle.session_state.specs.declared.verdict.Verdict.{Verdict}
 use Rattle.flow_filter.specs.OneThread.{AreVerdicts, Layout, home_of}
 use Rattle.flow_filter.specs.Readings.{IsSeenAt}
-use Rattle.packet_dealing.specs.Dealings.{flow_of_frame}
+use Rattle.flow_dealing.specs.Dealings.{flow_of_frame}
 use Rattle.racl_io.specs.Reports.{dropped, passed, without_pages}
 use Rattle.capture_shards.specs.declared.shard.Shard.{Shard}
 

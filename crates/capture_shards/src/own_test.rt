@@ -10,7 +10,7 @@ ghost use Rattle.capture_shards.specs.inner.OwnTests.{bucket_in, flow_seen, own_
 
 use crate::shard::Shard;
 use bihash_words::{ShapeV4, ShapeV6};
-use packet_dealing::{HashedFlow, see_other, see_plain};
+use flow_dealing::{HashedFlow, see_other, see_plain};
 use packet_view::Packet;
 use session_state::FlowKey;
 

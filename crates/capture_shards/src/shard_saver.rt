@@ -6,7 +6,7 @@ ghost use Rattle.capture_shards.specs.inner.FrontRecords.{HasFrontRecord, HasNoR
 use crate::own_test::is_own;
 use crate::shard::Shard;
 use capture_stream::Saver;
-use packet_view::{Order, Packet, Piece, next_record};
+use packet_view::{NextRecord, Order, Packet, next_record};
 use racl_io::Fault;
 use session_state::Verdict;
 
@@ -35,7 +35,7 @@ fn front_record(bytes: &[u8], order: Order) -> Option<FrontRecord<'_>>
     ensures none { IfNone result (HasNoRecord order bytes.now) }
 {
     match next_record(bytes, order) {
-        Piece::Whole {
+        NextRecord::Whole {
             moment,
             micros,
             frame,
@@ -53,7 +53,7 @@ fn front_record(bytes: &[u8], order: Order) -> Option<FrontRecord<'_>>
                 rest,
             })
         }
-        Piece::End | Piece::Truncated | Piece::TooLong => None,
+        NextRecord::End | NextRecord::Truncated | NextRecord::TooLong => None,
     }
 }
 

@@ -7,7 +7,6 @@ use Rattle.std.proofs.KnownBytes.{Appends-trans}
 use Rattle.std.specs.Io.KnownBytes.{Appends}
 use Rattle.packet_view.specs.Captures.{PacketFacts, RecordFacts, packet_at, packets_at}
 use Rattle.packet_view.specs.declared.capture.CaptureFault.TheVariants as capture
-use Rattle.packet_view.specs.declared.records_at_front.Stop.TheVariants as stop
 use Rattle.session_state.specs.declared.verdict.Verdict.{Verdict}
 use Rattle.racl_io.specs.declared.fault.Fault.{Fault}
 use Rattle.racl_io.specs.declared.fault.Fault.TheVariants as fault
@@ -19,7 +18,7 @@ use Rattle.racl_io.proofs.ReportLemmas.{passed_of_both, without_pages_of_both}
 use Rattle.racl_io.proofs.TellingLemmas.{front_on}
 use Rattle.capture_stream.specs.Histories.{AreRight, Follows}
 use Rattle.capture_stream.specs.Lives.{AreCounted, most_live}
-use Rattle.capture_stream.specs.Turns.{AreHeaded, AreTurns, HaveCome, IsTurn, Turn, bytes_at, cuts_of, own_of, packets_of, records_at}
+use Rattle.capture_stream.specs.Turns.{AreTurns, AreTurnsToLong, HaveCome, HaveComeToLong, IsLongTurn, IsTurn, Turn, bytes_at, cuts_of, own_of, packets_of, records_at}
 use Rattle.capture_stream.specs.declared.arrival.Arrival.{Arrival}
 use Rattle.capture_stream.specs.declared.lane.Lane.{Lane}
 use Rattle.capture_stream.specs.declared.live_telling.Live.{Live}
@@ -44,10 +43,7 @@ pub some_of : (xs : List ℕ) (b : Bool) → b ≡ nat_eq (length xs) 0 → b �
 some_of [] b same full = λ e. absurd (true≢false (sym same ∙ full))
 some_of (x ∷ xs) b same full = λ e. let size = ap length e in absurd (omega arith)
 
--- the capture of this turn has its bytes and records
-own_bytes : (turn : Turn) (turns : List Turn) → bytes_at turn.interface (turn ∷ turns) ≡ bytes_at turn.interface turns ++ turn.bytes
-own_bytes turn turns = ap (λ (b : Bool). bytes_at turn.interface turns ++ (if b then turn.bytes else [])) (nat_eq_same turn.interface)
-
+-- the capture of this turn has its records
 own_records : (turn : Turn) (turns : List Turn) → records_at turn.interface (turn ∷ turns) ≡ records_at turn.interface turns ++ turn.records
 own_records turn turns = ap (λ (b : Bool). records_at turn.interface turns ++ (if b then turn.records else [])) (nat_eq_same turn.interface)
 
@@ -149,7 +145,7 @@ module _ {J : Type 0} (Became : J → List PacketFacts → List Verdict → J �
       let packets = is.packets in
       omega arith
 
-  pub told_still : (new : Option (List ℕ)) → new ≡ now → AreTold Judged wording begun old new turns
+  pub told_still : (new : Option (List ℕ)) → new ≡ now → AreTold AreTurns Judged wording begun old new turns
   told_still new same = record {
     are = is.are;
     verdicts = is.verdicts;
@@ -195,8 +191,8 @@ module _ {J : Type 0} (Became : J → List PacketFacts → List Verdict → J �
         ≡ lines_in wording 1 (packets_of turns ++ packets_at arrival.interface more) (is.verdicts ++ verdicts)
     all_lines = lines_on wording (packets_of turns) (packets_at arrival.interface more) _ is.verdicts verdicts coming.live.engine.packets is.packets is.count refl
 
-    pub more_told : (new : Option (List ℕ)) → (turn : IsTurn turns (turn_of arrival more [])) → Appends now new (lines_after wording arrival coming.live more verdicts)
-        → AreTold Judged wording begun old new (turn_of arrival more [] ∷ turns)
+    pub more_told : (new : Option (List ℕ)) → (turn : IsLongTurn turns (turn_of arrival more [])) → Appends now new (lines_after wording arrival coming.live more verdicts)
+        → AreTold AreTurnsToLong Judged wording begun old new (turn_of arrival more [] ∷ turns)
     more_told new turn text = record {
       are = (is.are, turn);
       verdicts = is.verdicts ++ verdicts;
@@ -205,15 +201,21 @@ module _ {J : Type 0} (Became : J → List PacketFacts → List Verdict → J �
       text = subst (Appends old new) all_lines (Appends-trans old now new _ _ is.text text);
     }
 
-    pub more_cut : (new : Option (List ℕ)) → (turn : IsTurn turns (turn_of arrival more [])) → GotFront now new (lines_after wording arrival coming.live more verdicts)
+    pub more_cut : (new : Option (List ℕ)) → IsTurn turns (turn_of arrival more []) ⊎ IsLongTurn turns (turn_of arrival more [])
+        → GotFront now new (lines_after wording arrival coming.live more verdicts)
         → AreCutTold Judged wording begun old new (turn_of arrival more [] ∷ turns)
     more_cut new turn front = record {
-      are = (is.are, turn);
+      are = last turn;
       verdicts = is.verdicts ++ verdicts;
       judged = all_judged;
       count = all_count;
       front = subst (GotFront old new) all_lines (front_on old now new _ _ is.text front);
     }
+      where
+        last : IsTurn turns (turn_of arrival more []) ⊎ IsLongTurn turns (turn_of arrival more [])
+            → AreTurns (turn_of arrival more [] ∷ turns) ⊎ AreTurnsToLong (turn_of arrival more [] ∷ turns)
+        last (inl is_turn) = inl (is.are, is_turn)
+        last (inr long) = inr (is.are, long)
 
     pub more_on : (new : Option (List ℕ)) (next : Coming J) → (turn : IsTurn turns (turn_of arrival more []))
         → Appends now new (lines_after wording arrival coming.live more verdicts)
@@ -275,26 +277,19 @@ module _ {J : Type 0} (Became : J → List PacketFacts → List Verdict → J �
   bytes_fault counts arrival some new found (inl (same, inr (long, cause, wrong, is_it))) =
       inr (inl (told_still new same, record { named = refl; cause = cause; wrong = wrong; same = is_it; short = λ less. absurd (omega (arith, long, less)) }))
   bytes_fault counts arrival some new found (inr (inl long)) =
-      let turn = turn_of arrival long.more [] in
-      let bytes = own_bytes turn turns in
-      let records = own_records turn turns in
       inr (inr (inl (
         long.more,
-        more_told counts arrival long.more long.verdicts long.right new
-            (part_turn arrival long.more some (inr (long.order, long.rest, long.are, stop.TooLong, long.long))) long.text,
-        record {
-          interface = arrival.interface;
-          named = refl;
-          order = long.order;
-          rest = long.rest;
-          are = subst (λ (b : List ℕ). AreHeaded long.order b (records_at arrival.interface (turn ∷ turns)) long.rest) (sym bytes)
-              (subst (λ (r : List RecordFacts). AreHeaded long.order (bytes_at arrival.interface turns ++ arrival.bytes.items) r long.rest) (sym records) long.are);
-          long = long.long;
-          same = long.same ∙ ap (λ (r : List RecordFacts). fault.LongRecord (length r + 1)) (sym records);
-        },
+        more_told counts arrival long.more long.verdicts long.right new (record { more = some; uncut = refl; long = long.long }) long.text,
+        long.same ∙ ap (λ (r : List RecordFacts). fault.LongRecord (length r + 1)) (sym (own_records (turn_of arrival long.more []) turns)),
       )))
   bytes_fault counts arrival some new found (inr (inr (write, cut))) =
-      inr (inr (inr (write, cut.more, more_cut counts arrival cut.more cut.verdicts cut.right new (part_turn arrival cut.more some cut.come) cut.front)))
+      inr (inr (inr (write, cut.more, more_cut counts arrival cut.more cut.verdicts cut.right new (last cut.come) cut.front)))
+    where
+      last : HaveCome (bytes_at arrival.interface turns ++ arrival.bytes.items) (records_at arrival.interface turns ++ cut.more)
+          ⊎ HaveComeToLong (bytes_at arrival.interface turns ++ arrival.bytes.items) (records_at arrival.interface turns ++ cut.more)
+          → IsTurn turns (turn_of arrival cut.more []) ⊎ IsLongTurn turns (turn_of arrival cut.more [])
+      last (inl come) = inl (part_turn arrival cut.more some come)
+      last (inr long) = inr (record { more = some; uncut = refl; long = long })
 
   -- a capture has ended
   pub end_fault : (arrival : Arrival) → arrival.bytes.items ≡ [] → (new : Option (List ℕ)) (found : Fault) → new ≡ now

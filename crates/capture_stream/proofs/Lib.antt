@@ -1,5 +1,6 @@
 pub mod ArrivalLemmas
 pub mod ComingLemmas
+pub mod EndLemmas
 pub mod FeedLemmas
 pub mod PartLemmas
 pub mod TellLemmas

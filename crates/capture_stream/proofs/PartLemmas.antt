@@ -18,7 +18,7 @@ use Rattle.capture_stream.specs.declared.live_telling.Live.{Live}
 use Rattle.capture_stream.specs.declared.arrivals_telling.Waiting.{Waiting}
 use Rattle.capture_stream.specs.inner.Comings.{HasToldBytes, HasToldMore, HasToldTurn, IsBytesFault, IsTurnFault}
 use Rattle.capture_stream.specs.inner.Lanes.{HasWaiting, IsLane, IsShort}
-use Rattle.capture_stream.proofs.TurnLemmas.{headed_joined, waiting_longer}
+use Rattle.capture_stream.proofs.TurnLemmas.{come_to, headed_joined, waiting_longer}
 
 -- the bytes of a part wait behind those that waited
 pub joined_waits : (order : Option Order) (bytes more held : List ℕ) (records : List RecordFacts) (all first second : List ℕ) → HasWaiting order bytes records held
@@ -74,7 +74,7 @@ module _ {J : Type 0} (Became : J → List PacketFacts → List Verdict → J �
         record {
           more = cut.more;
           verdicts = cut.verdicts;
-          come = inr (waiting.order, cut.rest, all, cut.stop, cut.stops);
+          come = come_to waiting.order _ _ cut.rest cut.stop all cut.stops;
           right = subst (λ n. AreRight Became Judged live.engine.judges (packets_at n cut.more) cut.verdicts) at cut.right;
           front = subst (λ n. GotFront old new (lines_in wording (live.engine.packets + 1) (packets_at n cut.more) cut.verdicts)) at cut.front;
         },
@@ -85,10 +85,7 @@ module _ {J : Type 0} (Became : J → List PacketFacts → List Verdict → J �
       inr (inl (record {
         more = said.more;
         verdicts = said.verdicts;
-        order = waiting.order;
-        rest = rest;
-        are = all;
-        long = long;
+        long = (waiting.order, rest, all, long);
         right = subst (λ n. AreRight Became Judged live.engine.judges (packets_at n said.more) said.verdicts) at said.right;
         text = subst (λ n. Appends old new (lines_in wording (live.engine.packets + 1) (packets_at n said.more) said.verdicts)) at said.text;
         same = same ∙ ap (λ n. fault.LongRecord (n + 1)) both;

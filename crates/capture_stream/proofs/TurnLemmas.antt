@@ -23,7 +23,7 @@ use Rattle.capture_stream.specs.Histories.{AreRight, Follows}
 use Rattle.capture_stream.specs.Feeding.{rest_in}
 use Rattle.capture_stream.specs.Lives.{HaveFailed, most_live}
 use Rattle.capture_stream.specs.Savings.{Outputs, manner_of, outputs}
-use Rattle.capture_stream.specs.Turns.{AreHeaded, HasCaptureEnded, HaveCome}
+use Rattle.capture_stream.specs.Turns.{AreHeaded, HasCaptureEnded, HaveCome, HaveComeToLong}
 use Rattle.capture_stream.specs.declared.lane.Lane.{Lane}
 use Rattle.capture_stream.specs.declared.live_telling.Live.{Live}
 use Rattle.capture_stream.specs.declared.arrivals_telling.Waiting.{Waiting}
@@ -43,8 +43,15 @@ short_of order rest false none = inl none
 pub come_of : (order : Option Order) (bytes : List ℕ) (records : List RecordFacts) (waits : List ℕ) → HasWaiting order bytes records waits → IsShort order waits
     → HaveCome bytes records
 come_of None bytes records waits (same, none) short = inl (let size = ap length same in omega arith, none)
-come_of (Some order) bytes records waits are (inl none) = inr (order, waits, are, stop.End, none)
-come_of (Some order) bytes records waits are (inr cut) = inr (order, waits, are, stop.Truncated, cut)
+come_of (Some order) bytes records waits are (inl none) = inr (order, waits, are, false, none)
+come_of (Some order) bytes records waits are (inr cut) = inr (order, waits, are, true, cut)
+
+-- or the record behind them is too long
+pub come_to : (order : Order) (bytes : List ℕ) (records : List RecordFacts) (rest : List ℕ) (stop_at : Stop) → AreHeaded order bytes records rest
+    → Stops order rest stop_at → HaveCome bytes records ⊎ HaveComeToLong bytes records
+come_to order bytes records rest stop.End are none = inl (inr (order, rest, are, false, none))
+come_to order bytes records rest stop.Truncated are cut = inl (inr (order, rest, are, true, cut))
+come_to order bytes records rest stop.TooLong are long = inr (order, rest, are, long)
 
 pub lane_come : (bytes : List ℕ) (records : List RecordFacts) (lane : Lane) → IsLane bytes records lane → HaveCome bytes records
 lane_come bytes records lane is = come_of lane.order bytes records (held_by lane.window) is.waiting is.short

@@ -1,10 +1,8 @@
 -- The packets that come of several captures: each part of one makes some of its records whole (this project's profile).
 use Rattle.std.specs.Prelude.{◌≡◌, ◌≢◌, ◌<◌, ◌⊎◌, ◌++◌, if◌then◌else◌, ℕ, Bool, true, false, List, [], ◌∷◌, Some, length, nat_eq, ⊤}
 use Rattle.std.specs.List.{filter}
-use Rattle.packet_view.specs.Captures.{AreRecords, HasFileHeader, IsEnd, PacketFacts, RecordFacts, end_of, packets_at}
-use Rattle.packet_view.specs.Fronts.{Stops}
+use Rattle.packet_view.specs.Captures.{AreRecords, HasFileHeader, IsEnd, IsTooLong, PacketFacts, RecordFacts, end_of, packets_at}
 use Rattle.packet_view.specs.declared.capture.Order.{Order}
-use Rattle.packet_view.specs.declared.records_at_front.Stop.{Stop}
 use Rattle.racl_io.specs.declared.totals_and_truncation.Captured.{Captured}
 use Rattle.capture_stream.specs.Arrivals.{Part}
 
@@ -51,11 +49,15 @@ pub record AreHeaded (order : Order) (bytes : List ℕ) (records : List RecordFa
   pub right : HasFileHeader order header
   pub are : AreRecords order body records rest
 
--- these are all whole records of a capture of which these bytes came: none before its header is whole
+-- these are all whole records of a capture of which these bytes came: none before its header is whole; none that began is too long
 abbrev pub HaveCome : List ℕ → List RecordFacts → Type 0
 HaveCome bytes records =
     ((length bytes < 24) × (records ≡ []))
-    ⊎ ((order : Order) × (rest : List ℕ) × AreHeaded order bytes records rest × (stop : Stop) × Stops order rest stop)
+    ⊎ ((order : Order) × (rest : List ℕ) × AreHeaded order bytes records rest × (truncated : Bool) × IsEnd order rest (end_of truncated))
+
+-- the record behind them is too long
+abbrev pub HaveComeToLong : List ℕ → List RecordFacts → Type 0
+HaveComeToLong bytes records = (order : Order) × (rest : List ℕ) × AreHeaded order bytes records rest × IsTooLong order rest
 
 -- what is told of a capture of this interface that is cut after so many packets, or isn't
 abbrev pub cut_at : Bool → ℕ → ℕ → List Captured
@@ -71,6 +73,13 @@ pub record HasCaptureEnded (interface : ℕ) (bytes : List ℕ) (records : List 
   pub end : IsEnd order rest (end_of truncated)
   pub told : cuts ≡ cut_at truncated interface (length records)
 
+-- nothing came of the capture of this interface, or it has ended, and what is told of that is told
+abbrev pub IsAtEnd : ℕ → List Turn → Type 0
+IsAtEnd interface turns =
+    ((bytes_at interface turns ≡ []) × (records_at interface turns ≡ []))
+    ⊎ ((cuts : List Captured) × HasCaptureEnded interface (bytes_at interface turns) (records_at interface turns) cuts
+    × (earlier : List Captured) × (later : List Captured) × (cuts_of turns ≡ earlier ++ (cuts ++ later)))
+
 -- after these turns comes this one
 pub record IsTurn (before : List Turn) (turn : Turn) : Type 0 where
   pub come : HaveCome (bytes_at turn.interface before ++ turn.bytes) (records_at turn.interface before ++ turn.records)
@@ -80,3 +89,14 @@ pub record IsTurn (before : List Turn) (turn : Turn) : Type 0 where
 abbrev pub AreTurns : List Turn → Type 0
 AreTurns [] = ⊤
 AreTurns (turn ∷ before) = AreTurns before × IsTurn before turn
+
+-- after these turns came some bytes of a capture that show that a record of it is too long
+pub record IsLongTurn (before : List Turn) (turn : Turn) : Type 0 where
+  pub more : turn.bytes ≢ []
+  pub uncut : turn.cuts ≡ []
+  pub long : HaveComeToLong (bytes_at turn.interface before ++ turn.bytes) (records_at turn.interface before ++ turn.records)
+
+-- these turns came, and only behind the records of the last one is one that is too long
+abbrev pub AreTurnsToLong : List Turn → Type 0
+AreTurnsToLong [] = ⊥
+AreTurnsToLong (turn ∷ before) = AreTurns before × IsLongTurn before turn

@@ -1,6 +1,7 @@
 //! What gives the bytes of several captures as they come.
-ghost use Rattle.std.specs.Prelude.{◌≡◌, ◌-◌, ◌<◌, ◌^◌, ℕ, List, Option, MatchResult};
-ghost use Rattle.capture_stream.specs.Arrivals.{HasGiven, IsNotGiven, Part};
+ghost use Rattle.std.specs.Prelude.{◌≡◌, ◌-◌, ◌<◌, ◌^◌, ℕ, List, Option, IfErr, IfOk, MatchResult};
+ghost use Rattle.racl_io.specs.declared.fault.Fault.TheVariants.{Read};
+ghost use Rattle.capture_stream.specs.Arrivals.{AreWhole, HasGiven, HaveEnded, IsNotGiven, Part};
 ghost use Rattle.capture_stream.specs.Lives.{with_read};
 
 use crate::arrival::{Arrival, FaultAt};
@@ -10,12 +11,23 @@ pub trait Arrivals {
     /// The parts that are still to come, where they are known.
     ghost parts: { Self → Option (List Part) };
 
+    /// Each capture of which a part is still to come does so to its end, and no further.
+    ghost whole: { (captures : Self) → AreWhole (parts captures) };
+
+    /// How many captures haven't ended, where that is known.
+    ghost left: { Self → Option ℕ };
+
     /// How often it failed.
     ghost failures: { Self → ℕ };
 
-    /// Waits for the next part, of at most 64 KiB; None where all captures have ended. A fault is Memory, or Read of a capture.
+    /// The interface whose capture last couldn't be read, where one couldn't be.
+    ghost unread: { Self → Option ℕ };
+
+    /// Waits for the next part, of at most 64 KiB; None where all captures have ended. A fault is Memory, or Read of the capture that it names.
     fn next(&mut self) -> Result<Option<Arrival>, FaultAt>
         requires { failures self.old < 2 ^ 64 - 1 }
         ensures parts { MatchResult result (HasGiven (parts self.old) (parts self.new)) (IsNotGiven (parts self.old) (parts self.new)) }
-        ensures failures { MatchResult result (λ _. failures self.new ≡ failures self.old) (λ found. failures self.new ≡ with_read (failures self.old) found.fault) };
+        ensures failures { MatchResult result (λ _. failures self.new ≡ failures self.old) (λ found. failures self.new ≡ with_read (failures self.old) found.fault) }
+        ensures left { IfOk result (HaveEnded (left self.old) (left self.new)) }
+        ensures whose { IfErr result (λ found. found.fault ≡ Read → found.interface ≡ unread self.new) };
 }

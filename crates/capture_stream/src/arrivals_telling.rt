@@ -6,7 +6,8 @@ ghost use Rattle.racl_io.specs.Buffers.{held_by};
 ghost use Rattle.racl_io.specs.Faults.{capture_fault};
 ghost use Rattle.racl_io.specs.Reports.{is_truncated};
 ghost use Rattle.racl_io.specs.Tellings.{Wording, with_write};
-ghost use Rattle.racl_io.specs.declared.fault.Fault.TheVariants.{Memory, Short};
+ghost use Rattle.racl_io.specs.declared.fault.Fault.TheVariants.{Memory, Read, Short};
+ghost use Rattle.capture_stream.specs.Arrivals.{HaveAllEnded};
 ghost use Rattle.capture_stream.specs.ComingCaptures.{HasToldCaptures, IsFaultOfComing};
 ghost use Rattle.capture_stream.specs.Lives.{AreCounted, with_read};
 ghost use Rattle.capture_stream.specs.Turns.{HasCaptureEnded, Turn};
@@ -315,7 +316,9 @@ pub fn tell_arrivals<J: Judge + Drop, L: Teller, A: Arrivals, W: Sink>(
     ensures told { let wording = L.wording teller.old in
         MatchResult result (HasToldCaptures J.became J.judged wording judges (A.parts arrivals.old) (A.parts arrivals.new) (W.bytes writer.old) (W.bytes writer.new))
         (IsFaultOfComing J.judged wording judges (A.parts arrivals.old) (A.parts arrivals.new) (W.bytes writer.old) (W.bytes writer.new)) }
+    ensures left { IfOk result (λ _. HaveAllEnded (A.left arrivals.new)) }
     ensures read { MatchResult result (λ _. A.failures arrivals.new ≡ A.failures arrivals.old) (λ found. A.failures arrivals.new ≡ with_read (A.failures arrivals.old) found.fault) }
+    ensures whose { IfErr result (λ found. found.fault ≡ Read → found.interface ≡ A.unread arrivals.new) }
     ensures write { MatchResult result (λ _. W.failures writer.new ≡ W.failures writer.old) (λ found. W.failures writer.new ≡ with_write (W.failures writer.old) found.fault) }
     ensures same { IfOk result (λ _. L.wording teller.new ≡ L.wording teller.old) }
 {

@@ -3,8 +3,10 @@ ghost use Rattle.std.specs.Prelude.{◌<◌, ◌^◌, MatchResult};
 ghost use Rattle.capture_stream.specs.inner.Feedings.{IsCutAt, IsLongAt};
 
 use crate::judge::Judge;
-use crate::read_sizes::{FIRST_READ, ReadSize, read_behind};
-use crate::windows_of_records::{Found, NextWindow, find_records, found_records, judge_and_read};
+use crate::live_read_sizes::{FIRST_READ, ReadSize, read_behind};
+use crate::windows_of_records::{
+    Found, NextWindow, find_records, found_records, judge_beside_reading, read_and_find,
+};
 use packet_view::{Order, Packets, Stop};
 use racl_io::{Fault, ReadBuffer, Source};
 use session_state::Verdict;
@@ -177,14 +179,22 @@ impl<J: Judge> Engine<J> {
             return Err(Fault::Memory);
         };
         let marked = found_records(bytes, self.order, self.interface, &self.found);
-        let (judged, next) = judge_and_read(
-            beside,
-            &mut self.judges,
-            marked,
-            reader,
-            &mut self.spare,
-            behind + more,
-        );
+        let least = behind + more;
+        let (judged, next) = match beside {
+            None => {
+                let judged = self.judges.judge(Packets::Marked(marked));
+                let next = read_and_find(reader, &mut self.spare, least, self.order);
+                (judged, next)
+            }
+            Some(rt) => judge_beside_reading(
+                rt,
+                &mut self.judges,
+                marked,
+                reader,
+                &mut self.spare,
+                least,
+            ),
+        };
         let NextWindow { found, .. } = match next {
             Ok(next) => next,
             Err(fault) => return Err(fault),

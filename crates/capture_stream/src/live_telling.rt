@@ -7,7 +7,7 @@ ghost use Rattle.capture_stream.specs.inner.Tellings.{HasToldWaiting, IsWaitingF
 
 use crate::engine::{Engine, is_cut};
 use crate::judge::Judge;
-use crate::read_sizes::ReadSize;
+use crate::live_read_sizes::ReadSize;
 use crate::saver::Saver;
 use packet_view::{Order, Stop};
 use racl_io::{Fault, Sink, Source, Teller, Totals, without_pages};

@@ -103,9 +103,9 @@ pub fn found_records<'a>(
     }
 }
 
-// Reads the next window: bytes are read behind those that stand in `next` until there are so many, and the records in
-// all of them are found.
-fn read_and_find<R: Source>(
+/// Reads the next window: bytes are read behind those that stand in `next` until there are so many, and the records in
+/// all of them are found.
+pub fn read_and_find<R: Source>(
     reader: &mut R,
     next: &mut ReadBuffer,
     least: usize,
@@ -121,10 +121,10 @@ fn read_and_find<R: Source>(
     })
 }
 
-/// The packets of one window are judged, and then the next window is read until it has so many bytes, and its records
-/// are found: beside the judging in a thread of its own where there is a runtime for threads.
-pub fn judge_and_read<J: Judge, T: Threads, R: Source + Send>(
-    beside: Option<&T>,
+/// The packets of one window are judged, and beside it, in a thread of its own, the next window is read until it has so
+/// many bytes, and its records are found.
+pub fn judge_beside_reading<J: Judge, T: Threads, R: Source + Send>(
+    rt: &T,
     judges: &mut J,
     marked: MarkedRecords<'_>,
     reader: &mut R,
@@ -137,10 +137,6 @@ pub fn judge_and_read<J: Judge, T: Threads, R: Source + Send>(
     ensures read { HasReadMore R.bytes R.failures reader.old reader.new (held_by next.old) (held_by next.new) least marked.entry.records.order result.1 }
 {
     let order = marked.records.order;
-    let Some(rt) = beside else {
-        let judged = judges.judge(Packets::Marked(marked));
-        return (judged, read_and_find(reader, next, least, order));
-    };
     let (read, judged) = join_mut(
         rt,
         &mut ||

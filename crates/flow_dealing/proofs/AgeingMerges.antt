@@ -20,7 +20,7 @@ use Rattle.flow_filter.specs.Readings.{AreReadings, Framed, IsReading, IsReading
 use Rattle.session_state.specs.declared.verdict.Verdict.TheVariants as verdict
 use Rattle.flow_filter.specs.Judged.{readings_of}
 use Rattle.flow_filter.specs.OneThread.{same_family}
-use Rattle.packet_dealing.specs.Dealings.{Deal, flow_of_reading, flow_of_frame, worker_of}
+use Rattle.flow_dealing.specs.Dealings.{Deal, flow_of_reading, flow_of_frame, worker_of}
 use Rattle.flow_dealing.specs.Traces.{AreFrames, Item, events_of, judged_of, numbers_from}
 use Rattle.flow_dealing.specs.AgeingTraces.{Aged, Ages, AreInOrder, Deed, Takes, aged_in, calls_by, items_in, removal_by}
 use Rattle.flow_dealing.specs.WorkerRecords.{add_in, events_by}

@@ -35,7 +35,7 @@ use Rattle.flow_filter.specs.Judged.{Asked, Asks, Judged, Settled, WhereAsked, r
 use Rattle.flow_filter.specs.OneThread.{HasPages, Layout, family_of, same_family, sizes_in}
 use Rattle.flow_filter.proofs.HomeLemmas.{families_are_one}
 use Rattle.flow_dealing.specs.Views.{view_in}
-use Rattle.packet_dealing.specs.Dealings.{Deal, flow_of_reading, worker_of}
+use Rattle.flow_dealing.specs.Dealings.{Deal, flow_of_reading, worker_of}
 use Rattle.flow_dealing.specs.WorkerRecords.{AreFew, AreFewBetween, AreJudged, AreJudgedBetween, AreRecorded, HasPagesIn, HavePages, add_in, events_by, is_in, keyed, removed_of}
 use Rattle.flow_dealing.proofs.ListCounts.{IsLabelled, at_least, sum_at, sum_one, sum_zero}
 use Rattle.flow_dealing.proofs.DealtEvents.{events_by-judges, events_by-nil, events_by-removes}

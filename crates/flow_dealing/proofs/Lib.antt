@@ -1,9 +1,13 @@
 pub mod AgeingMerges
+pub mod ChunkLemmas
 pub mod DealtEvents
+pub mod DealtLists
 pub mod FewPackets
+pub mod HandedPackets
 pub mod ListCounts
 pub mod OneOwner
 pub mod OneReport
+pub mod OwnAddresses
 pub mod PacketCalls
 pub mod Passing
 pub mod Places

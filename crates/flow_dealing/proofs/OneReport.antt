@@ -22,10 +22,10 @@ use Rattle.flow_filter.specs.OneThread.{AreVerdicts, HasPages, Home, IsHome, IsO
 use Rattle.flow_filter.specs.Readings.{AreReadings, IsReading}
 use Rattle.flow_filter.specs.Updates.{Update, update_of}
 use Rattle.flow_filter.proofs.OneThreadLemmas.{some_verdicts}
-use Rattle.filter_laws.proofs.AgeingLemmas.{aged_verdicts}
-use Rattle.packet_dealing.specs.declared.dealing.Dealing.TheVariants.{Bucket}
+use Rattle.flow_filter.proofs.AgeingLemmas.{aged_verdicts}
+use Rattle.flow_dealing.specs.declared.dealing.Dealing.TheVariants.{Bucket}
 use Rattle.flow_dealing.specs.Views.{Views, view_in}
-use Rattle.packet_dealing.specs.Dealings.{Deal, flow_of_reading, worker_of}
+use Rattle.flow_dealing.specs.Dealings.{Deal, flow_of_reading, worker_of}
 use Rattle.flow_dealing.specs.WorkerRecords.{AreInTimeOrder, AreJudged, AreJudgedAgeing, AreJudgedBetween, AreWithinLimit, HavePages, IsByOwner, RemoveInTime}
 use Rattle.flow_dealing.proofs.OneOwner.{owner, runs_at}
 use Rattle.flow_dealing.proofs.PacketCalls.{call_of_packet, some_worker}

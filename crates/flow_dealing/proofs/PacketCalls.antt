@@ -22,7 +22,7 @@ use Rattle.flow_filter.specs.Updates.{Update, update_in, update_of, words_of}
 use Rattle.flow_filter.specs.Judged.{AreAsked, Asked, Asks, IsAsked, IsAskedBy, Judged, Settled}
 use Rattle.flow_filter.specs.OneThread.{family_of, same_family}
 use Rattle.flow_filter.proofs.HomeLemmas.{families_are_one, family_as_itself}
-use Rattle.packet_dealing.specs.Dealings.{Deal, flow_of_reading, worker_of}
+use Rattle.flow_dealing.specs.Dealings.{Deal, flow_of_reading, worker_of}
 use Rattle.flow_dealing.specs.Places.{AreStepsBefore}
 use Rattle.flow_dealing.specs.WorkerRecords.{AreRecorded, IsByOwner, add_in, events_by}
 use Rattle.flow_dealing.proofs.DealtEvents.{add_in-append, events_by-judges, events_by-nil, events_by-removes, worker_few}

@@ -26,7 +26,7 @@ use Rattle.session_state.specs.Passes.{passes}
 use Rattle.flow_filter.proofs.AskedLemmas.{asks_once}
 use Rattle.flow_filter.proofs.PassingLemmas.{pass_by_reading}
 use Rattle.flow_dealing.specs.Views.{Views, view_in}
-use Rattle.packet_dealing.specs.Dealings.{Deal, flow_of_reading, worker_of}
+use Rattle.flow_dealing.specs.Dealings.{Deal, flow_of_reading, worker_of}
 use Rattle.flow_dealing.specs.Places.{HasPlace, HaveOwnCalls, PassesAtPlace}
 use Rattle.flow_dealing.specs.WorkerRecords.{AreJudgedBetween, events_by}
 use Rattle.flow_dealing.proofs.PacketCalls.{IsCallFor, call_of_packet, event_of_packet, steps_between}

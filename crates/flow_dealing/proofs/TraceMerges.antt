@@ -19,8 +19,8 @@ use Rattle.flow_filter.specs.Ageing.{IsOfExpired, NeverFall, Removal, moment_of,
 use Rattle.flow_filter.specs.Readings.{AreReadings, IsReading}
 use Rattle.flow_filter.specs.Judged.{IsAsked, readings_of, verdicts_on}
 use Rattle.flow_dealing.specs.Views.{Views, view_in}
-use Rattle.filter_laws.proofs.AgeingMaps.{later_by}
-use Rattle.packet_dealing.specs.Dealings.{Deal}
+use Rattle.flow_filter.proofs.AgeingMaps.{later_by}
+use Rattle.flow_dealing.specs.Dealings.{Deal}
 use Rattle.flow_dealing.specs.Traces.{ArePlaced, AreFrames, Item, judged_of}
 use Rattle.flow_dealing.specs.AgeingTraces.{Aged, AreAllDeeds, Deed, HaveDone, IsRemovalOf, aged_in, calls_by, items_in, removal_by}
 use Rattle.flow_dealing.specs.WorkerRecords.{AreInTimeOrder, AreJudgedAgeing, AreJudgedBetween, AreJudgedBy, HasLongExpired, IsByOwner, removal_delay}

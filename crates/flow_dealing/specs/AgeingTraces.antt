@@ -16,7 +16,7 @@ use Rattle.bihash_rule.specs.declared.view.View.{View}
 use Rattle.session_state.specs.declared.timeouts.Timeouts.{Timeouts}
 use Rattle.flow_filter.specs.Ageing.{Removal}
 use Rattle.flow_filter.specs.OneThread.{same_family, sizes_in}
-use Rattle.packet_dealing.specs.Dealings.{Deal}
+use Rattle.flow_dealing.specs.Dealings.{Deal}
 use Rattle.flow_dealing.specs.Traces.{IsTrace, Item}
 use Rattle.flow_dealing.specs.Wanted.{HaveWanted}
 use Rattle.flow_dealing.specs.WorkerRecords.{HasLongExpired, IsByOwner, add_in}

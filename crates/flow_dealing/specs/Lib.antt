@@ -1,6 +1,10 @@
 pub mod AgeingTraces
+pub mod Dealings
+pub mod Dealt
+pub mod HashedFlows
 pub mod Places
 pub mod Traces
 pub mod Views
 pub mod Wanted
 pub mod WorkerRecords
+pub mod inner

@@ -22,7 +22,7 @@ use Rattle.flow_filter.specs.Readings.{Ruled, Ruling}
 use Rattle.flow_filter.specs.Updates.{Update, update_of}
 use Rattle.session_state.specs.Passes.{passes}
 use Rattle.session_state.specs.declared.verdict.Verdict.{Verdict}
-use Rattle.packet_dealing.specs.Dealings.{Deal, flow_of_reading, worker_of}
+use Rattle.flow_dealing.specs.Dealings.{Deal, flow_of_reading, worker_of}
 use Rattle.flow_dealing.specs.WorkerRecords.{AreJudgedBetween, events_by}
 use Rattle.flow_dealing.specs.Views.{Views, view_in}
 

@@ -14,7 +14,7 @@ use Rattle.session_state.specs.declared.verdict.Verdict.{Verdict}
 use Rattle.flow_filter.specs.Readings.{IsReading, IsSeen, Reading}
 use Rattle.flow_filter.specs.Judged.{Asked, Asks, IsAsked, Judged, Settled, verdict_on}
 use Rattle.flow_filter.specs.OneThread.{Layout, home_of}
-use Rattle.packet_dealing.specs.Dealings.{Deal, flow_of_reading, flow_of_frame, worker_of}
+use Rattle.flow_dealing.specs.Dealings.{Deal, flow_of_reading, flow_of_frame, worker_of}
 
 -- a packet by its number, from 0, its reading, and the call that it made
 pub record Item : Type 0 where

@@ -21,7 +21,7 @@ use Rattle.flow_filter.specs.Readings.{AreReadings}
 use Rattle.flow_filter.specs.Judged.{Asked, Asks, IsAsked, Judged, Settled, verdict_on}
 use Rattle.flow_filter.specs.OneThread.{HasPages, Layout, bounds_in, family_of, same_family, sizes_in}
 use Rattle.flow_dealing.specs.Views.{Views, view_in}
-use Rattle.packet_dealing.specs.Dealings.{Deal, flow_of_reading, worker_of}
+use Rattle.flow_dealing.specs.Dealings.{Deal, flow_of_reading, worker_of}
 use Rattle.flow_dealing.specs.Wanted.{HaveWanted}
 
 -- what came of an update of this family, an event or a call, stands before the others

@@ -1,6 +1,15 @@
+pub mod AgeingLemmas
+pub mod AgeingMaps
+pub mod ApartLemmas
 pub mod AskedLemmas
+pub mod FullLemmas
 pub mod HomeLemmas
+pub mod NumberLemmas
 pub mod OneThreadLemmas
+pub mod OrderLemmas
+pub mod PartedMaps
 pub mod PassingLemmas
 pub mod ReadingLemmas
+pub mod RecyclingLemmas
+pub mod RowLemmas
 pub mod Rulings

@@ -1,4 +1,5 @@
 pub mod Ageing
+pub mod Apart
 pub mod Deciders
 pub mod Filters
 pub mod InterfaceFilters
@@ -13,4 +14,5 @@ pub mod RuleIndexes
 pub mod RuleSearches
 pub mod Rulesets
 pub mod Updates
+pub mod VerdictTable
 pub mod Verdicts

@@ -3,7 +3,7 @@ use Rattle.std.specs.Prelude.{◌≡◌, Option, None, Some}
 use Rattle.session_state.specs.declared.flow.Flow.{Flow}
 use Rattle.session_state.specs.declared.flow.FlowKey.{FlowKey}
 use Rattle.flow_filter.specs.OneThread.{Layout, home_of}
-use Rattle.packet_dealing.specs.Dealings.{hash_in}
+use Rattle.flow_dealing.specs.Dealings.{hash_in}
 use Rattle.flow_judge.specs.declared.packet_bucket.FlowBucket.{FlowBucket}
 
 -- it is the home of this key, whose hash it has

@@ -4,12 +4,12 @@ ghost use Rattle.bihash_words.specs.Sizes.{IsSound, sizes_of};
 ghost use Rattle.packet_view.specs.Frames.{FrameFacts, IsFrame};
 ghost use Rattle.packet_view.specs.declared.tuple.Mac.{Mac};
 ghost use Rattle.flow_filter.specs.OneThread.{layout_of};
-ghost use Rattle.packet_dealing.specs.Dealings.{flow_of_frame, hash_in};
-ghost use Rattle.packet_dealing.specs.Dealt.{AreShapes};
+ghost use Rattle.flow_dealing.specs.Dealings.{flow_of_frame, hash_in};
+ghost use Rattle.flow_dealing.specs.Dealt.{AreShapes};
 ghost use Rattle.flow_judge.specs.FlowBuckets.{IsBucketOf, IsBucketOfFlow};
 
 use bihash_words::Shape;
-use packet_dealing::see_other;
+use flow_dealing::see_other;
 use packet_view::{Family, Packet};
 use session_state::FlowKey;
 

@@ -10,8 +10,8 @@ use Rattle.bihash_words.specs.declared.shape.Shape.{Ghosts}
 use Rattle.session_state.specs.declared.verdict.Verdict.{Verdict}
 use Rattle.flow_dealing.specs.Traces.{AreFrames, Item, numbers_from}
 use Rattle.flow_dealing.proofs.Places.{after_map, before_map}
-use Rattle.packet_dealing.specs.Dealt.{AreWorkers}
-use Rattle.packet_dealing.specs.declared.dealt_chunk.DealtRoom.{DealtRoom}
+use Rattle.flow_dealing.specs.Dealt.{AreWorkers}
+use Rattle.flow_dealing.specs.declared.dealt_chunk.DealtRoom.{DealtRoom}
 use Rattle.flow_workers.specs.declared.worker_setup.Setup.{Setup}
 use Rattle.flow_workers.specs.declared.worker_share.Batch.{Batch}
 use Rattle.flow_workers.specs.declared.worker_share.Share.{Share}
@@ -109,12 +109,11 @@ module _ {A B R G K L : Type 0} (ga : Ghosts A K) (gb : Ghosts B L) (old : Worke
 
     -- what several said may be merged
     pub may_merge : (judges : List ℕ)
-        → (1 < batch.setup.workers → HaveNoted ga gb (dealer_of batch.setup) batch.first (remaining batch.packets) [] judges)
+        → HaveNoted ga gb (dealer_of batch.setup) batch.first (remaining batch.packets) [] judges
         → 1 < old.setup.workers
         → (run : RunFacts) × (traces : List (List Item)) × (gone : LetGo) × (before : List Verdict)
         × MayMerge run traces gone (said_in_shares shares) judges (before ++ old.verdicts.items)
-    may_merge judges all_noted several =
-        let noted = all_noted (subst (λ (s : Setup A B R G K L). 1 < s.workers) (sym same) several) in
+    may_merge judges noted several =
         let place = rest.merged several in
         let many = place.count in
         let long = noted.many in
@@ -144,7 +143,7 @@ module _ {A B R G K L : Type 0} (ga : Ghosts A K) (gb : Ghosts B L) (old : Worke
 
     -- what several said is merged, and their shares keep it no longer
     pub rest_of_several : (judges : List ℕ)
-        → (1 < batch.setup.workers → HaveNoted ga gb (dealer_of batch.setup) batch.first (remaining batch.packets) [] judges)
+        → HaveNoted ga gb (dealer_of batch.setup) batch.first (remaining batch.packets) [] judges
         → 1 < old.setup.workers → (merged : Vec Verdict) → AreMerged (said_in_shares shares) judges old.verdicts merged.items
         → (kept : Vec (Share A B K L ga gb)) → HaveLetGo shares kept.items
         → (count : ℕ) (rooms : Vec DealtRoom) → count ≡ old.count + length (remaining batch.packets)

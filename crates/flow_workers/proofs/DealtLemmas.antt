@@ -19,19 +19,19 @@ use Rattle.flow_filter.specs.InterfaceFilters.{IsReadyAt}
 use Rattle.flow_filter.specs.declared.interface_filters.InterfaceFilter.{InterfaceFilter}
 use Rattle.session_state.specs.declared.verdict.Verdict.{Verdict}
 use Rattle.flow_filter.specs.OneThread.{layout_of}
-use Rattle.packet_dealing.specs.HashedFlows.{IsHashed}
-use Rattle.packet_dealing.proofs.DealtLists.{front_only, next_there, some_left, stands_at, there_behind}
-use Rattle.packet_dealing.specs.Dealt.{AreDealt, IsDealtTo}
-use Rattle.packet_dealing.specs.declared.dealt_chunk.DealtChunk.{DealtChunk}
-use Rattle.packet_dealing.specs.declared.dealt_chunk.DealtPacket.{DealtPacket}
-use Rattle.packet_dealing.specs.declared.dealt_chunk.DealtPacket.TheVariants.{Other}
+use Rattle.flow_dealing.specs.HashedFlows.{IsHashed}
+use Rattle.flow_dealing.proofs.DealtLists.{front_only, next_there, some_left, stands_at, there_behind}
+use Rattle.flow_dealing.specs.Dealt.{AreDealt, IsDealtTo}
+use Rattle.flow_dealing.specs.declared.dealt_chunk.DealtChunk.{DealtChunk}
+use Rattle.flow_dealing.specs.declared.plain_sighting.PlainSighting.{PlainSighting}
 use Rattle.flow_workers.specs.declared.worker_share.Batch.{Batch}
 use Rattle.flow_workers.specs.declared.worker_share.Share.{Share}
 use Rattle.flow_workers.specs.declared.session_tables.Callers.{Callers}
 use Rattle.flow_workers.specs.declared.viewed_packet.ViewedPacket.{ViewedPacket}
 use Rattle.flow_workers.specs.Callers.{AreIdle}
 use Rattle.flow_workers.specs.Verdicts.{HasVerdict}
-use Rattle.flow_workers.specs.inner.Jobs.{AreDealtFrom, HasWorkedOn, IsChunkAt, IsViewedAt, IsWorkerOf, MayJudgeFound, MayJudgePacket, MayJudgeViewed, StandAmong, dealer_of, policy_of, run_facts}
+use Rattle.flow_workers.specs.inner.Ageing.{MayAge}
+use Rattle.flow_workers.specs.inner.Jobs.{AreDealtFrom, HasWorkedOn, IsChunkAt, IsViewedAt, IsWorkerOf, MayJudgePacket, MayJudgeSighting, MayJudgeViewed, StandAmong, dealer_of, policy_of, run_facts}
 use Rattle.flow_workers.specs.inner.ViewedPackets.{IsViewed, TellsViewed}
 use Rattle.flow_workers.proofs.WorkSteps.{IsAt, one_more, work_passed}
 
@@ -39,7 +39,7 @@ front_there : {X : Type 0} (xs ys : List X) (k : ℕ) (x : X) → slice_get xs k
 front_there xs ys k x at = front_only xs ys k (slice_get_within xs k x at) ∙ at
 
 -- what a place of a list of packets says
-facts_there : (packets : List Packet) (k : ℕ) (d : Packet) (packet : PacketFacts) → slice_get (map packet_facts packets) k ≡ Some packet
+pub facts_there : (packets : List Packet) (k : ℕ) (d : Packet) (packet : PacketFacts) → slice_get (map packet_facts packets) k ≡ Some packet
     → packet_facts (get_or packets k d) ≡ packet
 facts_there [] k d packet there = let inside = slice_get_within [] k packet there in absurd (omega arith)
 facts_there (p ∷ packets) zero d packet there = same_Some _ _ there
@@ -113,16 +113,28 @@ module _ {A B R G K L : Type 0} (ga : Ghosts A K) (gb : Ghosts B L) (batch : Bat
     mine = may.mine;
   }
 
-  -- so may one that stands among a chunk's others
-  pub other_aged : (worker first at place : ℕ) (others : List Packet) (found : DealtPacket) (d : Packet) (old new : Share A B K L ga gb)
-      → MayJudgeFound ga gb batch worker first (map packet_facts others) found old → found ≡ Other at place
-      → HasWorkedOn ga gb batch worker (first + at) (first + at) old new
-      → MayJudgePacket ga gb batch worker (first + at) (packet_facts (get_or others place d)) new
-  other_aged worker first at place others found d old new may is aged =
-      let here : MayJudgeFound ga gb batch worker first (map packet_facts others) (Other at place) old =
-      subst (λ f. MayJudgeFound ga gb batch worker first (map packet_facts others) f old) is may in
-      subst (λ p. MayJudgePacket ga gb batch worker (first + at) p new) (sym (facts_there others place d here.packet here.is))
-      (may_judge_aged worker (first + at) here.packet old new here.may aged)
+  -- so may one whose plain frame was seen
+  pub sighting_aged : (worker at : ℕ) (seen : PlainSighting) (old new : Share A B K L ga gb)
+      → MayJudgeSighting ga gb batch worker at seen old → HasWorkedOn ga gb batch worker at at old new
+      → MayJudgeSighting ga gb batch worker at seen new
+  sighting_aged worker at seen old new may aged = record {
+    packet = may.packet;
+    is = may.is;
+    may = may_judge_aged worker at may.packet old new may.may aged;
+  }
+
+  -- the worker may remove sessions before it
+  pub may_age : (worker at moment : ℕ) (packet : PacketFacts) (share : Share A B K L ga gb)
+      → MayJudgePacket ga gb batch worker at packet share → packet.moment ≡ moment
+      → MayAge ga gb batch worker at moment share
+  may_age worker at moment packet share may timed = record {
+    shapes = may.shapes;
+    few = may.few;
+    idle = may.idle;
+    packet = packet;
+    there = may.there;
+    timed = timed;
+  }
 
   -- it is that packet among all, by what the policy says of its interface
   pub viewed_among : (all : List PacketFacts) → StandAmong batch all → (at : ℕ) (filter : InterfaceFilter)

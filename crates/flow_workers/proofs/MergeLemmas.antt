@@ -15,14 +15,14 @@ use Rattle.packet_view.proofs.FrameLemmas.{view_only, view_shown}
 use Rattle.packet_view.proofs.BurstLemmas.{left_behind}
 use Rattle.bihash_words.specs.declared.shape.Shape.{Ghosts}
 use Rattle.bihash_steps.proofs.Lists.{at_after, there, within}
-use Rattle.packet_dealing.proofs.DealtLists.{none_left, there_behind}
+use Rattle.flow_dealing.proofs.DealtLists.{none_left, there_behind}
 use Rattle.std.proofs.Math.Seq.{drop-append_seam}
-use Rattle.packet_dealing.specs.Dealt.{AreWorkers}
-use Rattle.packet_dealing.specs.declared.packet_worker.Dealer.{Dealer}
+use Rattle.flow_dealing.specs.Dealt.{AreWorkers}
+use Rattle.flow_dealing.specs.declared.dealer.Dealer.{Dealer}
 use Rattle.acl_policy.specs.Policies.{PolicyFacts, section_of}
 use Rattle.session_state.specs.declared.verdict.Verdict.{Verdict}
 use Rattle.flow_filter.specs.OneThread.{layout_of}
-use Rattle.packet_dealing.specs.Dealings.{Deal, flow_of_frame, worker_of}
+use Rattle.flow_dealing.specs.Dealings.{Deal, flow_of_frame, worker_of}
 use Rattle.flow_dealing.specs.Traces.{AreFrames, ArePlaced, IsTrace, Item, numbers_from}
 use Rattle.flow_dealing.proofs.DealtEvents.{all_views, worker_few}
 use Rattle.flow_dealing.proofs.Places.{after_map, at_front, before_map, zip_count}

@@ -2,25 +2,26 @@
 use Rattle.std.proofs.Common.{◌≡◌, ◌≢◌, ◌∙◌, ◌+◌, ◌<◌, ◌≤◌, Fits, w64, ℕ, List, [], ◌∷◌, Some, ap, arith, drop, get_or, inl, inr, length, map, refl, slice_get, subst, sym}
 use Rattle.std.proofs.lemmas.Bool.Decides.{eqb_tells}
 use Rattle.std.specs.List.{AllZip}
-use Rattle.std.specs.Prelude.{◌^◌}
-use Rattle.std.proofs.lemmas.List.{drop_all, drop_more}
+use Rattle.std.proofs.lemmas.List.{drop_all, drop_more, length-map}
 use Rattle.std.proofs.lemmas.Option.{slice_get_within}
 use Rattle.packet_view.specs.Captures.{PacketFacts, packet_facts}
 use Rattle.packet_view.specs.declared.packet.Packet.{Packet}
 use Rattle.packet_view.specs.CheckedCaptures.{remaining}
 use Rattle.packet_view.proofs.BurstLemmas.{left_behind}
 use Rattle.bihash_words.specs.declared.shape.Shape.{Ghosts}
-use Rattle.packet_dealing.proofs.DealtLists.{none_left, stands_at}
-use Rattle.packet_dealing.proofs.HandedPackets.{none_picked, none_there, picked_mine, picked_other}
+use Rattle.flow_dealing.proofs.DealtLists.{none_left, stands_at}
+use Rattle.flow_dealing.proofs.HandedPackets.{none_picked, none_there, picked_mine, picked_other}
 use Rattle.flow_filter.specs.OneThread.{layout_of}
-use Rattle.packet_dealing.specs.Dealt.{IsDealtPacket, IsDealtTo, IsFoundOf, picked, place_of}
-use Rattle.packet_dealing.specs.declared.dealt_chunk.DealtPacket.{DealtPacket}
-use Rattle.packet_dealing.specs.declared.dealt_chunk.DealtChunk.{DealtChunk}
+use Rattle.flow_dealing.specs.Dealt.{IsDealtPacket, IsDealtTo, IsFoundOf, picked, place_of}
+use Rattle.flow_dealing.specs.declared.plain_sighting.PlainSighting.{PlainSighting}
+use Rattle.flow_dealing.specs.declared.dealt_chunk.DealtPacket.{DealtPacket}
+use Rattle.flow_dealing.specs.declared.dealt_chunk.DealtPacket.TheVariants.{Other, Plain}
+use Rattle.flow_dealing.specs.declared.dealt_chunk.DealtChunk.{DealtChunk}
 use Rattle.flow_workers.specs.declared.worker_share.Batch.{Batch}
 use Rattle.flow_workers.specs.declared.worker_share.Share.{Share}
-use Rattle.flow_workers.specs.Callers.{AreIdle, AreShapes}
-use Rattle.flow_workers.specs.inner.Jobs.{HasWorkedOn, IsChunkAt, MayJudgeFound, dealer_of}
-use Rattle.flow_workers.proofs.DealtLemmas.{chunk_left, chunk_mine, worked_none, worked_on, worked_past, worked_to}
+use Rattle.flow_workers.specs.Callers.{AreIdle}
+use Rattle.flow_workers.specs.inner.Jobs.{HasWorkedOn, IsChunkAt, MayJudgeChunk, MayJudgePacket, MayJudgeSighting, dealer_of}
+use Rattle.flow_workers.proofs.DealtLemmas.{chunk_left, chunk_mine, facts_there, worked_none, worked_on, worked_past, worked_to}
 use Rattle.flow_workers.proofs.WorkSteps.{taken_inside}
 
 -- The worker has looked at the packets of the chunk before one of its places, and these are its own of the others.
@@ -136,7 +137,7 @@ module _ {A B R G K L : Type 0} (ga : Ghosts A K) (gb : Ghosts B L) (batch : Bat
   ]
 
   -- the packet that the worker judges next, and what was found of it
-  pub next_own : (own : List DealtPacket) (i : ℕ) (d : DealtPacket) → i < length own
+  next_own : (own : List DealtPacket) (i : ℕ) (d : DealtPacket) → i < length own
       → HasLeft ga gb batch w first chunk (drop i own) old new
       → IsNextFound ga gb batch w first chunk (get_or own i d) (drop (i + 1) own) old new
   next_own own i d inside has =
@@ -159,16 +160,6 @@ module _ {A B R G K L : Type 0} (ga : Ghosts A K) (gb : Ghosts B L) (batch : Bat
             (found (drop has.place chunk.workers.items) (drop (first + has.place) (remaining batch.packets)) has.place at packet
             placed refl refl are has.worked);
       }
-
-  -- it stands within the batch
-  pub next_fits : (own : List DealtPacket) (i : ℕ) (d : DealtPacket) → i < length own
-      → HasLeft ga gb batch w first chunk (drop i own) old new → batch.first + length (remaining batch.packets) < 2 ^ 64
-      → Fits w64 (first + place_of (get_or own i d))
-  next_fits own i d inside has fits =
-      let next = next_own own i d inside has in
-      let within =
-      slice_get_within (remaining batch.packets) (first + place_of (get_or own i d)) next.packet next.next.there in
-      omega arith
 
   -- the worker judged its own packets, all of them
   pub own_over : (own : List DealtPacket) (i : ℕ) → length own ≤ i → HasLeft ga gb batch w first chunk (drop i own) old new
@@ -203,26 +194,8 @@ module _ {A B R G K L : Type 0} (ga : Ghosts A K) (gb : Ghosts B L) (batch : Bat
       start : first ≡ first + 0
       start = omega arith
 
-  -- the next one may be judged by what was found of it
-  pub may_judge_found : (dealt : DealtPacket) (left : List DealtPacket) (old between : Share A B K L ga gb)
-      (others : List Packet) → IsNextFound ga gb batch w first chunk dealt left old between
-      → others ≡ chunk.others.items → AreShapes ga gb → w < batch.setup.workers → batch.first + length (remaining batch.packets) < 2 ^ 64
-      → MayJudgeFound ga gb batch w first (map packet_facts others) dealt between
-  may_judge_found dealt left old between others is same shapes few fits = record {
-    packet = is.packet;
-    is = subst (λ os. IsFoundOf (layout_of ga gb) (map packet_facts os) is.packet dealt) (sym same) is.found;
-    may = record {
-      shapes = shapes;
-      few = few;
-      idle = is.next.worked.idle;
-      fits = fits;
-      there = is.next.there;
-      mine = is.next.mine;
-    };
-  }
-
   -- the next one was judged
-  pub left_next : (dealt : DealtPacket) (left : List DealtPacket) (old between new : Share A B K L ga gb)
+  left_next : (dealt : DealtPacket) (left : List DealtPacket) (old between new : Share A B K L ga gb)
       → IsNextFound ga gb batch w first chunk dealt left old between
       → HasWorkedOn ga gb batch w (first + place_of dealt) (first + place_of dealt + 1) between new
       → HasLeft ga gb batch w first chunk left old new
@@ -233,3 +206,68 @@ module _ {A B R G K L : Type 0} (ga : Ghosts A K) (gb : Ghosts B L) (batch : Bat
     worked = worked_to ga gb batch w first (first + place_of dealt + 1) (first + (place_of dealt + 1)) old new (omega arith)
         (worked_on ga gb batch w first (first + place_of dealt) (first + place_of dealt + 1) old between new is.next.worked judged);
   }
+
+-- The worker at the next packet of its own of a chunk, where it may judge its own of that.
+module _ {A B R G K L : Type 0} (ga : Ghosts A K) (gb : Ghosts B L) (batch : Batch A B R G K L) (w first : ℕ)
+    (chunk : DealtChunk) (old between : Share A B K L ga gb) (may : MayJudgeChunk ga gb batch w first chunk old)
+    (own : List DealtPacket) (i : ℕ) (d : DealtPacket) (inside : i < length own)
+    (has : HasLeft ga gb batch w first chunk (drop i own) old between) where
+  next : IsNextFound ga gb batch w first chunk (get_or own i d) (drop (i + 1) own) old between
+  next = next_own ga gb batch w first chunk may.of old between own i d inside has
+
+  may_next : (at : ℕ) → place_of (get_or own i d) ≡ at → MayJudgePacket ga gb batch w (first + at) next.packet between
+  may_next at is = subst (λ n. MayJudgePacket ga gb batch w (first + n) next.packet between) is (record {
+    shapes = may.shapes;
+    few = may.few;
+    idle = next.next.worked.idle;
+    fits = may.fits;
+    there = next.next.there;
+    mine = next.next.mine;
+  })
+
+  -- it stands within the batch
+  pub next_fits : (at : ℕ) → place_of (get_or own i d) ≡ at → Fits w64 (first + at)
+  next_fits at is =
+      let fits = may.fits in
+      let within = slice_get_within (remaining batch.packets) (first + at) next.packet (may_next at is).there in omega arith
+
+  -- its plain frame was seen
+  pub may_plain : (at : ℕ) (seen : PlainSighting) → get_or own i d ≡ Plain at seen
+      → MayJudgeSighting ga gb batch w (first + at) seen between
+  may_plain at seen is = record {
+    packet = next.packet;
+    is = subst (IsFoundOf (layout_of ga gb) (map packet_facts chunk.others.items) next.packet) is next.found;
+    may = may_next at (ap place_of is);
+  }
+
+  -- it stands among the chunk's others
+  other_there : (at place : ℕ) (others : List Packet) → others ≡ chunk.others.items → get_or own i d ≡ Other at place
+      → slice_get (map packet_facts others) place ≡ Some next.packet
+  other_there at place others same is =
+      subst (λ os. slice_get (map packet_facts os) place ≡ Some next.packet) (sym same)
+      (subst (IsFoundOf (layout_of ga gb) (map packet_facts chunk.others.items) next.packet) is next.found)
+
+  pub other_inside : (at place : ℕ) (others : List Packet) → others ≡ chunk.others.items → get_or own i d ≡ Other at place
+      → place < length others
+  other_inside at place others same is =
+      let within =
+      slice_get_within (map packet_facts others) place next.packet (other_there at place others same is) in
+      let count = length-map others packet_facts in omega arith
+
+  pub may_other : (at place : ℕ) (others : List Packet) (e : Packet) → others ≡ chunk.others.items
+      → get_or own i d ≡ Other at place
+      → MayJudgePacket ga gb batch w (first + at) (packet_facts (get_or others place e)) between
+  may_other at place others e same is =
+      subst (λ p. MayJudgePacket ga gb batch w (first + at) p between)
+      (sym (facts_there others place e next.packet (other_there at place others same is)))
+      (may_next at (ap place_of is))
+
+  -- it was judged, when sessions were removed before it
+  pub next_judged : (at : ℕ) (aged new : Share A B K L ga gb) → place_of (get_or own i d) ≡ at
+      → HasWorkedOn ga gb batch w (first + at) (first + at) between aged
+      → HasWorkedOn ga gb batch w (first + at) (first + at + 1) aged new
+      → HasLeft ga gb batch w first chunk (drop (i + 1) own) old new
+  next_judged at aged new is before judged =
+      left_next ga gb batch w first chunk (get_or own i d) (drop (i + 1) own) old between new next
+      (subst (λ n. HasWorkedOn ga gb batch w (first + n) (first + n + 1) between new) (sym is)
+      (worked_on ga gb batch w (first + at) (first + at) (first + at + 1) between aged new before judged))

@@ -9,12 +9,12 @@ use Rattle.bihash_words.specs.declared.shape.Shape.{Ghosts}
 use Rattle.acl_policy.specs.Policies.{PolicyFacts}
 use Rattle.session_state.specs.declared.timeouts.Timeouts.{Timeouts}
 use Rattle.session_state.specs.declared.verdict.Verdict.{Verdict}
-use Rattle.packet_dealing.specs.Dealings.{Deal}
+use Rattle.flow_dealing.specs.Dealings.{Deal}
 use Rattle.flow_dealing.specs.WorkerRecords.{AreJudged}
-use Rattle.packet_dealing.proofs.DealtLists.{there_behind}
-use Rattle.packet_dealing.specs.Dealt.{AreDealt, AreWorkers, IsDealtTo}
-use Rattle.packet_dealing.specs.declared.packet_worker.Dealer.{Dealer}
-use Rattle.packet_dealing.specs.declared.dealt_chunk.DealtChunk.{DealtChunk}
+use Rattle.flow_dealing.proofs.DealtLists.{there_behind}
+use Rattle.flow_dealing.specs.Dealt.{AreDealt, AreWorkers, IsDealtTo}
+use Rattle.flow_dealing.specs.declared.dealer.Dealer.{Dealer}
+use Rattle.flow_dealing.specs.declared.dealt_chunk.DealtChunk.{DealtChunk}
 use Rattle.flow_workers.specs.declared.worker_setup.Setup.{Setup}
 use Rattle.flow_workers.specs.declared.worker_share.Batch.{Batch}
 use Rattle.flow_workers.specs.declared.worker_share.Share.{Share}

@@ -32,7 +32,7 @@ use Rattle.flow_filter.specs.Updates.{Update, update_in, update_of}
 use Rattle.flow_filter.specs.Verdicts.{verdict_by, verdict_entered, verdict_of, verdict_of_rules, verdict_reflected}
 use Rattle.flow_filter.specs.Judged.{Settled, verdict_with}
 use Rattle.flow_filter.specs.OneThread.{Layout}
-use Rattle.packet_dealing.specs.Dealings.{flow_of_frame}
+use Rattle.flow_dealing.specs.Dealings.{flow_of_frame}
 use Rattle.flow_dealing.specs.Views.{Views}
 use Rattle.flow_workers.specs.declared.viewed_packet.ViewedPacket.{ViewedPacket}
 use Rattle.flow_workers.specs.inner.PacketPlans.{reading_with}

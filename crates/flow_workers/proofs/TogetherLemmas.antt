@@ -7,12 +7,12 @@ use Rattle.packet_view.specs.CheckedCaptures.{remaining}
 use Rattle.bihash_words.specs.declared.shape.Shape.{Ghosts}
 use Rattle.session_state.specs.declared.flow.Flow.{Flow}
 use Rattle.flow_filter.specs.OneThread.{Layout, layout_of}
-use Rattle.packet_dealing.specs.Dealings.{flow_of_frame, worker_by_dealing}
-use Rattle.packet_dealing.specs.declared.dealing.Dealing.{Dealing}
-use Rattle.packet_dealing.specs.declared.dealing.Dealing.TheVariants.{Bucket, Round}
-use Rattle.packet_dealing.proofs.DealtLists.{workers_push}
-use Rattle.packet_dealing.specs.Dealt.{IsDealtTo}
-use Rattle.packet_dealing.specs.declared.packet_worker.Dealer.{Dealer}
+use Rattle.flow_dealing.specs.Dealings.{flow_of_frame, worker_by_dealing}
+use Rattle.flow_dealing.specs.declared.dealing.Dealing.{Dealing}
+use Rattle.flow_dealing.specs.declared.dealing.Dealing.TheVariants.{Bucket, Round}
+use Rattle.flow_dealing.proofs.DealtLists.{workers_push}
+use Rattle.flow_dealing.specs.Dealt.{IsDealtTo}
+use Rattle.flow_dealing.specs.declared.dealer.Dealer.{Dealer}
 use Rattle.flow_workers.specs.declared.worker_share.Batch.{Batch}
 use Rattle.flow_workers.specs.declared.worker_share.Share.{Share}
 use Rattle.flow_workers.specs.Callers.{AreIdle}

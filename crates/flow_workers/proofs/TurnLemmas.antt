@@ -14,7 +14,7 @@ use Rattle.flow_dealing.specs.AgeingTraces.{Deed, HaveDeeds, calls_by}
 use Rattle.flow_dealing.proofs.TraceMerges.{HasCalls}
 use Rattle.flow_dealing.specs.Wanted.{HaveWanted}
 use Rattle.flow_workers.specs.declared.worker_share.Dealt.{Dealt}
-use Rattle.flow_workers.specs.declared.worker_share.Job.{Job}
+use Rattle.flow_workers.specs.declared.worker_share.WorkerJob.{WorkerJob}
 use Rattle.flow_workers.specs.declared.worker_share.Batch.{Batch}
 use Rattle.flow_workers.specs.declared.worker_share.Share.{Share}
 use Rattle.flow_workers.specs.declared.worker_turn.Turn.{Turn}
@@ -63,7 +63,7 @@ fresh_deeds z family v w t fresh goes wanted =
 
 module _ {A B R G K L : Type 0} (ga : Ghosts A K) (gb : Ghosts B L) (batch : Batch A B R G K L) (dealt : Dealt) where
   -- what this worker does
-  abbrev job_of : ℕ → Share A B K L ga gb → Job A B R G K L ga gb
+  abbrev job_of : ℕ → Share A B K L ga gb → WorkerJob A B R G K L ga gb
   job_of i share = record { batch = batch; dealt = dealt; worker = i; share = share }
 
   abbrev turn_of : ℕ → Share A B K L ga gb → Turn A B R G K L ga gb
@@ -119,7 +119,7 @@ module _ {A B R G K L : Type 0} (ga : Ghosts A K) (gb : Ghosts B L) (batch : Bat
     are = are;
   }
 
-  past : (t u : Turn A B R G K L ga gb) (job : Job A B R G K L ga gb) → t ≡ Ahead job → BecomesWorked ga gb t u → IsTurnPast ga gb u
+  past : (t u : Turn A B R G K L ga gb) (job : WorkerJob A B R G K L ga gb) → t ≡ Ahead job → BecomesWorked ga gb t u → IsTurnPast ga gb u
   past t u job is did = past_of u (subst (λ x. BecomesWorked ga gb x u) is did)
     where
       past_of : (v : Turn A B R G K L ga gb) → BecomesWorked ga gb (Ahead job) v → IsTurnPast ga gb v

@@ -26,7 +26,7 @@ use Rattle.flow_filter.specs.Updates.{Update, update_of, words_of}
 use Rattle.flow_filter.specs.Judged.{Asked, Asks, IsAskedBy, Settled, verdict_with}
 use Rattle.flow_filter.specs.OneThread.{Layout, family_of, home_of, same_family}
 use Rattle.flow_dealing.specs.Views.{Views}
-use Rattle.packet_dealing.specs.Dealings.{Deal, flow_of_reading, flow_of_frame, worker_of}
+use Rattle.flow_dealing.specs.Dealings.{Deal, flow_of_reading, flow_of_frame, worker_of}
 use Rattle.flow_dealing.specs.Traces.{AreFrames, IsCallAt, IsItem, IsItemOf, Item, events_of, numbers_from}
 use Rattle.flow_dealing.specs.AgeingTraces.{Ages, AreInOrder, Deed, IsRemovalOf, Takes, aged_in, calls_by, items_in}
 use Rattle.flow_dealing.proofs.AgeingMerges.{order_from}

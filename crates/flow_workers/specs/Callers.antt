@@ -9,7 +9,7 @@ use Rattle.flow_filter.specs.OneThread.{Layout}
 use Rattle.flow_workers.specs.declared.session_tables.Tables.{Tables}
 use Rattle.flow_workers.specs.declared.session_tables.Callers.{Callers}
 use Rattle.flow_dealing.specs.Views.{Views}
-pub use Rattle.packet_dealing.specs.Dealt.{AreShapes}
+pub use Rattle.flow_dealing.specs.Dealt.{AreShapes}
 
 abbrev pub views_of : {A B K L : Type 0} (ga : Ghosts A K) (gb : Ghosts B L) → Callers A B K L ga gb → Views
 views_of ga gb callers = record { four = callers.four.seat.view; six = callers.six.seat.view }

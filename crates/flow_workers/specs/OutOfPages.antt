@@ -15,7 +15,7 @@ use Rattle.session_state.specs.declared.flow.Flow.{Flow}
 use Rattle.session_state.specs.declared.flow.FlowKey.{FlowKey}
 use Rattle.session_state.specs.declared.flow.FlowKey.TheVariants.{Four, Six}
 use Rattle.flow_filter.specs.Readings.{IsSeen}
-use Rattle.packet_dealing.specs.Dealings.{flow_of_frame}
+use Rattle.flow_dealing.specs.Dealings.{flow_of_frame}
 use Rattle.flow_dealing.specs.Views.{Views}
 
 -- the last call of the caller of this key's family found too few pages for a block of 2 ^ log2 of them

@@ -6,7 +6,7 @@ use Rattle.packet_view.specs.declared.packets.Packets.{Packets}
 use Rattle.bihash_words.specs.declared.shape.Shape.{Ghosts}
 use Rattle.flow_filter.specs.OneThread.{layout_of}
 use Rattle.session_state.specs.declared.verdict.Verdict.{Verdict}
-use Rattle.packet_dealing.specs.Dealings.{Deal}
+use Rattle.flow_dealing.specs.Dealings.{Deal}
 use Rattle.flow_dealing.specs.WorkerRecords.{AreJudgedAgeing}
 use Rattle.flow_dealing.specs.Views.{Views}
 use Rattle.flow_workers.specs.declared.worker_setup.Setup.{Setup}

@@ -9,9 +9,9 @@ use crate::gate::Gate;
 use crate::loads_ahead::load_ahead_at;
 use crate::worker_ageing::age_where_due;
 use crate::worker_packet_verdict::{judge_other, judge_packet, judge_sighting};
-use crate::worker_share::{Batch, JudgedBatch, Share};
+use crate::worker_share::{Batch, Share};
 use bihash_words::Shape;
-use packet_dealing::{see_other, see_plain, worker_of_packet};
+use flow_dealing::{see_other, see_plain, worker_of_packet};
 use packet_view::{Packet, PacketBursts};
 use std::alloc::{AllocError, Global};
 use std::sync::Wait;
@@ -44,8 +44,8 @@ fn judge_next<A: Shape, B: Shape, R: Wait, G: Gate>(
     Ok(worker)
 }
 
-// The packets of a batch are judged by the only worker, who has all of them.
-fn judge_by_one<A: Shape, B: Shape, R: Wait, G: Gate>(
+/// The packets of a batch are judged by the only worker, who has all of them.
+pub fn judge_by_one<A: Shape, B: Shape, R: Wait, G: Gate>(
     batch: &Batch<'_, '_, '_, A, B, R, G>,
     share: &mut Share<A, B>,
 ) -> Result<(), AllocError>
@@ -64,29 +64,24 @@ fn judge_by_one<A: Shape, B: Shape, R: Wait, G: Gate>(
     Ok(())
 }
 
-/// The shares of all workers after these judged the packets of a batch, one after the other in this thread, with the worker
-/// of each packet; a lone worker notes nothing.
-pub fn judge_together<A: Shape, B: Shape, R: Wait, G: Gate>(
+/// The packets of a batch are judged by all workers, each packet by its own, one after the other in this thread: the worker of
+/// each packet.
+pub fn judge_by_turns<A: Shape, B: Shape, R: Wait, G: Gate>(
     alloc: Global,
-    batch: Batch<'_, '_, '_, A, B, R, G>,
-    shares: Vec<Share<A, B>>,
-) -> Result<JudgedBatch<A, B>, AllocError>
-    requires { MayJudgeBatch batch shares.items }
-    ensures { IfOk result (HaveJudgedBatch batch.entry shares.items) }
+    batch: &Batch<'_, '_, '_, A, B, R, G>,
+    shares: &mut Vec<Share<A, B>>,
+) -> Result<Vec<u8>, AllocError>
+    requires { MayJudgeBatch batch.now shares.old.items }
+    ensures { IfOk result (λ judges. HaveJudgedBatch batch.now shares.old.items shares.new.items judges.items) }
 {
-    let mut shares = shares;
     let mut judges = Vec::new(alloc);
-    if batch.setup.is_alone() {
-        judge_by_one(&batch, &mut shares[0])?;
-        return Ok(JudgedBatch { shares, judges });
-    }
     judges.reserve(batch.packets.count())?;
     let mut packets = PacketBursts::new(batch.packets);
     let mut taken = 0;
     'packets: while let Some(packet) = packets.next() {
-        let worker = judge_next(&batch, taken, &packet, &mut shares)?;
+        let worker = judge_next(batch, taken, &packet, shares)?;
         judges.push(worker as u8)?;
         taken += 1;
     }
-    Ok(JudgedBatch { shares, judges })
+    Ok(judges)
 }

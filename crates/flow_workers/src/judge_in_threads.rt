@@ -6,9 +6,9 @@ ghost use Rattle.flow_workers.specs.inner.Turns.{MayJudgeBatch};
 
 use crate::gate::Gate;
 use crate::turns_in_threads::run_shares;
-use crate::worker_share::{Batch, Dealt, JudgedBatch, Share};
+use crate::worker_share::{Batch, Dealt, Share};
 use bihash_words::Shape;
-use packet_dealing::{DealtChunk, DealtRoom, deal_packets};
+use flow_dealing::{DealtChunk, DealtRoom, deal_packets};
 use std::alloc::{AllocError, Global};
 use std::mem::replace;
 use std::sync::Wait;
@@ -33,8 +33,8 @@ fn keep_rooms(dealt: Vec<DealtChunk<'_>>, rooms: &mut Vec<DealtRoom>) -> Result<
     Ok(())
 }
 
-/// The shares of all workers after they judged the packets of a batch, each in a thread of its own, with the worker of each
-/// packet. The lists in which packets are dealt are those of earlier batches, where there are any, and are kept for later ones.
+/// The packets of a batch are judged by all workers, each in a thread of its own: the worker of each packet. The lists in which
+/// packets are dealt are those of earlier batches, where there are any, and are kept for later ones.
 pub fn judge_in_threads<
     A: Shape + Send + Sync,
     B: Shape + Send + Sync,
@@ -42,16 +42,16 @@ pub fn judge_in_threads<
     G: Gate + Sync,
 >(
     alloc: Global,
-    batch: Batch<'_, '_, '_, A, B, R, G>,
-    shares: Vec<Share<A, B>>,
+    batch: &Batch<'_, '_, '_, A, B, R, G>,
+    shares: &mut Vec<Share<A, B>>,
     rooms: &mut Vec<DealtRoom>,
-) -> Result<JudgedBatch<A, B>, AllocError>
+) -> Result<Vec<u8>, AllocError>
 where
     A::Key: Send + Sync,
     B::Key: Send + Sync,
-    requires may { MayJudgeBatch batch shares.items }
-    requires several { 1 < batch.setup.workers }
-    ensures { IfOk result (HaveJudgedBatch batch.entry shares.items) }
+    requires may { MayJudgeBatch batch.now shares.old.items }
+    requires several { 1 < batch.now.setup.workers }
+    ensures { IfOk result (λ judges. HaveJudgedBatch batch.now shares.old.items shares.new.items judges.items) }
 {
     let setup = &batch.setup;
     let dealt = deal_packets::<A, B, R>(
@@ -63,7 +63,8 @@ where
         replace(rooms, Vec::new(alloc)),
     )?;
     let judges = note_workers(alloc, dealt.as_slice())?;
-    let shares = run_shares(alloc, batch.again(), Dealt { chunks: &dealt }, shares)?;
+    let before = replace(shares, Vec::new(alloc));
+    *shares = run_shares(alloc, batch.again(), Dealt { chunks: &dealt }, before)?;
     keep_rooms(dealt, rooms)?;
-    Ok(JudgedBatch { shares, judges })
+    Ok(judges)
 }

@@ -33,9 +33,9 @@ mod worker_turn;
 mod workers;
 
 pub use bihash_table::CloseFault;
+pub use flow_dealing::Dealing;
 pub use flow_filter::Filter;
 pub use gate::Gate;
-pub use packet_dealing::Dealing;
 pub use packet_verdict::{judge, try_judge, try_judge_at};
 pub use run_at_once::run_workers;
 pub use run_fault::RunFault;

@@ -3,7 +3,7 @@ ghost use Rattle.flow_filter.specs.OneThread.{IsFlowLayout, layout_of};
 
 use crate::session_tables::Tables;
 use bihash_words::Shape;
-use packet_dealing::see_plain;
+use flow_dealing::see_plain;
 use packet_view::Packet;
 
 // For how many packets loads are made before the first of them is judged.

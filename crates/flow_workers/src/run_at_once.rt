@@ -4,7 +4,7 @@ ghost use Rattle.packet_view.specs.CheckedCaptures.{remaining};
 ghost use Rattle.packet_view.specs.declared.tuple.Family.{Family};
 ghost use Rattle.acl_policy.specs.Policies.{policy_facts};
 ghost use Rattle.flow_filter.specs.OneThread.{AreVerdicts, layout_of};
-ghost use Rattle.packet_dealing.specs.declared.dealing.Dealing.TheVariants.{Bucket};
+ghost use Rattle.flow_dealing.specs.declared.dealing.Dealing.TheVariants.{Bucket};
 ghost use Rattle.flow_dealing.specs.Places.{PassAtPlaces};
 ghost use Rattle.flow_dealing.specs.WorkerRecords.{AreFew, AreJudged, HasPagesIn, HavePages};
 ghost use Rattle.flow_workers.specs.Callers.{AreShapes};
@@ -16,8 +16,8 @@ use crate::session_tables::{Callers, create_tables};
 use crate::worker_setup::Setup;
 use crate::workers::Workers;
 use bihash_words::Shape;
+use flow_dealing::Dealing;
 use flow_filter::Filter;
-use packet_dealing::Dealing;
 use packet_view::Packets;
 use session_state::Verdict;
 use std::alloc::Global;
@@ -44,8 +44,8 @@ where
     ensures { IfOk result (λ v. HaveAllSaid ⟦<A as Shape>⟧ ⟦<B as Shape>⟧ setup.entry (remaining packets.entry) v.items) }
 {
     match Workers::new(alloc, setup, callers) {
-        Ok(begun) => match begun.judge(alloc, packets) {
-            Ok(judged) => match judged.end(alloc) {
+        Ok(mut workers) => match workers.judge(alloc, packets) {
+            Ok(()) => match workers.end(alloc) {
                 Ok((verdicts, _)) => Ok(verdicts),
                 Err(fault) => Err(fault),
             },

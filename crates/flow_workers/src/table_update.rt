@@ -1,7 +1,7 @@
 //! One update of the table of a key's family, which makes room where values are expired.
 ghost use Rattle.std.specs.Prelude.{◌≡◌};
 ghost use Rattle.flow_filter.specs.OneThread.{layout_of};
-ghost use Rattle.packet_dealing.specs.Dealings.{hash_in};
+ghost use Rattle.flow_dealing.specs.Dealings.{hash_in};
 ghost use Rattle.flow_workers.specs.Calls.{MayAsk};
 ghost use Rattle.flow_workers.specs.inner.Updates.{TellsFlow};
 

@@ -5,10 +5,10 @@ ghost use Rattle.flow_workers.specs.inner.Jobs.{AreDealtFrom};
 ghost use Rattle.flow_workers.specs.inner.Turns.{AreTurnsAhead, AreTurns, HaveWorked, IsTurnPast, MayJudgeBatch};
 
 use crate::gate::Gate;
-use crate::worker_share::{Batch, Dealt, Job, Share};
+use crate::worker_share::{Batch, Dealt, Share, WorkerJob};
 use crate::worker_turn::Turn;
 use bihash_words::Shape;
-use packet_dealing::run_all;
+use flow_dealing::run_all;
 use std::alloc::{AllocError, Global};
 use std::sync::Wait;
 use std::thread::Threads;
@@ -25,7 +25,7 @@ fn turns_of<'t, 'f, 'a, A: Shape, B: Shape, R: Wait, G: Gate>(
     let mut turns = Vec::new(alloc);
     let mut worker = 0;
     for share in shares {
-        turns.push(Turn::Ahead(Job {
+        turns.push(Turn::Ahead(WorkerJob {
             batch: batch.again(),
             dealt,
             worker,

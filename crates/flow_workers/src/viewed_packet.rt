@@ -2,9 +2,9 @@
 ghost use Rattle.std.specs.Prelude.{◌≡◌, ◌<◌};
 ghost use Rattle.std.specs.Option.{ForSome};
 ghost use Rattle.packet_view.specs.Frames.{frame_facts};
-ghost use Rattle.packet_dealing.specs.Dealings.{flow_of_frame};
+ghost use Rattle.flow_dealing.specs.Dealings.{flow_of_frame};
 
-use packet_dealing::HashedFlow;
+use flow_dealing::HashedFlow;
 use packet_view::Frame;
 
 /// A packet whose frame was viewed. Its frame and flow stay where they were made.
@@ -24,7 +24,7 @@ impl<'a> ViewedPacket<'a> {
     ghost use Rattle.packet_view.specs.Frames.{frame_facts};
     ghost use Rattle.packet_view.specs.declared.tuple.Mac.{Mac};
     ghost use Rattle.flow_filter.specs.Readings.{IsSeenAt};
-    ghost use Rattle.packet_dealing.specs.Dealings.{flow_of_frame};
+    ghost use Rattle.flow_dealing.specs.Dealings.{flow_of_frame};
     ghost use Rattle.flow_workers.specs.inner.ViewedPackets.{IsViewed};
 
     /// A packet of this second, whose frame turned out to be this and shows this flow.

@@ -2,8 +2,8 @@
 use crate::gate::Gate;
 use crate::session_tables::Tables;
 use bihash_words::Shape;
+use flow_dealing::{Dealer, Dealing};
 use flow_filter::InterfaceFilters;
-use packet_dealing::{Dealer, Dealing};
 use std::sync::Wait;
 
 /// What workers share, whatever packets they judge.

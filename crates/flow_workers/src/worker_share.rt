@@ -5,7 +5,7 @@ use crate::session_tables::Callers;
 use crate::worker_setup::Setup;
 use bihash_table::Caller;
 use bihash_words::Shape;
-use packet_dealing::DealtChunk;
+use flow_dealing::DealtChunk;
 use packet_view::Packets;
 use session_state::Verdict;
 use std::sync::Wait;
@@ -42,7 +42,7 @@ pub struct Dealt<'t, 'a> {
 
 /// What a worker is given: its number, from 0, and its share so far.
 #[derive(Drop)]
-pub struct Job<'t, 'f, 'a, A: Shape, B: Shape, R: Wait, G: Gate> {
+pub struct WorkerJob<'t, 'f, 'a, A: Shape, B: Shape, R: Wait, G: Gate> {
     pub batch: Batch<'t, 'f, 'a, A, B, R, G>,
     pub dealt: Dealt<'t, 'a>,
     pub worker: usize,
@@ -65,12 +65,4 @@ pub struct WorkerResults<A: Shape, B: Shape> {
     pub four: Vec<Caller<A>>,
     pub six: Vec<Caller<B>>,
     pub said: Vec<Vec<Verdict>>,
-}
-
-/// What workers have who judged the packets of a batch.
-#[derive(Drop)]
-pub struct JudgedBatch<A: Shape, B: Shape> {
-    pub shares: Vec<Share<A, B>>,
-    /// The worker of each packet, where there are several.
-    pub judges: Vec<u8>,
 }

@@ -1,16 +1,16 @@
 //! A worker before its turn and after it.
 use crate::gate::Gate;
 use crate::judge_dealt_packets::judge_dealt_packets;
-use crate::worker_share::{Job, Share};
+use crate::worker_share::{Share, WorkerJob};
 use bihash_words::Shape;
-use packet_dealing::Task;
+use flow_dealing::Task;
 use std::alloc::AllocError;
 use std::sync::Wait;
 
 /// What a worker is to do, or what it did.
 #[derive(Drop)]
 pub enum Turn<'t, 'f, 'a, A: Shape, B: Shape, R: Wait, G: Gate> {
-    Ahead(Job<'t, 'f, 'a, A, B, R, G>),
+    Ahead(WorkerJob<'t, 'f, 'a, A, B, R, G>),
     Over(Result<Share<A, B>, AllocError>),
 }
 

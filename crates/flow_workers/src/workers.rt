@@ -1,6 +1,6 @@
 //! Workers that judge packets in batches.
 use crate::gate::Gate;
-use crate::judge_in_one_thread::judge_together;
+use crate::judge_in_one_thread::{judge_by_one, judge_by_turns};
 use crate::judge_in_threads::judge_in_threads;
 use crate::run_fault::RunFault;
 use crate::session_tables::Callers;
@@ -9,9 +9,9 @@ use crate::verdict_merge::{all_verdicts, let_go_merged, place_verdicts};
 use crate::worker_callers::join_worker_callers;
 use crate::worker_results::results_of;
 use crate::worker_setup::Setup;
-use crate::worker_share::{Batch, JudgedBatch, Share, WorkerResults};
+use crate::worker_share::{Batch, Share, WorkerResults};
 use bihash_words::Shape;
-use packet_dealing::DealtRoom;
+use flow_dealing::DealtRoom;
 use packet_view::Packets;
 use session_state::Verdict;
 use std::alloc::Global;
@@ -100,68 +100,33 @@ where
     ghost use Rattle.std.specs.Prelude.{IfOk};
     ghost use Rattle.flow_workers.specs.Progress.{CanJudge, HaveJudged, HaveJudgedOn};
 
-    /// The workers after they judged these packets too, which follow those so far: each in a thread of its own where that
-    /// pays. A worker whose thread can't be made is run by the calling thread. `Memory`: memory was refused.
-    pub fn judge(
-        self,
-        alloc: Global,
-        packets: Packets<'_>,
-    ) -> Result<Workers<'t, 'f, A, B, R, G>, RunFault>
-        requires { CanJudge self packets }
-        ensures { IfOk result (HaveJudged self.entry packets.entry) }
-    {
-        let Workers {
-            setup,
-            shares,
-            mut verdicts,
-            count,
-            mut rooms,
-        } = self;
-        let next = count + packets.count();
-        let batch = Batch {
-            setup: setup.again(),
-            first: count,
-            packets,
-        };
-        let judged = if setup.is_alone() || batch.packets.count() < setup.many {
-            judge_together(alloc, batch, shares)
-        } else {
-            judge_in_threads(alloc, batch, shares, &mut rooms)
-        };
-        let JudgedBatch { mut shares, judges } = judged?;
-        if !setup.is_alone() {
-            verdicts = place_verdicts(verdicts, judges.as_slice(), shares.as_slice())?;
-            let_go_merged(&mut shares);
-        }
-        Ok(Workers {
-            setup,
-            shares,
-            verdicts,
-            count: next,
-            rooms,
-        })
-    }
-
-    /// They judge these packets too, which follow those so far, as `judge` says. `Memory`: memory was refused, and they judge
-    /// no more.
-    pub fn judge_more(&mut self, alloc: Global, packets: Packets<'_>) -> Result<(), RunFault>
+    /// They judge these packets too, which follow those so far: each worker in a thread of its own where that pays. A worker
+    /// whose thread can't be made is run by the calling thread. `Memory`: memory was refused, and they judge no more.
+    pub fn judge(&mut self, alloc: Global, packets: Packets<'_>) -> Result<(), RunFault>
         requires { CanJudge self.old packets }
         ensures { IfOk result (λ _. HaveJudged self.old packets.entry self.new) }
     {
-        let workers = Workers {
+        let batch = Batch {
             setup: self.setup.again(),
-            shares: replace(&mut self.shares, Vec::new(alloc)),
-            verdicts: replace(&mut self.verdicts, Vec::new(alloc)),
-            count: self.count,
-            rooms: replace(&mut self.rooms, Vec::new(alloc)),
+            first: self.count,
+            packets,
         };
-        match workers.judge(alloc, packets) {
-            Ok(judged) => {
-                *self = judged;
-                Ok(())
-            }
-            Err(fault) => Err(fault),
+        let count = packets.count();
+        self.count += count;
+        if self.setup.is_alone() {
+            judge_by_one(&batch, &mut self.shares[0])?;
+            return Ok(());
         }
+        let judged = if count < self.setup.many {
+            judge_by_turns(alloc, &batch, &mut self.shares)
+        } else {
+            judge_in_threads(alloc, &batch, &mut self.shares, &mut self.rooms)
+        };
+        let judges = judged?;
+        let before = replace(&mut self.verdicts, Vec::new(alloc));
+        self.verdicts = place_verdicts(before, judges.as_slice(), self.shares.as_slice())?;
+        let_go_merged(&mut self.shares);
+        Ok(())
     }
 
     /// They judge these packets too, which follow those so far, and hand over what they say. `Memory`: memory was refused,
@@ -174,7 +139,7 @@ where
         requires { CanJudge self.old packets }
         ensures { IfOk result (λ verdicts. HaveJudgedOn self.old packets.entry self.new verdicts.items) }
     {
-        match self.judge_more(alloc, packets) {
+        match self.judge(alloc, packets) {
             Ok(()) => Ok(self.hand_over(alloc)),
             Err(fault) => Err(fault),
         }

@@ -8,16 +8,16 @@ use Rattle.packet_view.specs.Tuples.{TupleFacts}
 use Rattle.packet_view.specs.declared.tuple.Family.{Family}
 use Rattle.packet_view.specs.declared.tuple.Fields.{Fields}
 use Rattle.packet_view.specs.declared.tuple.Fields.TheVariants.{Absent, Icmp, Ports, Tcp}
-use Rattle.policy_words.specs.Numerals.{IsPair}
-use Rattle.policy_words.specs.Readers.{IsNumberUpTo}
-use Rattle.policy_words.specs.inner.Reading.{next_in}
-use Rattle.policy_words.specs.inner.Reading.Numerals.{pair_in}
-use Rattle.policy_words.specs.inner.Reading.Traffic.{number_up_to_in, protocol_in}
-use Rattle.policy_words.proofs.NumeralLaws.{bytes_eq-Lacks}
-use Rattle.policy_words.proofs.OptionLemmas.{bind_some, bytes_eq-false, bytes_eq-true, chosen, if_last-some, next_in-some, same_some}
-use Rattle.policy_words.proofs.PieceLaws.{Lacks-IsNumber}
-use Rattle.policy_words.proofs.RangeLaws.{number_up_to-complete, number_up_to-sound}
-use Rattle.policy_words.proofs.TrafficLaws.{protocol_in-complete, protocol_in-sound}
+use Rattle.acl_policy.specs.Numerals.{IsPair}
+use Rattle.acl_policy.specs.Readers.{IsNumberUpTo}
+use Rattle.acl_policy.specs.inner.WordReading.{next_in}
+use Rattle.acl_policy.specs.inner.WordReading.Numerals.{pair_in}
+use Rattle.acl_policy.specs.inner.WordReading.Traffic.{number_up_to_in, protocol_in}
+use Rattle.acl_policy.proofs.NumeralLaws.{bytes_eq-Lacks}
+use Rattle.acl_policy.proofs.OptionLemmas.{bind_some, bytes_eq-false, bytes_eq-true, chosen, if_last-some, next_in-some, same_some}
+use Rattle.acl_policy.proofs.PieceLaws.{Lacks-IsNumber}
+use Rattle.acl_policy.proofs.RangeLaws.{number_up_to-complete, number_up_to-sound}
+use Rattle.acl_policy.proofs.TrafficLaws.{protocol_in-complete, protocol_in-sound}
 use Rattle.packet_questions.specs.Questions.{IsCarried, IsFragment, IsIcmp, IsOther, IsTcp, IsUdp}
 use Rattle.packet_questions.specs.inner.Reading.{Ends, carried_by, ends_in, fragment_in, fragment_proto, has_fields, icmp_in, named_in, other_in, other_proto, ported_in, tcp_in, tuple_by, udp_in}
 use Rattle.packet_questions.proofs.EndLaws.{ends-complete, ends-sound, ported-complete, ported-sound}

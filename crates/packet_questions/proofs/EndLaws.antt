@@ -3,12 +3,12 @@ use Rattle.std.proofs.Common.{◌≡◌, ◌∙◌, ℕ, List, ◌∷◌, Option
 use Rattle.std.specs.Prelude.{option_map}
 use Rattle.packet_view.specs.declared.tuple.Family.{Family}
 use Rattle.packet_view.specs.declared.tuple.Family.TheVariants.{V4, V6}
-use Rattle.policy_words.specs.Prefixes.{IsAddress}
-use Rattle.policy_words.specs.Readers.{IsNumberUpTo, IsReaderOf}
-use Rattle.policy_words.specs.inner.Reading.Prefixes.{address_in}
-use Rattle.policy_words.specs.inner.Reading.Traffic.{number_up_to_in}
-use Rattle.policy_words.proofs.OptionLemmas.{bind_some, map_some, same_some}
-use Rattle.policy_words.proofs.PrefixLaws.{address_in-complete, address_in-sound}
+use Rattle.acl_policy.specs.Prefixes.{IsAddress}
+use Rattle.acl_policy.specs.Readers.{IsNumberUpTo, IsReaderOf}
+use Rattle.acl_policy.specs.inner.WordReading.Prefixes.{address_in}
+use Rattle.acl_policy.specs.inner.WordReading.Traffic.{number_up_to_in}
+use Rattle.acl_policy.proofs.OptionLemmas.{bind_some, map_some, same_some}
+use Rattle.acl_policy.proofs.PrefixLaws.{address_in-complete, address_in-sound}
 use Rattle.packet_questions.specs.Questions.{ArePorts, family_of}
 use Rattle.packet_questions.specs.inner.Reading.{Ends, end_in, ends_by, ends_in, ported_in, step}
 use Rattle.packet_questions.proofs.StepLaws.{number_read, step-complete, step-sound}

@@ -11,7 +11,7 @@ use Rattle.session_state.specs.declared.verdict.Verdict.{Verdict}
 use Rattle.flow_filter.specs.Judged.{Judged}
 use Rattle.flow_filter.specs.OneThread.{Layout, sizes_in}
 use Rattle.flow_filter.specs.Readings.{IsReading}
-use Rattle.packet_dealing.specs.Dealings.{Deal}
+use Rattle.flow_dealing.specs.Dealings.{Deal}
 use Rattle.flow_dealing.specs.WorkerRecords.{AreFew, AreJudged, HavePages, is_in, keyed}
 use Rattle.flow_dealing.proofs.FewPackets.{verdicts_for_few}
 use Rattle.flow_dealing.proofs.Places.{zip_count}

@@ -2,7 +2,7 @@
 use Rattle.std.proofs.Common.{◌≡◌, ◌∙◌, ◌+◌, ◌-◌, ◌++◌, ◌==◌, ℕ, suc, true, false, List, [], ◌∷◌, ap, arith, drop, get_or, length, map, refl, subst, sym, take}
 use Rattle.std.specs.Borrow.{Bor}
 use Rattle.std.proofs.lemmas.Bool.{eqb-true}
-use Rattle.policy_words.specs.Words.{words_of}
+use Rattle.acl_policy.specs.Words.{words_of}
 use Rattle.packet_questions.specs.Asks.{texts}
 use Rattle.packet_questions.specs.declared.asked_packet.AskedPacket.{AskedPacket}
 use Rattle.std.specs.Prelude.{All}

@@ -3,13 +3,13 @@ use Rattle.std.proofs.Common.{◌≡◌, ◌∙◌, ℕ, List, ◌∷◌, Option
 use Rattle.std.specs.Prelude.{IfSome, codes, option_map}
 use Rattle.packet_view.specs.Tuples.{TupleFacts}
 use Rattle.packet_view.specs.declared.tuple.Direction.{Direction}
-use Rattle.policy_words.specs.Numerals.{IsOctet}
-use Rattle.policy_words.specs.Readers.{IsReaderOf}
-use Rattle.policy_words.specs.inner.Reading.{next_in}
-use Rattle.policy_words.specs.inner.Reading.Numerals.{octet_in}
-use Rattle.policy_words.specs.inner.Reading.Traffic.{after_in}
-use Rattle.policy_words.proofs.NumeralLaws.{Lacks-AllDigits, bytes_eq-Lacks, octet_in-complete, octet_in-sound}
-use Rattle.policy_words.proofs.OptionLemmas.{bind_some, map_some, next_in-some, same_some}
+use Rattle.acl_policy.specs.Numerals.{IsOctet}
+use Rattle.acl_policy.specs.Readers.{IsReaderOf}
+use Rattle.acl_policy.specs.inner.WordReading.{next_in}
+use Rattle.acl_policy.specs.inner.WordReading.Numerals.{octet_in}
+use Rattle.acl_policy.specs.inner.WordReading.Traffic.{after_in}
+use Rattle.acl_policy.proofs.NumeralLaws.{Lacks-AllDigits, bytes_eq-Lacks, octet_in-complete, octet_in-sound}
+use Rattle.acl_policy.proofs.OptionLemmas.{bind_some, map_some, next_in-some, same_some}
 use Rattle.acl_policy.specs.Lines.{direction_word}
 use Rattle.acl_policy.specs.inner.Reading.Lines.{direction_in}
 use Rattle.acl_policy.proofs.LineLaws.{direction_in-complete, direction_in-sound}

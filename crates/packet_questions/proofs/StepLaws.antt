@@ -3,14 +3,14 @@ use Rattle.std.proofs.Common.{◌≡◌, ◌^◌, ◌∙◌, ℕ, false, List, �
 use Rattle.std.specs.Prelude.{nat_lt, option_map}
 use Rattle.std.specs.Str.{bytes_eq}
 use Rattle.std.proofs.lemmas.Bool.{lt-ltb, ltb-true}
-use Rattle.policy_words.specs.Numerals.{IsPair}
-use Rattle.policy_words.specs.Readers.{IsNumberUpTo, IsReaderOf}
-use Rattle.policy_words.specs.inner.Reading.{next_in}
-use Rattle.policy_words.specs.inner.Reading.Numerals.{numeral_in, pair_in}
-use Rattle.policy_words.specs.inner.Reading.Traffic.{after_in, number_up_to_in}
-use Rattle.policy_words.proofs.NumeralLaws.{numeral_in-complete, numeral_in-sound, pair_in-complete, pair_in-sound}
-use Rattle.policy_words.proofs.OptionLemmas.{bind_some, bytes_eq-same, bytes_eq-true, guarded, map_some, next_in-some}
-use Rattle.policy_words.proofs.RangeLaws.{number_up_to-complete, number_up_to-sound}
+use Rattle.acl_policy.specs.Numerals.{IsPair}
+use Rattle.acl_policy.specs.Readers.{IsNumberUpTo, IsReaderOf}
+use Rattle.acl_policy.specs.inner.WordReading.{next_in}
+use Rattle.acl_policy.specs.inner.WordReading.Numerals.{numeral_in, pair_in}
+use Rattle.acl_policy.specs.inner.WordReading.Traffic.{after_in, number_up_to_in}
+use Rattle.acl_policy.proofs.NumeralLaws.{numeral_in-complete, numeral_in-sound, pair_in-complete, pair_in-sound}
+use Rattle.acl_policy.proofs.OptionLemmas.{bind_some, bytes_eq-same, bytes_eq-true, guarded, map_some, next_in-some}
+use Rattle.acl_policy.proofs.RangeLaws.{number_up_to-complete, number_up_to-sound}
 use Rattle.packet_questions.specs.Questions.{IsSecond}
 use Rattle.packet_questions.specs.inner.Reading.{below, named_in, second_in, step}
 

@@ -5,7 +5,7 @@ use Rattle.packet_view.specs.Captures.{PacketFacts}
 use Rattle.packet_view.specs.Frames.{IsFrame}
 use Rattle.acl_policy.specs.Policies.{IsPolicyFault, IsPolicyText, PolicyFacts, section_of}
 use Rattle.acl_policy.specs.declared.policy.PolicyFault.{PolicyFault}
-use Rattle.policy_words.specs.Words.{words_of}
+use Rattle.acl_policy.specs.Words.{words_of}
 use Rattle.session_state.specs.declared.shown_verdicts.Shown.TheVariants.{Every}
 use Rattle.session_state.specs.declared.timeouts.Timeouts.{Timeouts}
 use Rattle.session_state.specs.declared.verdict.Verdict.{Verdict}
@@ -20,8 +20,8 @@ use Rattle.racl_io.specs.Reports.{totals_of}
 use Rattle.racl_io.specs.ShownReports.{report_shown}
 use Rattle.racl_views.specs.ExplainedLines.{IsExplained}
 use Rattle.racl_views.specs.RunEntries.{RunFacts}
-use Rattle.expected_verdicts.specs.Meeting.{are_met, told_of}
-use Rattle.expected_verdicts.specs.declared.expectation.Expectation.{Expectation}
+use Rattle.compared_verdicts.specs.Meeting.{are_met, told_of}
+use Rattle.compared_verdicts.specs.declared.expectation.Expectation.{Expectation}
 use Rattle.packet_questions.specs.Forms.{form_in}
 use Rattle.packet_questions.specs.Frames.{frame_bytes, seen_facts}
 use Rattle.packet_questions.specs.Questions.{AreQuestions, IsQuestion, QuestionFacts, question_facts}

@@ -1,5 +1,5 @@
 -- The words `ask POLICY PACKET ..`, perhaps with `--explain` or `--expect FILE` behind `ask` (this project's profile).
-use Rattle.std.specs.Prelude.{ℕ, Bool, false, List, [], ◌∷◌, Option, Some, codes, map, option_map, if◌then◌else◌}
+use Rattle.std.specs.Prelude.{ℕ, Bool, true, false, List, [], ◌∷◌, None, Option, Some, codes, map, option_map, if◌then◌else◌}
 use Rattle.std.specs.Borrow.{Bor}
 use Rattle.std.specs.Str.{bytes_eq}
 use Rattle.packet_questions.specs.declared.ask_words.AskedAbout.{AskedAbout}

@@ -1,7 +1,7 @@
 -- What is told of words that write no packet: the form that they ask for.
 use Rattle.std.specs.Prelude.{ℕ, List, codes, Option, Some, None, is_some, option_map, if◌then◌else◌}
 use Rattle.std.specs.Str.{bytes_eq}
-use Rattle.policy_words.specs.inner.Reading.{next_in, ◌>>=◌}
+use Rattle.acl_policy.specs.inner.WordReading.{next_in, ◌>>=◌}
 use Rattle.acl_policy.specs.inner.Reading.Lines.{direction_in}
 use Rattle.packet_questions.specs.inner.Reading.{place_in, second_in}
 use Rattle.packet_questions.specs.declared.question_form.Form.{Form}

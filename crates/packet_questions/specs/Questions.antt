@@ -8,10 +8,10 @@ use Rattle.packet_view.specs.declared.tuple.Direction.{Direction}
 use Rattle.packet_view.specs.declared.tuple.Family.{Family}
 use Rattle.packet_view.specs.declared.tuple.Family.TheVariants.{V4, V6}
 use Rattle.packet_view.specs.declared.tuple.Fields.TheVariants.{Absent, Icmp, Ports, Tcp}
-use Rattle.policy_words.specs.Numerals.{IsOctet, IsPair, Spells}
-use Rattle.policy_words.specs.Prefixes.{IsAddress}
-use Rattle.policy_words.specs.Readers.{IsNumberUpTo}
-use Rattle.policy_words.specs.Traffic.{IsProtocol}
+use Rattle.acl_policy.specs.Numerals.{IsOctet, IsPair, Spells}
+use Rattle.acl_policy.specs.Prefixes.{IsAddress}
+use Rattle.acl_policy.specs.Readers.{IsNumberUpTo}
+use Rattle.acl_policy.specs.Traffic.{IsProtocol}
 use Rattle.acl_policy.specs.Lines.{direction_word}
 use Rattle.packet_questions.specs.declared.question.Question.{Question}
 

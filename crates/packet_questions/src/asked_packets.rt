@@ -3,7 +3,7 @@ ghost use Rattle.std.specs.Prelude.{◌≡◌, IfErr, IfOk, map};
 ghost use Rattle.packet_questions.specs.Asks.{texts};
 ghost use Rattle.packet_view.specs.Captures.{packet_facts};
 ghost use Rattle.acl_policy.specs.Policies.{policy_facts, section_of};
-ghost use Rattle.policy_words.specs.Words.{words_of};
+ghost use Rattle.acl_policy.specs.Words.{words_of};
 ghost use Rattle.packet_questions.specs.Questions.{IsQuestion};
 ghost use Rattle.packet_questions.specs.Answers.{AreAsked, IsFaultAt, IsSeenAsked, IsTextFault, asked_facts, packet_asked, words_of_each};
 

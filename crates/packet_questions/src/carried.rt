@@ -2,16 +2,16 @@
 ghost use Rattle.std.specs.Prelude.{◌≡◌, option_map, IsTrue};
 ghost use Rattle.packet_view.specs.Addresses.{fields_suit};
 ghost use Rattle.packet_view.specs.Tuples.{tuple_facts};
-ghost use Rattle.policy_words.specs.inner.Reading.{if_last};
-ghost use Rattle.policy_words.specs.Words.{words_of};
+ghost use Rattle.acl_policy.specs.inner.WordReading.{if_last};
+ghost use Rattle.acl_policy.specs.Words.{words_of};
 ghost use Rattle.packet_questions.specs.inner.EndsRead.{ends_facts};
 ghost use Rattle.packet_questions.specs.inner.Reading;
 ghost use Rattle.packet_questions.specs.inner.Reading.{carried_by, carried_in, fragment_in, icmp_in, other_in, tcp_in, tuple_by, udp_in};
 
 use crate::end::Ends;
 use crate::ends::{next_ends, next_flags, next_named, next_ported_ends};
+use acl_policy::{icmp_number, is_end, next_word, number_up_to, protocol_of};
 use packet_view::{Family, Fields, Tuple};
-use policy_words::{icmp_number, is_end, next_word, number_up_to, protocol_of};
 
 const TCP: u8 = 6;
 

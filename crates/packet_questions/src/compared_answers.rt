@@ -10,7 +10,7 @@ use crate::ask_words::Ask;
 use crate::judged_packets::{Judged, filter_of, judged_in};
 use crate::question_fault::QuestionFault;
 use bihash_words::{Shape, ShapeV4, ShapeV6};
-use expected_verdicts::{Expectation, write_compared};
+use compared_verdicts::{Expectation, write_compared};
 use racl_io::Sink;
 use std::alloc::Global;
 use std::sync::Wait;

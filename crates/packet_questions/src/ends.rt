@@ -1,9 +1,9 @@
 //! The ends of a packet in words: addresses, and their ports.
 ghost use Rattle.std.specs.Prelude.{◌≡◌, ◌==◌, codes, option_map};
 ghost use Rattle.std.specs.List.{list_any};
-ghost use Rattle.policy_words.specs.Words.{words_of};
-ghost use Rattle.policy_words.specs.inner.Reading.Numerals.{pair_in};
-ghost use Rattle.policy_words.specs.inner.Reading.Traffic.{number_up_to_in, after_in};
+ghost use Rattle.acl_policy.specs.Words.{words_of};
+ghost use Rattle.acl_policy.specs.inner.WordReading.Numerals.{pair_in};
+ghost use Rattle.acl_policy.specs.inner.WordReading.Traffic.{number_up_to_in, after_in};
 ghost use Rattle.packet_questions.specs.Questions;
 ghost use Rattle.packet_questions.specs.inner.Reading.{end_in, ends_in, named_in, ported_in, step};
 ghost use Rattle.packet_questions.specs.inner.EndsRead.{ends_facts};
@@ -11,8 +11,8 @@ ghost use Rattle.packet_questions.specs.inner.Reading;
 
 use crate::end::{End, Ends};
 use crate::word_numbers::flags_of;
+use acl_policy::{address_of, next_word, number_up_to};
 use packet_view::Family;
-use policy_words::{address_of, next_word, number_up_to};
 
 // Whether a word has a colon.
 fn has_colon(word: &[u8]) -> bool
@@ -99,7 +99,7 @@ pub fn next_ported_ends(text: &[u8]) -> Option<(Ends, (u16, u16), &[u8])>
 }
 
 /// What follows a name with which a text begins. `None`: it begins with another word, or has none.
-#[tactic(auto, unfolding(policy_words::specs::inner::Reading::Traffic::after_in))]
+#[tactic(auto, unfolding(acl_policy::specs::inner::WordReading::Traffic::after_in))]
 pub fn text_behind<'a>(text: &'a [u8], name: &[u8]) -> Option<&'a [u8]>
     ensures { option_map (λ rest. words_of rest.now) result ≡ after_in name.now (words_of text.now) }
 {

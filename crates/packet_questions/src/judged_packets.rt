@@ -31,17 +31,6 @@ pub struct Judged {
     pub verdicts: Vec<Verdict>,
 }
 
-// How long sessions live where no options say it.
-fn default_times() -> Timeouts
-    ensures { AreDefaultTimes result }
-{
-    Timeouts {
-        established: 86_400,
-        transient: 120,
-        udp: 600,
-    }
-}
-
 /// Nothing waits before or after a packet is judged.
 struct OpenGate;
 
@@ -82,7 +71,7 @@ pub fn filter_of(alloc: Global, text: &[u8]) -> Result<Filter, Fault>
     match read_policy(alloc, text) {
         Ok(policy) => Ok(Filter {
             policy,
-            times: default_times(),
+            times: Timeouts::of_a_run(),
         }),
         Err(cause) => Err(Fault::from(cause)),
     }

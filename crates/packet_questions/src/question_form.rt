@@ -1,12 +1,11 @@
 //! What is wrong with words that write no packet.
 ghost use Rattle.std.specs.Prelude.{◌≡◌, option_map};
-ghost use Rattle.policy_words.specs.Words.{words_of};
+ghost use Rattle.acl_policy.specs.Words.{words_of};
 ghost use Rattle.packet_questions.specs.Forms.{form_behind, form_in, form_named, way_in};
 
 use crate::question_words::place_of;
 use crate::word_numbers::second_of;
-use acl_policy::direction_of_word;
-use policy_words::next_word;
+use acl_policy::{direction_of_word, next_word};
 use thiserror::Error;
 
 /// What is missing in words that write no packet, by the first place where that is known.

@@ -1,6 +1,6 @@
 //! Questions in words.
 ghost use Rattle.std.specs.Prelude.{◌≡◌, IfSome, Some, option_map};
-ghost use Rattle.policy_words.specs.Words.{words_of};
+ghost use Rattle.acl_policy.specs.Words.{words_of};
 ghost use Rattle.packet_questions.specs.Questions.{IsQuestion, QuestionFacts, question_facts};
 ghost use Rattle.packet_questions.specs.inner.Reading.{place_in, question_in, seen_in};
 
@@ -8,9 +8,8 @@ use crate::carried::carried_of;
 use crate::ends::text_behind;
 use crate::question::Question;
 use crate::word_numbers::second_of;
-use acl_policy::direction_of_word;
+use acl_policy::{direction_of_word, next_word, octet_of};
 use packet_view::Direction;
-use policy_words::{next_word, octet_of};
 
 /// The interface by the words with which a text begins, and what follows them.
 #[tactic(auto, unfolding(crate::specs::inner::Reading::place_in))]

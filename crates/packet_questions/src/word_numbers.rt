@@ -1,10 +1,10 @@
 //! The numbers of a packet's words: seconds, and flags.
 ghost use Rattle.std.specs.Prelude.{◌≡◌, ◌≤◌, ◌<◌, ◌^◌, IfSome};
-ghost use Rattle.policy_words.specs.inner.Reading.Numerals.{numeral_in, pair_in};
+ghost use Rattle.acl_policy.specs.inner.WordReading.Numerals.{numeral_in, pair_in};
 ghost use Rattle.packet_questions.specs.inner.Reading;
 
 // The number that at least one and at most so many digits in a base spell. `None`: they don't.
-#[tactic(auto, unfolding(policy_words::specs::inner::Reading::Numerals::numeral_in))]
+#[tactic(auto, unfolding(acl_policy::specs::inner::WordReading::Numerals::numeral_in))]
 fn long_numeral_of(word: &[u8], base: u32, most: usize) -> Option<u64>
     requires digits { 2 ≤ base }
     requires small_base { base ≤ 16 }
@@ -32,7 +32,7 @@ pub fn second_of(word: &[u8]) -> Option<u32>
 }
 
 /// The flags that two hexadecimal digits spell.
-#[tactic(auto, unfolding(policy_words::specs::inner::Reading::Numerals::pair_in))]
+#[tactic(auto, unfolding(acl_policy::specs::inner::WordReading::Numerals::pair_in))]
 pub fn flags_of(word: &[u8]) -> Option<u8>
     ensures { result ≡ pair_in word.now }
 {

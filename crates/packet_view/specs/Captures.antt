@@ -4,8 +4,8 @@ use Rattle.byteorder.specs.Endian.{big_number, little_number}
 use Rattle.packet_view.specs.declared.capture.Order.{Order}
 use Rattle.packet_view.specs.declared.capture.Order.TheVariants.{Little, LittleNanos, Big, BigNanos}
 use Rattle.packet_view.specs.declared.packet.Packet.{Packet}
-use Rattle.packet_view.specs.declared.records_at_front.Piece.{Piece}
-use Rattle.packet_view.specs.declared.records_at_front.Piece.TheVariants as piece
+use Rattle.packet_view.specs.declared.records_at_front.NextRecord.{NextRecord}
+use Rattle.packet_view.specs.declared.records_at_front.NextRecord.TheVariants as piece
 use Rattle.packet_view.specs.declared.capture.CaptureFault.{CaptureFault}
 use Rattle.packet_view.specs.declared.capture.CaptureFault.TheVariants as fault
 
@@ -125,7 +125,7 @@ pub data PieceFacts : Type 0 where
   TooLong : PieceFacts
 
 -- what `next_record` answers, as a value
-abbrev pub piece_facts : Piece → PieceFacts
+abbrev pub piece_facts : NextRecord → PieceFacts
 piece_facts (piece.Whole moment micros frame rest) = Record (record { moment = moment; micros = micros; frame = frame.now }) rest.now
 piece_facts piece.End = Nothing
 piece_facts piece.Truncated = Cut

@@ -36,5 +36,5 @@ pub use packets_of_records::Records;
 pub use plain_frame_at::read_plain_frame;
 pub use plain_packet::{PlainFrame, PlainPacket, plain};
 pub use record_marks::{MARKS, Mark, MarkedRecords};
-pub use records_at_front::{Front, Piece, Stop, front_records, next_record};
+pub use records_at_front::{Front, NextRecord, Stop, front_records, next_record};
 pub use tuple::{Direction, Family, Fields, Mac, Tuple};

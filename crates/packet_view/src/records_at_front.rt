@@ -16,7 +16,7 @@ const KEPT_LIMIT: usize = 262_144;
 
 /// What is at the front of the records that are left.
 #[derive(Clone, Copy)]
-pub enum Piece<'a> {
+pub enum NextRecord<'a> {
     /// A record, and the bytes after it.
     Whole {
         moment: u32,
@@ -34,23 +34,23 @@ pub enum Piece<'a> {
 
 /// The piece at the front of what is left of a capture, by how many bytes the record there keeps.
 #[inline]
-fn front_piece(rest: &[u8], order: Order) -> Piece<'_>
+fn front_piece(rest: &[u8], order: Order) -> NextRecord<'_>
     ensures { piece_facts result ≡ part_of order rest.now }
 {
     if rest.is_empty() {
-        return Piece::End;
+        return NextRecord::End;
     }
     if rest.len() < 16 {
-        return Piece::Truncated;
+        return NextRecord::Truncated;
     }
     let kept = u32_in(order, &rest[8..]) as usize;
     if kept > KEPT_LIMIT {
-        return Piece::TooLong;
+        return NextRecord::TooLong;
     }
     if rest.len() - 16 < kept {
-        return Piece::Truncated;
+        return NextRecord::Truncated;
     }
-    Piece::Whole {
+    NextRecord::Whole {
         moment: u32_in(order, rest),
         micros: micros_in(order, rest),
         frame: &rest[16..16 + kept],
@@ -60,7 +60,7 @@ fn front_piece(rest: &[u8], order: Order) -> Piece<'_>
 
 /// What is at the front of the records that are left of a capture in this order.
 #[inline]
-pub fn next_record(rest: &[u8], order: Order) -> Piece<'_>
+pub fn next_record(rest: &[u8], order: Order) -> NextRecord<'_>
     ensures shown { IsPiece order rest.now (piece_facts result) }
     ensures only { (other : PieceFacts) → IsPiece order rest.now other → other ≡ piece_facts result }
 {
@@ -130,7 +130,7 @@ pub fn front_records(bytes: &[u8], order: Order, interface: u8) -> Front<'_>
         let at = bytes.len() - rest.len();
         notes.note(Mark { count, at }, rest.len());
         let stop = match next_record(rest, order) {
-            Piece::Whole {
+            NextRecord::Whole {
                 frame,
                 rest: behind,
                 ..
@@ -141,9 +141,9 @@ pub fn front_records(bytes: &[u8], order: Order, interface: u8) -> Front<'_>
                 count += 1;
                 continue;
             }
-            Piece::End => Stop::End,
-            Piece::Truncated => Stop::Truncated,
-            Piece::TooLong => Stop::TooLong,
+            NextRecord::End => Stop::End,
+            NextRecord::Truncated => Stop::Truncated,
+            NextRecord::TooLong => Stop::TooLong,
         };
         let records = Records {
             bytes,

@@ -3,7 +3,7 @@ use Rattle.std.proofs.Common.{◌≡◌, ℕ, List, ◌∷◌, ◌++◌, refl, s
 use Rattle.std.specs.Prelude.{codes}
 use Rattle.std.proofs.lemmas.List.{append_assoc}
 use Rattle.packet_view.specs.declared.tuple.Family.{Family}
-use Rattle.policy_words.specs.Traffic.{IsFlags, IsProtocol, OfTcp, Parts, parts_of}
+use Rattle.acl_policy.specs.Traffic.{IsFlags, IsProtocol, OfTcp, Parts, parts_of}
 use Rattle.policy_check.specs.Reasons.{HasRange, IsEndReason, IsPartReason, IsPrefixReason, IsRangeReason, IsTrafficReason, Stands}
 use Rattle.policy_check.specs.declared.reason.Reason.{Reason}
 use Rattle.policy_check.specs.declared.reason.Reason.TheVariants.{Missing, NoFlags, NoProtocol, NoRange, TooLarge, UpsideDown}

@@ -1,8 +1,8 @@
 -- What a reader gives says what is so of a word.
 use Rattle.std.proofs.Common.{◌≡◌, ◌++◌, ◌∷◌, ℕ, List, Option, Some, None, IfSome, sym}
 use Rattle.std.specs.Prelude.{option_map}
-use Rattle.policy_words.specs.inner.Reading.Numerals.{cut_in}
-use Rattle.policy_words.proofs.NumeralLaws.{cut_in-sound}
+use Rattle.acl_policy.specs.inner.WordReading.Numerals.{cut_in}
+use Rattle.acl_policy.proofs.NumeralLaws.{cut_in-sound}
 use Rattle.policy_check.specs.Reasons.{Reads}
 
 pub read_as : {A : Type 0} (read result : Option A) (Is : A → Type 0) → result ≡ read → ((x : A) → read ≡ Some x → Is x) → ((x : A) → Is x → read ≡ Some x)

@@ -7,7 +7,7 @@ use Rattle.packet_view.specs.declared.tuple.Family.{Family}
 use Rattle.acl_policy.specs.Matching.{HoldsPrefix}
 use Rattle.acl_policy.specs.Rules.{RuleFacts, rule_facts}
 use Rattle.acl_policy.specs.declared.rule.Rule.{Rule}
-use Rattle.policy_words.specs.Widths.{width}
+use Rattle.acl_policy.specs.Widths.{width}
 use Rattle.rule_cover.specs.Covers.{AreTaken}
 
 -- numbers that begin alike in more bits do so in fewer

@@ -6,10 +6,10 @@ use Rattle.packet_view.specs.declared.tuple.Family.TheVariants.{V4, V6}
 use Rattle.packet_view.specs.declared.tuple.Mac.{Mac}
 use Rattle.acl_policy.specs.declared.rule.Action.{Action}
 use Rattle.acl_policy.specs.Lines.{IsInterface, action_word, direction_word, family_word}
-use Rattle.policy_words.specs.Numerals.{IsNumber}
-use Rattle.policy_words.specs.Prefixes.{IsAddress, IsMac, IsPrefix}
-use Rattle.policy_words.specs.Traffic.{IsFlags, IsProtocol, IsRange, OfIcmp, OfNone, OfTcp, OfUdp, Parts, parts_of}
-use Rattle.policy_words.specs.Widths.{width}
+use Rattle.acl_policy.specs.Numerals.{IsNumber}
+use Rattle.acl_policy.specs.Prefixes.{IsAddress, IsMac, IsPrefix}
+use Rattle.acl_policy.specs.Traffic.{IsFlags, IsProtocol, IsRange, OfIcmp, OfNone, OfTcp, OfUdp, Parts, parts_of}
+use Rattle.acl_policy.specs.Widths.{width}
 use Rattle.policy_check.specs.declared.reason.Reason.{Reason}
 use Rattle.policy_check.specs.declared.reason.Reason.TheVariants.{ByteOrderMark, DottedEnd, Extra, LongPrefix, Missing, NoAction, NoBreakSpace, NoFamily, NoFlags, NoForm, NoIcmpPart, NoInterface, NoMac, NoParts, NoPrefix, NoProtocol, NoRange, NoStart, NoTcpPart, NoUdpPart, OtherFamily, TooLarge, UpsideDown}
 

@@ -7,7 +7,7 @@ use Rattle.packet_view.specs.declared.tuple.Family.TheVariants.{V4}
 use Rattle.acl_policy.specs.Matching.{HoldsPrefix, Matches}
 use Rattle.acl_policy.specs.Policies.{PolicyFacts, SectionFacts, rules_of}
 use Rattle.acl_policy.specs.Rules.{RuleFacts}
-use Rattle.policy_words.specs.Widths.{width}
+use Rattle.acl_policy.specs.Widths.{width}
 use Rattle.rule_cover.specs.Covers.{AreTaken}
 use Rattle.policy_check.specs.declared.remark_kinds.Remark.{Remark}
 use Rattle.policy_check.specs.declared.remark_kinds.Remark.TheVariants.{NoMac, NoRule, Shadowed, ShadowedTogether, SourceBits, DestBits, Mask, UnmatchedFlags}

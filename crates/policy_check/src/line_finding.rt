@@ -2,8 +2,8 @@
 ghost use Rattle.std.specs.Prelude.{IfErr};
 ghost use Rattle.acl_policy.specs.Lines.{IsInterface};
 ghost use Rattle.acl_policy.specs.inner.Reading.Lines.{line_in};
-ghost use Rattle.policy_words.specs.Prefixes.{IsMac};
-ghost use Rattle.policy_words.specs.Words.{words_of};
+ghost use Rattle.acl_policy.specs.Prefixes.{IsMac};
+ghost use Rattle.acl_policy.specs.Words.{words_of};
 ghost use Rattle.policy_check.specs.Complaints.{line_words};
 ghost use Rattle.policy_check.specs.Reasons.{IsFirst, IsFormReason, IsPairReason, IsRuleReason, IsWordsReason};
 ghost use Rattle.policy_check.specs.declared.reason.Reason.TheVariants.{NoInterface, NoMac};

@@ -1,7 +1,7 @@
 //! The parts after a protocol, one by one.
 ghost use Rattle.std.specs.Prelude.{◌≡◌, ◌++◌, ℕ, List, IfErr, IfOk};
-ghost use Rattle.policy_words.specs.Traffic.{IsRange, OfTcp, Parts};
-ghost use Rattle.policy_words.specs.Words.{words_of};
+ghost use Rattle.acl_policy.specs.Traffic.{IsRange, OfTcp, Parts};
+ghost use Rattle.acl_policy.specs.Words.{words_of};
 ghost use Rattle.policy_check.specs.Reasons.{HasRange, IsPartReason, IsRangeReason};
 
 use crate::reason::Reason;

@@ -1,7 +1,7 @@
 //! The prefixes of a rule.
 ghost use Rattle.std.specs.Prelude.{◌≡◌, ◌⊎◌, ◌++◌, [], ◌∷◌, ℕ, List, IfErr, IfOk, IfSome, IsTrue, MatchOption};
-ghost use Rattle.policy_words.specs.Prefixes.{IsPrefix};
-ghost use Rattle.policy_words.specs.Words.{words_of};
+ghost use Rattle.acl_policy.specs.Prefixes.{IsPrefix};
+ghost use Rattle.acl_policy.specs.Words.{words_of};
 ghost use Rattle.policy_check.specs.Reasons.{HasDottedEnd, IsEndReason, IsLong, IsPrefixReason};
 
 use crate::reason::Reason;

@@ -1,7 +1,7 @@
 //! What follows the prefixes of a rule: a protocol and its parts.
 ghost use Rattle.std.specs.Prelude.{◌≡◌, ◌∷◌, List, ℕ, IfErr};
-ghost use Rattle.policy_words.specs.Traffic.{OfIcmp, OfTcp, OfUdp, parts_of};
-ghost use Rattle.policy_words.specs.Words.{words_of};
+ghost use Rattle.acl_policy.specs.Traffic.{OfIcmp, OfTcp, OfUdp, parts_of};
+ghost use Rattle.acl_policy.specs.Words.{words_of};
 ghost use Rattle.policy_check.specs.Reasons.{IsPartReason, IsTrafficReason};
 
 use crate::port_and_flag_findings::{after_both, after_flags};

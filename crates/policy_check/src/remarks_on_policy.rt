@@ -2,7 +2,7 @@
 ghost use Rattle.std.specs.Prelude.{◌≡◌, ◌≤◌, ◌<◌, ◌++◌, All, IfOk, IfSome, IsTrue, None, OnOk, Some, false, length, map, option_to_list, slice_get};
 ghost use Rattle.acl_policy.specs.Policies.{policy_facts, rules_of, section_facts, section_of};
 ghost use Rattle.acl_policy.specs.Rules.{RuleFacts, rule_facts};
-ghost use Rattle.policy_words.specs.Widths.{width};
+ghost use Rattle.acl_policy.specs.Widths.{width};
 ghost use Rattle.policy_check.specs.Remarks.{HasBits, HasMaskAsDest, HasNoRule, IsRemark, IsRuleRemark, IsSectionRemark, IsShadowed, LacksMac, MatchesNoFlags, NoneCovers, ReadsAsMask};
 ghost use Rattle.policy_check.specs.declared.remark_kinds.Remark.TheVariants.{NoMac};
 ghost use Rattle.policy_check.specs.inner.Added.{Adds};

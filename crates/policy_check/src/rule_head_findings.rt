@@ -1,6 +1,6 @@
 //! The first three words of a rule: direction, action and family.
 ghost use Rattle.std.specs.Prelude.{IfErr, IfOk};
-ghost use Rattle.policy_words.specs.Words.{words_of};
+ghost use Rattle.acl_policy.specs.Words.{words_of};
 ghost use Rattle.policy_check.specs.Reasons.{HasHead, IsHeadReason};
 
 use crate::reason::Reason;

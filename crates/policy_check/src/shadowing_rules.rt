@@ -4,7 +4,7 @@ ghost use Rattle.packet_view.specs.Addresses.{address_limit};
 ghost use Rattle.packet_view.specs.declared.tuple.Fields.{Fields};
 ghost use Rattle.acl_policy.specs.Matching.{HasFields, HoldsPrefix, IsIn};
 ghost use Rattle.acl_policy.specs.Rules.{rule_facts};
-ghost use Rattle.policy_words.specs.Widths.{width};
+ghost use Rattle.acl_policy.specs.Widths.{width};
 ghost use Rattle.policy_check.specs.Remarks.{Covers, CoversFields, CoversFlags, CoversPrefix, CoversRange, TakesAll};
 
 use acl_policy::{Rule, has_prefix};

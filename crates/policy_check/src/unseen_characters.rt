@@ -1,6 +1,6 @@
 //! Words with characters that aren't seen (Unicode: U+FEFF, the byte order mark, and U+00A0, the no-break space).
 ghost use Rattle.std.specs.Prelude.{◌≡◌, ◌++◌, ◌∷◌, ℕ, List, IfSome, IsTrue};
-ghost use Rattle.policy_words.specs.Words.{words_of};
+ghost use Rattle.acl_policy.specs.Words.{words_of};
 ghost use Rattle.policy_check.specs.Reasons.{IsUnseen, Stands};
 
 use crate::reason::Reason;

@@ -2,10 +2,10 @@
 ghost use Rattle.std.specs.Prelude.{◌≡◌, ◌<◌, ◌++◌, ◌∷◌, [], IfSome, IsTrue, MatchOption};
 ghost use Rattle.packet_view.specs.Addresses.{address_limit};
 ghost use Rattle.acl_policy.specs.Lines.{IsInterface, action_word, direction_word, family_word};
-ghost use Rattle.policy_words.specs.Numerals.{IsNumber};
-ghost use Rattle.policy_words.specs.Prefixes.{IsAddress, IsMac, IsPrefix};
-ghost use Rattle.policy_words.specs.Traffic.{IsFlags, IsProtocol, IsRange};
-ghost use Rattle.policy_words.specs.Words.{words_of};
+ghost use Rattle.acl_policy.specs.Numerals.{IsNumber};
+ghost use Rattle.acl_policy.specs.Prefixes.{IsAddress, IsMac, IsPrefix};
+ghost use Rattle.acl_policy.specs.Traffic.{IsFlags, IsProtocol, IsRange};
+ghost use Rattle.acl_policy.specs.Words.{words_of};
 ghost use Rattle.policy_check.specs.Reasons.{Reads};
 
 use acl_policy::Action;

@@ -7,7 +7,7 @@ use Rattle.packet_view.specs.Tuples.{TupleFacts}
 use Rattle.acl_policy.specs.Matching.{DecidesByDefault}
 use Rattle.acl_policy.specs.Rules.{RuleFacts, rule_facts}
 use Rattle.acl_policy.specs.declared.rule.Rule.{Rule}
-use Rattle.policy_words.proofs.OptionLemmas.{same_some}
+use Rattle.acl_policy.proofs.OptionLemmas.{same_some}
 use Rattle.policy_check.specs.Remarks.{TakesAll}
 use Rattle.policy_compare.specs.Comparisons.{AreApart}
 use Rattle.policy_compare.specs.declared.compared_rules.Limits.{Limits}

@@ -10,7 +10,7 @@ use Rattle.acl_policy.specs.Matching.{Decides, DecidesByDefault, Matches}
 use Rattle.acl_policy.specs.Policies.{AreLines, AreLinesOf, SectionFacts, rule_in, rules_of}
 use Rattle.acl_policy.specs.Rules.{RuleFacts}
 use Rattle.acl_policy.proofs.SectionLaws.{one_reading}
-use Rattle.policy_words.specs.Words.{without_comment, words_of}
+use Rattle.acl_policy.specs.Words.{without_comment, words_of}
 use Rattle.policy_expand.specs.FirstMatch.{AreAlike, DecidesFirst, HaveWords, joined}
 use Rattle.policy_expand.specs.Meaning.{IsOneOf, MatchesPlain}
 use Rattle.policy_expand.specs.Written.{LineWritten, word_text}

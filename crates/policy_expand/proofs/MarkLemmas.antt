@@ -2,7 +2,7 @@
 use Rattle.std.proofs.Common.{◌≡◌, ◌≤◌, ◌++◌, ℕ, List, ◌∷◌, ap, append_assoc, arith, length}
 use Rattle.std.specs.List.{position_or_len}
 use Rattle.std.proofs.lemmas.List.{length-take}
-use Rattle.policy_words.specs.Words.{is_hash, without_comment}
+use Rattle.acl_policy.specs.Words.{is_hash, without_comment}
 
 pub words_short : (line : List ℕ) → length (without_comment line) ≤ length line
 unfolding without_comment

@@ -10,10 +10,10 @@ use Rattle.acl_policy.specs.declared.rule.Action.{Action}
 use Rattle.acl_policy.specs.Lines.{action_word, direction_word, family_word, traffic_of}
 use Rattle.acl_policy.specs.Matching.{HasFields, HoldsProtocol}
 use Rattle.acl_policy.specs.Rules.{RuleFacts}
-use Rattle.policy_words.specs.Prefixes.{IsPrefix}
-use Rattle.policy_words.specs.Traffic.{IsTraffic}
-use Rattle.policy_words.specs.inner.Reading.Prefixes.{prefix_in}
-use Rattle.policy_words.proofs.PrefixLaws.{prefix_in-complete}
+use Rattle.acl_policy.specs.Prefixes.{IsPrefix}
+use Rattle.acl_policy.specs.Traffic.{IsTraffic}
+use Rattle.acl_policy.specs.inner.WordReading.Prefixes.{prefix_in}
+use Rattle.acl_policy.proofs.PrefixLaws.{prefix_in-complete}
 use Rattle.policy_expand.specs.Families.{is_of_other, kept}
 use Rattle.policy_expand.specs.Meaning.{AreChosen, IsOneOf, MatchAlike, MatchesPlain, MatchesWritten}
 use Rattle.policy_expand.specs.Written.{AreFamilies, Rule, RuleWritten, word_text}

@@ -9,7 +9,7 @@ use Rattle.acl_policy.specs.Lines.{Begins, Blank, IsLine, LineFacts, Own, Ruled,
 use Rattle.acl_policy.specs.Matching.{Decides, DecidesByDefault}
 use Rattle.acl_policy.specs.Policies.{AreAllSections, AreDistinct, AreLines, AreLinesOf, AreSections, IsAmong, PolicyFacts, SayPolicy, SectionFacts, empty_section, numbers_of, rules_of, section_among, section_of}
 use Rattle.acl_policy.proofs.SectionLaws.{AreInside, inside_of, one_reading}
-use Rattle.policy_words.specs.Words.{without_comment, words_of}
+use Rattle.acl_policy.specs.Words.{without_comment, words_of}
 use Rattle.policy_expand.specs.FirstMatch.{AreAlike, DecidesFirst, HaveWords, joined}
 use Rattle.policy_expand.specs.Meaning.{IsOneOf}
 use Rattle.policy_expand.specs.Sections.{AreIn, AreOfInterface, BeginAlike, BeginsSection}

@@ -8,7 +8,7 @@ use Rattle.std.proofs.lemmas.Bool.{cases_Bool, cases_lt, lt-ltb, ltb-true, ne_eq
 use Rattle.std.proofs.lemmas.List.{append_assoc, get_or_past, map-append}
 use Rattle.std.proofs.lemmas.List.Splits.{slice_split_at, slice_split-cons_no, slice_split-cons_yes}
 use Rattle.std.proofs.lemmas.List.Sums.{AllPass-from_list_all}
-use Rattle.policy_words.specs.Words.{is_blank, is_hash, is_word, without_comment, words_of}
+use Rattle.acl_policy.specs.Words.{is_blank, is_hash, is_word, without_comment, words_of}
 use Rattle.policy_expand.specs.Expansions.{AreExpanded}
 use Rattle.policy_expand.specs.FirstMatch.{AreAlike, HaveWords, joined}
 use Rattle.policy_expand.specs.Sources.{SourceFacts}

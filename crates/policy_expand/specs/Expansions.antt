@@ -1,6 +1,6 @@
 -- What a written policy's lines stand for (this project's profile).
 use Rattle.std.specs.Prelude.{◌≡◌, ℕ, List, [], ◌∷◌, ◌++◌, map}
-use Rattle.policy_words.specs.Words.{without_comment, words_of}
+use Rattle.acl_policy.specs.Words.{without_comment, words_of}
 use Rattle.policy_expand.specs.IcmpParts.{IsOfOneIcmp}
 use Rattle.policy_expand.specs.Meaning.{MatchAlike}
 use Rattle.policy_expand.specs.Sections.{BeginAlike}

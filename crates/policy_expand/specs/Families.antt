@@ -2,7 +2,7 @@
 use Rattle.std.specs.Prelude.{Bool, List, ◌&&◌, ℕ, filter, is_none, is_some, not}
 use Rattle.packet_view.specs.declared.tuple.Family.{Family}
 use Rattle.packet_view.specs.declared.tuple.Family.TheVariants.{V4, V6}
-use Rattle.policy_words.specs.inner.Reading.Prefixes.{prefix_in}
+use Rattle.acl_policy.specs.inner.WordReading.Prefixes.{prefix_in}
 use Rattle.policy_expand.specs.Written.{word_text}
 use Rattle.policy_expand.specs.declared.visible_word.Word.{Word}
 

@@ -4,7 +4,7 @@ use Rattle.std.specs.List.{flat_map}
 use Rattle.packet_view.specs.Tuples.{TupleFacts}
 use Rattle.packet_view.specs.declared.tuple.Direction.{Direction}
 use Rattle.acl_policy.specs.declared.rule.Action.{Action}
-use Rattle.policy_words.specs.Words.{without_comment, words_of}
+use Rattle.acl_policy.specs.Words.{without_comment, words_of}
 use Rattle.policy_expand.specs.Meaning.{MatchAlike, MatchesLine}
 use Rattle.policy_expand.specs.Sections.{BeginAlike}
 use Rattle.policy_expand.specs.Written.{LineWritten, word_text}

@@ -2,7 +2,7 @@
 use Rattle.std.specs.Prelude.{◌≡◌, ◌⊎◌, ℕ, zero, suc, Bool, ◌==◌, List, [], ◌∷◌, ◌++◌, Option, Some, None, IsTrue, codes, if◌then◌else◌, not, string_bytes}
 use Rattle.std.specs.List.{list_all}
 use Rattle.std.specs.Str.{bytes_eq}
-use Rattle.policy_words.specs.Words.{without_comment, words_of}
+use Rattle.acl_policy.specs.Words.{without_comment, words_of}
 use Rattle.policy_expand.specs.Sources.{SourceFacts, file_lines}
 use Rattle.policy_expand.specs.declared.policy_file.PolicyFile.{PolicyFile}
 

@@ -7,8 +7,8 @@ use Rattle.acl_policy.specs.declared.rule.Action.{Action}
 use Rattle.acl_policy.specs.Lines.{IsRule, action_word, direction_word, family_word, traffic_of}
 use Rattle.acl_policy.specs.Matching.{HoldsPrefix, HoldsProtocol, Matches}
 use Rattle.acl_policy.specs.Rules.{RuleFacts}
-use Rattle.policy_words.specs.Prefixes.{IsPrefix}
-use Rattle.policy_words.specs.Traffic.{IsTraffic}
+use Rattle.acl_policy.specs.Prefixes.{IsPrefix}
+use Rattle.acl_policy.specs.Traffic.{IsTraffic}
 use Rattle.policy_expand.specs.Written.{LineWritten, Nothing, Plain, Rule, RuleWritten, word_text}
 use Rattle.policy_expand.specs.declared.visible_word.Word.{Word}
 

@@ -2,7 +2,7 @@
 use Rattle.std.specs.Prelude.{ℕ, Bool, List, [], ◌∷◌, ◌++◌, ◌&&◌, drop, if◌then◌else◌, length, map, nat_lt}
 use Rattle.std.specs.Fmt.{decimal}
 use Rattle.std.specs.List.{flat_map}
-use Rattle.policy_words.specs.Words.{without_comment}
+use Rattle.acl_policy.specs.Words.{without_comment}
 use Rattle.policy_expand.specs.Sources.{SourceFacts}
 use Rattle.policy_expand.specs.Written.{word_text}
 use Rattle.policy_expand.specs.declared.visible_word.Word.{Word}

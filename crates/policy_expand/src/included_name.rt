@@ -1,13 +1,13 @@
 //! The file that a line includes.
 ghost use Rattle.std.specs.Prelude.{◌≡◌, ◌≤◌, ◌∷◌, [], IfOk, MatchOption, List, ℕ, codes, false, length, string_bytes, take, true};
-ghost use Rattle.policy_words.specs.Words.{without_comment, words_of};
+ghost use Rattle.acl_policy.specs.Words.{without_comment, words_of};
 ghost use Rattle.policy_expand.specs.Inclusions.{Includes, IsFolder, IsNamedIn, IsOrdinary};
 ghost use Rattle.policy_expand.specs.Sources.{source_facts};
 
 use crate::source_line::SourceLine;
 use crate::word_reading::visible_word;
 use crate::written_fault::{LineFault, WrittenReason, wrong};
-use policy_words::{before_comment, next_word};
+use acl_policy::{before_comment, next_word};
 use std::alloc::{AllocError, Global};
 
 // How much of a file's name is that of its folder.

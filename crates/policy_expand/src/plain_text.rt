@@ -1,6 +1,6 @@
 //! The text of plain lines, each with the place at which it was written.
 ghost use Rattle.std.specs.Prelude.{◌≡◌, ◌++◌, IfOk, OnOk, drop, length, map};
-ghost use Rattle.policy_words.specs.Words.{without_comment};
+ghost use Rattle.acl_policy.specs.Words.{without_comment};
 ghost use Rattle.policy_expand.specs.Sources.{source_facts};
 ghost use Rattle.policy_expand.specs.Texts;
 ghost use Rattle.policy_expand.specs.Texts.{ended, own_comment, place_mark, plain_text, spelt};
@@ -8,7 +8,7 @@ ghost use Rattle.policy_expand.specs.Written.{list_words};
 
 use crate::source_line::SourceLine;
 use crate::visible_word::{Word, WordList};
-use policy_words::before_comment;
+use acl_policy::before_comment;
 use std::alloc::{AllocError, Global};
 
 // A byte of a place's mark: any that isn't printable is shown as `?`.

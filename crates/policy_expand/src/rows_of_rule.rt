@@ -9,8 +9,8 @@ use crate::rows_of_lists::{chosen_rows, next_rows};
 use crate::visible_word::{Word, WordList};
 use crate::written_fault::LineFault;
 use crate::written_rule::WrittenRule;
+use acl_policy::prefix_of;
 use packet_view::Family;
-use policy_words::prefix_of;
 use std::alloc::{AllocError, Global};
 
 fn other_family(family: Family) -> Family

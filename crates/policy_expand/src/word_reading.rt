@@ -1,13 +1,13 @@
 //! The words of a written line.
 ghost use Rattle.std.specs.Prelude.{◌≡◌, IfSome, IfOk, map};
-ghost use Rattle.policy_words.specs.Words.{words_of, without_comment};
+ghost use Rattle.acl_policy.specs.Words.{words_of, without_comment};
 ghost use Rattle.std.specs.List.{list_all};
 ghost use Rattle.policy_expand.specs.Visible;
 ghost use Rattle.policy_expand.specs.Written.{word_text};
 
 use crate::visible_word::Word;
 use crate::written_fault::{LineFault, WrittenReason, wrong};
-use policy_words::{before_comment, next_word};
+use acl_policy::{before_comment, next_word};
 use std::alloc::Global;
 
 // Whether a byte may stand in a word.

@@ -1,6 +1,6 @@
 //! Packets that the words write, instead of a capture.
 
-use expected_verdicts::{read_expectations, status_behind};
+use compared_verdicts::{read_expectations, status_of_expected};
 use packet_questions::{
     Ask, AskedAbout, QuestionFault, answer_questions, answer_status, asked_about, compare_answers,
 };
@@ -76,7 +76,7 @@ fn status_of_comparison<T: Threads + Wait + Sync>(
     let mut writer = Device::new(Output::new(rt.stdout()));
     let expectations = expectations.as_slice();
     match compare_answers(threads, alloc, ask, expectations, text, &mut writer) {
-        Ok(met) => Ok(status_behind(met, false)),
+        Ok(met) => Ok(status_of_expected(met, false)),
         Err(fault) => said(rt, &fault),
     }
 }

@@ -7,13 +7,13 @@ ghost use Rattle.std.specs.Prelude.{◌<◌, ◌-◌, ◌^◌};
 mod ask;
 mod compare;
 
-use expected_verdicts::{read_expectations, status_behind as status_of_compared};
-use racl_cli::{
+use compared_verdicts::{read_expectations, status_of_changes, status_of_expected};
+use racl_io::{Device, Fault, FrontKept, Source};
+use racl_options::{Asked, DiffFiles, Files, Interfaces, Options, Origin, diff_options};
+use racl_runs::{
     DiffFault, ExpectingAsked, LiveAsked, LiveSaves, PolicyTexts, ShardRunAsked, run, run_diff,
     run_expecting, run_interfaces, run_live, run_live_interfaces, run_saving, run_shard,
 };
-use racl_io::{Device, Fault, FrontKept, Source};
-use racl_options::{Asked, DiffFiles, Files, Interfaces, Options, Origin, diff_options};
 use racl_system::{
     DiffInput, ExpectingInput, LiveFiles, LiveInterfaces, Output, Ran, SeenFiles, Watched,
     asked_or_status, diff_or_status, expansion_status, failure_status, opened_diff,
@@ -28,7 +28,6 @@ use std::io;
 use std::process::ExitCode;
 use std::sync::Wait;
 use std::thread::Threads;
-use verdict_changes::status_behind;
 
 fn main(rt: HostRuntime) -> ExitCode {
     let status = match status_of_main(&rt, &rt, rt.alloc()) {
@@ -307,7 +306,7 @@ fn status_of_expecting<T: Threads + Wait + Sync>(
         expectations: expectations.as_slice(),
     };
     match run_expecting(threads, alloc, compared, &mut reader, &mut writer) {
-        Ok(compared) => Ok(status_of_compared(compared.met, compared.truncated)),
+        Ok(compared) => Ok(status_of_expected(compared.met, compared.truncated)),
         Err(fault) => {
             let input = SeenFiles {
                 files: *files,
@@ -344,7 +343,7 @@ fn status_of_diff<T: Threads + Wait + Sync>(
     let mut reader = Device::new(FrontKept::new(capture));
     let mut writer = Device::new(rt.stdout());
     match run_diff(threads, alloc, &options, texts, &mut reader, &mut writer) {
-        Ok(totals) => Ok(status_behind(&totals)),
+        Ok(totals) => Ok(status_of_changes(&totals)),
         Err(DiffFault::Before(cause)) => say_policy_fault(rt, files.before, Fault::from(cause)),
         Err(DiffFault::After(cause)) => say_policy_fault(rt, files.after, Fault::from(cause)),
         Err(DiffFault::Run(fault)) => {

@@ -4,7 +4,7 @@ use Rattle.packet_view.specs.declared.tuple.Family.{Family}
 use Rattle.packet_view.specs.declared.tuple.Family.TheVariants.{V4, V6}
 use Rattle.session_state.specs.declared.flow.Flow as flows
 use Rattle.flow_filter.specs.OneThread.{Layout, family_of}
-use Rattle.packet_dealing.specs.Dealings.{hash_in}
+use Rattle.flow_dealing.specs.Dealings.{hash_in}
 use Rattle.racl_c.specs.declared.flow_hash.Flow.{Flow}
 
 abbrev pub family_number : Family → ℕ

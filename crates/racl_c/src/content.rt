@@ -1,8 +1,7 @@
 //! What is behind a handle.
 use crate::session_list::SessionList;
-use bihash_words::{ShapeV4, ShapeV6};
+use bihash_words::{LargeV4, LargeV6, ShapeV4, ShapeV6};
 use flow_judge::{Judge, RuleCounts};
-use large_shapes::{LargeV4, LargeV6};
 
 /// What is behind a handle.
 #[derive(Drop)]

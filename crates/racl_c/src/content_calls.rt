@@ -14,9 +14,10 @@ use crate::burst::{Descriptor, judge_burst};
 use crate::content::Content;
 use crate::options::Choice;
 use acl_policy::PolicyFault;
-use bihash_words::{Shape, ShapeV4, ShapeV6, flow_shapes_are_sound};
+use bihash_words::{
+    LargeV4, LargeV6, Shape, ShapeV4, ShapeV6, flow_shapes_are_sound, large_shapes_are_sound,
+};
 use flow_judge::{Counts, Judge};
-use large_shapes::{LargeV4, LargeV6, large_shapes_are_sound};
 use packet_view::Family;
 use std::alloc::Global;
 use std::mem;

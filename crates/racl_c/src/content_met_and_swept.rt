@@ -7,8 +7,7 @@ use crate::content::Content;
 use crate::lone_answer::lone_answer;
 use crate::sweep_answer::sweep_answer;
 use crate::sweep_told::Sweep;
-use bihash_words::{Shape, ShapeV4, ShapeV6};
-use large_shapes::{LargeV4, LargeV6};
+use bihash_words::{LargeV4, LargeV6, Shape, ShapeV4, ShapeV6};
 use packet_view::Family;
 use std::mem;
 

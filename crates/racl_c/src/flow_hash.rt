@@ -3,12 +3,11 @@ ghost use Rattle.packet_view.specs.Frames.{FrameFacts, IsFrame};
 ghost use Rattle.packet_view.specs.declared.tuple.Mac.{Mac};
 ghost use Rattle.std.specs.Prelude.{Option};
 ghost use Rattle.flow_filter.specs.OneThread.{layout_of};
-ghost use Rattle.packet_dealing.specs.Dealings.{flow_of_frame};
+ghost use Rattle.flow_dealing.specs.Dealings.{flow_of_frame};
 ghost use Rattle.racl_c.specs.FlowHashes.{IsFlowTold};
 
-use bihash_words::{Shape, ShapeV4, ShapeV6, flow_shapes_are_sound};
+use bihash_words::{LargeV4, LargeV6, Shape, ShapeV4, ShapeV6, flow_shapes_are_sound};
 use flow_judge::flow_bucket;
-use large_shapes::{LargeV4, LargeV6};
 use packet_view::Family;
 
 /// The family of a frame's flow, 4 or 6, and the hash of the flow's key; both are 0 where the frame takes no part in sessions.

@@ -14,9 +14,8 @@ use crate::handle::Handle;
 use crate::options::{Options, choice_of};
 use crate::place::Place;
 use acl_policy::PolicyFault;
-use bihash_words::{Shape, ShapeV4, ShapeV6};
+use bihash_words::{LargeV4, LargeV6, Shape, ShapeV4, ShapeV6};
 use flow_judge::Counts;
-use large_shapes::{LargeV4, LargeV6};
 use packet_view::Family;
 use std::alloc::Global;
 

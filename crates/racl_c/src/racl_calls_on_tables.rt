@@ -8,8 +8,7 @@ ghost use Rattle.packet_view.specs.declared.tuple.Family.TheVariants.{V4, V6};
 
 use crate::handle::Handle;
 use crate::sweep_told::Sweep;
-use bihash_words::{Shape, ShapeV4, ShapeV6};
-use large_shapes::{LargeV4, LargeV6};
+use bihash_words::{LargeV4, LargeV6, Shape, ShapeV4, ShapeV6};
 use packet_view::Family;
 use std::alloc::Global;
 

@@ -11,8 +11,7 @@ use crate::content::Content;
 use crate::handle::{Handle, SessionsHandle};
 use crate::place::Place;
 use crate::stored_session::StoredSession;
-use bihash_words::{Shape, ShapeV4, ShapeV6};
-use large_shapes::{LargeV4, LargeV6};
+use bihash_words::{LargeV4, LargeV6, Shape, ShapeV4, ShapeV6};
 use packet_view::Family;
 use std::alloc::Global;
 

@@ -7,9 +7,9 @@ use Rattle.racl_io.specs.declared.marker_line.Form.TheVariants.{Binary, Hexadeci
 use Rattle.racl_io.specs.declared.marker_line.Marks.{Marks}
 use Rattle.racl_io.specs.declared.marker_line.Marks.TheVariants.{Every, Numbers}
 use Rattle.racl_io.specs.Inputs.{AreCaptures, Counts, DigitsFacts, InputFacts, AreCutDigits, IsFirstLine, IsInput, IsMarked, IsMarker, IsParted, IsPlainLine, IsWord, HasNoFeed, NumberedFacts, joined}
-use Rattle.policy_words.specs.inner.Reading.Numerals.{octet_in}
-use Rattle.policy_words.proofs.NumeralLaws.{Lacks, octet_in-complete, octet_in-sound}
-use Rattle.policy_words.proofs.PieceLaws.{Lacks-IsOctet}
+use Rattle.acl_policy.specs.inner.WordReading.Numerals.{octet_in}
+use Rattle.acl_policy.proofs.NumeralLaws.{Lacks, octet_in-complete, octet_in-sound}
+use Rattle.acl_policy.proofs.PieceLaws.{Lacks-IsOctet}
 
 -- what stands before the rest are lines that are no markers
 pub record IsFront (marks : Marks) (bytes rest : List ℕ) : Type 0 where

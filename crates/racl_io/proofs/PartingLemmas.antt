@@ -2,7 +2,7 @@
 -- captures.
 use Rattle.std.proofs.Common.{◌≡◌, ◌∙◌, ◌<◌, ◌⊎◌, ℕ, zero, suc, codes, List, [], ◌∷◌, ◌++◌, Option, None, Some, drop, take, take-append-drop, length, length-append, refl, sym, ap, ap₂, subst, inl, inr, arith}
 use Rattle.std.proofs.lemmas.Bool.{cases_eq}
-use Rattle.policy_words.specs.inner.Reading.Numerals.{octet_in}
+use Rattle.acl_policy.specs.inner.WordReading.Numerals.{octet_in}
 use Rattle.racl_io.specs.declared.marker_line.Form.{Form}
 use Rattle.racl_io.specs.declared.marker_line.Form.TheVariants.{Binary, Hexadecimal, Numbered}
 use Rattle.racl_io.specs.declared.marker_line.Marks.{Marks}

@@ -9,7 +9,7 @@ use Rattle.racl_io.specs.declared.marker_line.Input as code
 use Rattle.racl_io.specs.declared.marker_line.Numbered as mark
 use Rattle.racl_io.specs.declared.marker_line.Marks.{Marks}
 use Rattle.racl_io.specs.declared.marker_line.Marks.TheVariants.{Every, Numbers}
-use Rattle.policy_words.specs.Numerals.{IsOctet}
+use Rattle.acl_policy.specs.Numerals.{IsOctet}
 
 -- the most bytes of an input
 abbrev pub most_bytes : ℕ

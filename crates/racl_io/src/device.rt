@@ -1,3 +1,4 @@
+//! Devices: what gives bytes, and what takes them.
 ghost use Rattle.std.specs.Prelude.{◌≡◌, ◌-◌, ◌<◌, ◌≤◌, ◌^◌, ℕ, List, Option, IfOk, length};
 ghost use Rattle.std.specs.Io.KnownBytes.{ReadConsumes, WriteAppends};
 ghost use Rattle.racl_io.specs.Devices.{failures_after_read, failures_after_write};

@@ -10,7 +10,7 @@ use crate::number_printing::Counter;
 use crate::packet_lines::{LINES, push_lines};
 use crate::reading_and_writing::write_all;
 use crate::report_piece::Piece;
-use crate::whole_lines::{Place, write_lines_whole};
+use crate::whole_lines::{ReportPlace, write_lines_whole};
 use session_state::Verdict;
 use std::alloc::{AllocError, Global};
 use std::thread::{Threads, join_mut};
@@ -68,7 +68,7 @@ fn last_part(lines: usize) -> usize
 }
 
 // Makes the lines of the packets at this place in one of the threads, and answers how many of them pass.
-fn make_lines(lines: &mut Lines, place: Place, verdicts: &[Verdict]) -> u64
+fn make_lines(lines: &mut Lines, place: ReportPlace, verdicts: &[Verdict]) -> u64
     requires few { length verdicts.now ≤ lines.old.most }
     requires fits { place.others + length verdicts.now < 2 ^ 64 }
     ensures text { lines.new.text.items ≡ lines_at place verdicts.now }
@@ -101,7 +101,7 @@ fn write_beside<W: Sink, T: Threads>(
     writer: &mut W,
     piece: &mut Piece,
     parts: &mut [Lines],
-    place: Place,
+    place: ReportPlace,
     verdicts: &[Verdict],
 ) -> Result<u64, Fault>
     requires sound { W.failures writer.old < 2 ^ 64 - 1 }
@@ -113,7 +113,7 @@ fn write_beside<W: Sink, T: Threads>(
     };
     let count = last_part(verdicts.len()).min(lines.most);
     let (front, last) = verdicts.split_at(verdicts.len() - count);
-    let behind = Place {
+    let behind = ReportPlace {
         others: place.others + front.len(),
         ..place
     };
@@ -143,7 +143,7 @@ pub fn write_packets<W: Sink, T: Threads>(
     alloc: Global,
     writer: &mut W,
     piece: &mut Piece,
-    place: Place,
+    place: ReportPlace,
     verdicts: &[Verdict],
 ) -> Result<u64, Fault>
     requires sound { W.failures writer.old < 2 ^ 64 - 1 }
@@ -164,7 +164,7 @@ pub fn write_packets<W: Sink, T: Threads>(
     let mut rest = verdicts;
     'batches: while !rest.is_empty() {
         let (batch, behind) = rest.split_at(rest.len().min(BATCH_LINES));
-        let next = Place { others, ..place };
+        let next = ReportPlace { others, ..place };
         passed += write_beside(rt, writer, piece, &mut parts, next, batch)?;
         others += batch.len();
         rest = behind;

@@ -3,7 +3,7 @@
 ghost use Rattle.std.specs.Prelude.{◌≡◌, ◌≢◌, ◌<◌, ◌++◌, ℕ, List, IfSome, IfNone, codes, length, slice_index};
 ghost use Rattle.racl_io.specs.Inputs.{Counts, InputFacts, input_facts, AreCutDigits, IsInput, IsMarker, IsParted, IsFirstLine, IsWord, HasNoFeed, numbered_facts};
 
-use policy_words::octet_of;
+use acl_policy::octet_of;
 
 /// How the capture is written after its marker line.
 #[derive(Clone, Copy, Debug, PartialEq, Eq)]

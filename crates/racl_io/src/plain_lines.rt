@@ -7,7 +7,7 @@ use crate::report_piece::Piece;
 use crate::shown_report::write_lines_shown;
 use crate::teller::Teller;
 use crate::totals_and_truncation::{Totals, write_end};
-use crate::whole_lines::{Place, write_lines_whole};
+use crate::whole_lines::{ReportPlace, write_lines_whole};
 use packet_view::Packets;
 use session_state::{Shown, Verdict};
 use std::alloc::{AllocError, Global};
@@ -40,7 +40,7 @@ impl Teller for PlainLines {
         _packets: Packets<'_>,
         verdicts: &[Verdict],
     ) -> Result<u64, Fault> {
-        let place = Place {
+        let place = ReportPlace {
             named: None,
             others,
         };

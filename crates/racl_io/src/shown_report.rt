@@ -15,7 +15,7 @@ use crate::packet_lines::{LINES, push_named_line};
 use crate::reading_and_writing::write_all;
 use crate::report_piece::Piece;
 use crate::totals_and_truncation::{Captured, Totals, totals_on, write_totals, write_truncation};
-use crate::whole_lines::Place;
+use crate::whole_lines::ReportPlace;
 use session_state::{Shown, Verdict, has_line};
 use std::alloc::Global;
 use std::thread::Threads;
@@ -63,7 +63,7 @@ pub fn write_lines_shown<W: Sink>(
     writer: &mut W,
     piece: &mut Piece,
     shown: Shown,
-    place: Place,
+    place: ReportPlace,
     verdicts: &[Verdict],
 ) -> Result<u64, Fault>
     requires sound { W.failures writer.old < 2 ^ 64 - 1 }
@@ -94,7 +94,7 @@ fn write_shown_packets<W: Sink, T: Threads>(
     writer: &mut W,
     piece: &mut Piece,
     shown: Shown,
-    place: Place,
+    place: ReportPlace,
     verdicts: &[Verdict],
 ) -> Result<u64, Fault>
     requires sound { W.failures writer.old < 2 ^ 64 - 1 }
@@ -126,7 +126,7 @@ fn write_captures<W: Sink, T: Threads>(
     let mut left = captures;
     'each: while let Some((captured, after)) = left.split_first() {
         let (first, behind) = rest.split_at(captured.packets);
-        let place = Place {
+        let place = ReportPlace {
             named: captured.named,
             others,
         };

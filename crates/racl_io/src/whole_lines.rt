@@ -14,7 +14,7 @@ use session_state::Verdict;
 
 /// Where packets stand in a report.
 #[derive(Clone, Copy)]
-pub struct Place {
+pub struct ReportPlace {
     /// The interface that their lines name, where they name one.
     pub named: Option<u8>,
     /// How many packets have lines before them.
@@ -25,7 +25,7 @@ pub struct Place {
 pub fn write_lines_whole<W: Sink>(
     writer: &mut W,
     piece: &mut Piece,
-    place: Place,
+    place: ReportPlace,
     verdicts: &[Verdict],
 ) -> Result<u64, Fault>
     requires sound { W.failures writer.old < 2 ^ 64 - 1 }

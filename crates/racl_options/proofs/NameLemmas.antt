@@ -12,8 +12,8 @@ use Rattle.std.specs.Borrow.{Bor}
 use Rattle.clap.specs.Walk.{texts}
 use Rattle.clap.specs.Words.{Text}
 use Rattle.clap.proofs.CutLemmas.{Lacks, after_first-at, before_first-at}
-use Rattle.policy_words.specs.inner.Reading.Numerals.{octet_in}
-use Rattle.policy_words.proofs.NumeralLaws.{octet_in-complete, octet_in-sound}
+use Rattle.acl_policy.specs.inner.WordReading.Numerals.{octet_in}
+use Rattle.acl_policy.proofs.NumeralLaws.{octet_in-complete, octet_in-sound}
 use Rattle.racl_options.specs.declared.settings.CaptureFile.{CaptureFile}
 use Rattle.racl_options.specs.Options.{Use, values_of}
 use Rattle.racl_options.specs.Origins.{CaptureFacts, IsNamed, Name, OriginFacts, capture_facts, is_standard, FromStandard, FromFiles, FromInterfaces}

@@ -1,8 +1,8 @@
 -- The word that asks for a shard, as it is read.
 use Rattle.std.proofs.Common.{◌≡◌, ◌∙◌, ◌≤◌, ℕ, List, [], Option, None, Some, ap, codes, lit≤, refl, subst, sym}
 use Rattle.clap.specs.Words.{Text}
-use Rattle.policy_words.specs.inner.Reading.Numerals.{cut_in, number_in}
-use Rattle.policy_words.proofs.NumeralLaws.{Lacks-AllDigits, cut_in-complete, cut_in-sound, number_in-complete, number_in-sound}
+use Rattle.acl_policy.specs.inner.WordReading.Numerals.{cut_in, number_in}
+use Rattle.acl_policy.proofs.NumeralLaws.{Lacks-AllDigits, cut_in-complete, cut_in-sound, number_in-complete, number_in-sound}
 use Rattle.racl_options.specs.Asking.{AskBy, AskedFacts}
 use Rattle.racl_options.specs.CommandLine.{Values}
 use Rattle.racl_options.specs.ShardWords.{AskForShard, IsShardWord, ShardFacts}

@@ -2,7 +2,7 @@
 use Rattle.std.specs.Prelude.{◌≡◌, ◌≢◌, ◌≤◌, ℕ, Bool, List, [], ◌∷◌, ◌++◌, map, Option, None, Some, codes, count_by}
 use Rattle.std.specs.List.{AllZip}
 use Rattle.std.specs.Str.{bytes_eq}
-use Rattle.policy_words.specs.Numerals.{IsOctet}
+use Rattle.acl_policy.specs.Numerals.{IsOctet}
 use Rattle.clap.specs.Words.{Text}
 use Rattle.racl_options.specs.declared.settings.CaptureFile.{CaptureFile}
 use Rattle.racl_options.specs.declared.settings.Origin.{Origin}

@@ -1,7 +1,7 @@
 -- The word that asks for a shard of a capture (this project's profile).
 use Rattle.std.specs.Prelude.{◌≡◌, ◌≤◌, ◌++◌, ℕ, List, ◌∷◌, Option, Some, None}
 use Rattle.clap.specs.Words.{Text}
-use Rattle.policy_words.specs.Numerals.{IsNumber}
+use Rattle.acl_policy.specs.Numerals.{IsNumber}
 use Rattle.racl_options.specs.declared.settings.ShardAsked.{ShardAsked}
 
 -- which shard is asked for, of how many; from 1

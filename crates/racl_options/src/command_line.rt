@@ -79,19 +79,22 @@ const USAGE: &str = "racl [OPTIONS] POLICY CAPTURE
 fn after_help() -> &'static str {
     "INPUT is a policy, a line `pcap` or `hex`, and the capture in that form; POLICY and CAPTURE are such \
     a policy and a capture's bytes. Except with --live, --any-length and --shard they have at most 67108864 bytes in \
-    all. The report goes to standard output. --drops, --passes, --expect, --shard and --any-length need POLICY CAPTURE, and --live that or --interface.
+    all. The report goes to standard output. --drops, --passes, --expect, --shard and --any-length need POLICY CAPTURE, and --live that or --interface. import and racl-page are scripts beside the program.
 
 Examples:
   racl check host.policy
   racl expand rules > host.policy
+  racl import iptables-save server.iptables > host.policy
   racl ask host.policy 'in udp 203.0.113.5 53 192.0.2.10 40000'
   racl host.policy host.pcap
   racl --interface 1=eth1.pcap --interface 2=eth2.pcap router.policy
   racl --workers 4 --udp 60 < examples/first_path.racl
   racl --explain --only drop --hits host.policy host.pcap
   racl --json --hits --sessions host.policy host.pcap
+  racl --json --hits host.policy host.pcap | racl-page > page.html
   racl --drops dropped.pcap --passes passed.pcap host.policy host.pcap
   tcpdump -i eth0 -U -w - | racl --live host.policy -
+  racl --live --interface 1=eth1.fifo --interface 2=eth2.fifo router.policy
   racl --any-length --workers 4 --hits host.policy long.pcap
   racl --shard 1/8 --hits host.policy long.pcap
   racl --expect host.expected host.policy host.pcap

@@ -52,11 +52,7 @@ pub fn diff_options() -> Options
 {
     Options {
         workers: 1,
-        times: Timeouts {
-            established: 86_400,
-            transient: 120,
-            udp: 600,
-        },
+        times: Timeouts::of_a_run(),
         tables: TableSize::Standard,
         shown: Shown::Every,
         lines: Lines::Plain,

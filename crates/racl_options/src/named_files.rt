@@ -9,8 +9,8 @@ ghost use Rattle.racl_options.specs.Origins.{capture_facts, is_standard, origin_
 ghost use Rattle.racl_options.specs.inner.Naming.{IsRefused, Names, values_in};
 
 use crate::settings::{CaptureFile, Files, Interfaces, Origin};
+use acl_policy::octet_of;
 use clap::ArgMatches;
-use policy_words::octet_of;
 use std::alloc::Global;
 
 /// Why names are no input to be read.

@@ -1,4 +1,4 @@
-//! What the command line asks for.
+//! What the command line asks for, as types; its words and defaults stand in `command_line`.
 ghost use Rattle.std.specs.Prelude.{◌≤◌};
 
 use session_state::{Shown, Timeouts};

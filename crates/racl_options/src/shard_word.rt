@@ -6,7 +6,7 @@ ghost use Rattle.racl_options.specs.inner.Naming.{IsRefused};
 
 use crate::named_files::Refusal;
 use crate::settings::ShardAsked;
-use policy_words::{cut_at, number_of};
+use acl_policy::{cut_at, number_of};
 
 /// How many shards there are at most.
 const MOST_SHARDS: u32 = 1024;

@@ -16,8 +16,8 @@ use Rattle.racl_views.specs.PacketObjects.{IsToldInObjects}
 use Rattle.racl_views.specs.RunEntries.{RunFacts}
 use Rattle.racl_views.specs.SessionLines.{sessions_told}
 use Rattle.racl_views.specs.Stored.{StoredFacts}
-use Rattle.racl_views.specs.declared.text_or_json.View.{View}
-use Rattle.racl_views.specs.declared.text_or_json.View.TheVariants as view
+use Rattle.racl_views.specs.declared.text_or_json.TextOrJson.{TextOrJson}
+use Rattle.racl_views.specs.declared.text_or_json.TextOrJson.TheVariants as view
 
 -- ---- outcomes
 
@@ -45,7 +45,7 @@ told_facts policy text packets outcome shown =
     record { policy = policy; text = text; packets = packets; verdicts = outcome.verdicts; captures = outcome.captures; shown = shown }
 
 -- the form of what is told behind lines of this form
-abbrev pub view_behind : Lines → View
+abbrev pub view_behind : Lines → TextOrJson
 view_behind Plain = view.Text
 view_behind Explained = view.Text
 view_behind Json = view.Json

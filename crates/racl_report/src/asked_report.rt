@@ -21,7 +21,8 @@ use packet_view::{Packets, check_capture};
 use racl_io::{Fault, Sink, Totals, write_all, write_shown};
 use racl_options::{Lines, Options};
 use racl_views::{
-    Run, StoredPairs, View, hits_text, packets_in, sessions_text, write_explained, write_objects,
+    Run, StoredPairs, TextOrJson, hits_text, packets_in, sessions_text, write_explained,
+    write_objects,
 };
 use session_state::Shown;
 use std::alloc::{AllocError, Global};
@@ -71,12 +72,12 @@ fn run_of<'a>(kept: &'a Kept, packets: Packets<'a>, judged: &'a Judged, shown: S
 }
 
 /// The form of the hits and sessions behind a report's lines, where these are asked for in this form.
-pub fn view_behind(lines: Lines) -> View
+pub fn view_behind(lines: Lines) -> TextOrJson
     ensures { result ≡ RunReports.view_behind lines }
 {
     match lines {
-        Lines::Plain | Lines::Explained => View::Text,
-        Lines::Json => View::Json,
+        Lines::Plain | Lines::Explained => TextOrJson::Text,
+        Lines::Json => TextOrJson::Json,
     }
 }
 

@@ -20,7 +20,7 @@ pub use interface_captures::{is_interface_seen, told_of_interfaces};
 pub use interface_input::InterfaceInput;
 pub use judged_packets::Judged;
 pub use kept_input::{Kept, KeptCaptures, PlacedCapture};
-pub use message_texts::{Ending, Hint, Message, Remark, Shortage, Unopened, shown_name};
+pub use message_texts::{Ending, Hint, KindRemark, Message, Shortage, Unopened, shown_name};
 pub use placed_fault::PlacedFault;
 pub use program_ending::{ending, failure_ending, hint, remark, shortage, status, words_ending};
 pub use saved_packets::{Saves, keeps_input, save_packets};

@@ -46,7 +46,7 @@ pub struct Unopened<'a> {
 /// What is said behind a fault of a capture file that isn't read for what it is.
 #[derive(Clone, Copy, Debug, PartialEq, Eq, Error)]
 #[error("racl: {shown} is {other}", shown = shown_name(.name))]
-pub struct Remark<'a> {
+pub struct KindRemark<'a> {
     pub name: &'a str,
     pub other: Other,
 }

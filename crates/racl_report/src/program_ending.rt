@@ -15,7 +15,8 @@ use std::io;
 use std::io::ErrorKind as FailureKind;
 
 /// The status with which the program ends: 0 done, 3 done but a capture was truncated, 1 a fault
-/// of the input, 4 memory that ran out or a device that failed.
+/// of the input, 4 memory that ran out or a device that failed. Where verdicts are compared it is `status_of_expected` or
+/// `status_of_changes` of `compared_verdicts`.
 pub fn status(outcome: &Result<Totals, Fault>) -> u8
     ensures { result ≡ status_of outcome.now }
 {

@@ -1,3 +1,5 @@
+mod ApartLemmas
 mod FileLemmas
 mod InterfaceFileLemmas
+mod MergeLemmas
 mod ReaderLemmas

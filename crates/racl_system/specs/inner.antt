@@ -1,1 +1,2 @@
+pub mod MergedFiles
 pub mod Merges

@@ -3,7 +3,7 @@ ghost use Rattle.std.specs.Prelude.{◌≡◌, ◌≤◌, IfSome, length};
 
 use capture_stream::Arrival;
 use crossbeam_channel::Sender;
-use racl_io::{DeviceFault, Source};
+use racl_io::{DeviceFault, Fault, Source};
 use std::alloc::Global;
 use std::sync::Wait;
 
@@ -50,7 +50,7 @@ fn part_of(alloc: Global, interface: u8, bytes: &[u8]) -> Option<Part>
 }
 
 impl Feed {
-    ghost use Rattle.std.specs.Prelude.{◌-◌, ◌<◌, ◌≤◌, ◌^◌, length};
+    ghost use Rattle.std.specs.Prelude.{◌≡◌, ◌≢◌, ◌-◌, ◌<◌, ◌≤◌, ◌^◌, length};
 
     // Hands on some bytes, or the end where there are none. Whether more is wanted.
     fn hand(&self, rt: &impl Wait, bytes: &[u8]) -> bool
@@ -59,7 +59,7 @@ impl Feed {
         match part_of(self.alloc, self.interface, bytes) {
             Some(part) => self.to.send(rt, Fed::Part(part)).is_ok(),
             None => {
-                self.refuse(rt);
+                self.fail(rt, Fault::Memory);
                 false
             }
         }
@@ -83,14 +83,20 @@ impl Feed {
         let _ = self.hand(rt, &[]);
     }
 
-    /// Hands on that the capture can't be read any further.
-    pub fn fail(&self, rt: &impl Wait) {
-        let _ = self.to.send(rt, Fed::Unread(self.interface));
+    // What tells of a fault: a failed read, or else that memory ran out.
+    fn fed_of(&self, fault: Fault) -> Fed
+        ensures read { fault ≡ Fault.Read → result ≡ Fed.Unread self.now.interface }
+        ensures memory { fault ≢ Fault.Read → result ≡ Fed.Refused }
+    {
+        match fault {
+            Fault::Read => Fed::Unread(self.interface),
+            _ => Fed::Refused,
+        }
     }
 
-    /// Hands on that memory ran out.
-    pub fn refuse(&self, rt: &impl Wait) {
-        let _ = self.to.send(rt, Fed::Refused);
+    /// Hands on that the capture can't be read any further, or that memory ran out.
+    pub fn fail(&self, rt: &impl Wait, fault: Fault) {
+        let _ = self.to.send(rt, self.fed_of(fault));
     }
 
     /// Hands on what a source has, as it comes, to its end.
@@ -106,7 +112,7 @@ impl Feed {
                     }
                 }
                 Err(DeviceFault) => {
-                    self.fail(rt);
+                    self.fail(rt, Fault::Read);
                     return;
                 }
             }

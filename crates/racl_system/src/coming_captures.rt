@@ -1,6 +1,8 @@
 //! The captures of a live run on several interfaces, each of which is read as it comes.
-ghost use Rattle.std.specs.Prelude.{◌≡◌, ◌≤◌, IfErr, IfOk, IfSome, None, length};
+ghost use Rattle.std.specs.Prelude.{◌≡◌, ◌≤◌, ◌==◌, IfErr, IfNone, IfOk, IfSome, None, length};
+ghost use Rattle.std.specs.List.{list_any};
 ghost use Rattle.racl_io.specs.Inputs.{most_bytes};
+ghost use Rattle.racl_system.specs.LiveInterfaces.{AreApart, IsComingStatus, IsFirstTwice, interfaces_of};
 ghost use Rattle.racl_system.specs.Readers.{IsLiveStatus};
 
 use crate::capture_feeding::{Fed, Feed, Part};
@@ -33,14 +35,22 @@ pub struct ComingCaptures<'a, T> {
     left: usize,
     /// How often one couldn't be read.
     failures: u64,
+    /// The interface of the last one that couldn't be.
+    unread: Option<u8>,
 }
 
 impl<T: Wait> Arrivals for ComingCaptures<'_, T> {
-    ghost use Rattle.std.specs.Prelude.{None};
+    ghost use Rattle.std.specs.Prelude.{None, Some};
 
     ghost parts = { λ _. None };
 
+    ghost whole = { λ _. tt };
+
+    ghost left = { λ coming. Some coming.left };
+
     ghost failures = { λ coming. coming.failures };
+
+    ghost unread = { λ coming. coming.unread };
 
     fn next(&mut self) -> Result<Option<Arrival>, FaultAt> {
         if self.left == 0 {
@@ -55,6 +65,7 @@ impl<T: Wait> Arrivals for ComingCaptures<'_, T> {
             }
             Ok(Fed::Unread(interface)) => {
                 self.failures += 1;
+                self.unread = Some(interface);
                 Err(FaultAt {
                     fault: Fault::Read,
                     interface: Some(interface),
@@ -81,7 +92,7 @@ fn hand_named<T: Wait>(system: HostRuntime, rt: &T, name: &str, feed: &Feed) {
         Ok(reader) => feed.hand_from(rt, &mut Device::new(reader)),
         Err(reason) => {
             let _ = system.eprintln(&Unopened { name, reason });
-            feed.fail(rt);
+            feed.fail(rt, Fault::Read);
         }
     }
 }
@@ -135,24 +146,35 @@ fn begin_captures<'a, T: Threads + Wait + Copy + Send + 'static>(
     }
     if !files.is_empty() {
         let copied = *rt;
-        let _ = spawn(rt, move || hand_merged(&copied, files))?;
+        if spawn(rt, move || hand_merged(&copied, files)).is_err() {
+            say_fault(system, Fault::Memory)?;
+            return Ok(None);
+        }
     }
     Ok(Some(ComingCaptures {
         rt,
         from,
         left: captures.len(),
         failures: 0,
+        unread: None,
     }))
 }
 
-// The number that two of these captures have, if two have one.
-fn twice_among(captures: &[CaptureFile<'_>]) -> Option<u8> {
-    for place in 0..captures.len() {
+// Whether one of these captures is of the interface with this number.
+fn is_named(captures: &[CaptureFile<'_>], number: u8) -> bool
+    ensures { result ≡ list_any (λ capture. capture.interface == number) captures.now }
+{
+    captures.iter().any(|capture| capture.interface == number)
+}
+
+// The number that two of these captures have, if two have one: the first that is there again.
+fn twice_among(captures: &[CaptureFile<'_>]) -> Option<u8>
+    ensures some { IfSome result (IsFirstTwice (interfaces_of captures.now)) }
+    ensures none { IfNone result (AreApart captures.now) }
+{
+    'captures: for place in 0..captures.len() {
         let number = captures[place].interface;
-        if captures[..place]
-            .iter()
-            .any(|other| other.interface == number)
-        {
+        if is_named(&captures[..place], number) {
             return Some(number);
         }
     }
@@ -177,6 +199,31 @@ fn unread_of(alloc: Global, captures: &[CaptureFile<'_>]) -> Vec<Seen<'static>> 
     seen
 }
 
+// Has threads hand on what comes of these captures. Where one can't be had, or two are of one interface, that is told, and the
+// status is answered.
+fn captures_or_told<'a, T: Threads + Wait + Copy + Send + 'static>(
+    system: &HostRuntime,
+    rt: &'a T,
+    alloc: Global,
+    captures: &[CaptureFile<'_>],
+) -> io::Result<Result<ComingCaptures<'a, T>, u8>>
+    ensures coming { IfOk result (λ found. IfOk found (λ coming. (coming.left ≡ length captures.now) × (coming.failures ≡ 0))) }
+    ensures apart { IfOk result (λ found. IfOk found (λ _. AreApart captures.now)) }
+    ensures status { IfOk result (λ found. IfErr found (IsComingStatus captures.now)) }
+{
+    if let Some(number) = twice_among(captures) {
+        return match say_fault(system, Fault::Twice(number)) {
+            Ok(status) => Ok(Err(status)),
+            Err(error) => Err(error),
+        };
+    }
+    match begin_captures(system, rt, alloc, captures) {
+        Ok(Some(coming)) => Ok(Ok(coming)),
+        Ok(None) => Ok(Err(4)),
+        Err(error) => Err(error),
+    }
+}
+
 /// Reads the policy of a live run on several interfaces, of which it says what is unlikely to be meant, and has threads read the
 /// captures: regular files in one, in the order of their packets' moments, and each other one as it comes. Where one can't be had,
 /// or two are of one interface, that is told, and the status is answered: 1 where two are, or the text is too large, else 4. No
@@ -191,6 +238,7 @@ pub fn opened_live_interfaces<'a, T: Threads + Wait + Copy + Send + 'static>(
     ensures left { IfOk result (λ found. IfOk found (λ opened. opened.captures.left ≡ length interfaces.now.captures.items)) }
     ensures failures { IfOk result (λ found. IfOk found (λ opened. opened.captures.failures ≡ 0)) }
     ensures status { IfOk result (λ found. IfErr found (IsLiveStatus None)) }
+    ensures apart { IfOk result (λ found. IfOk found (λ _. AreApart interfaces.now.captures.items)) }
 {
     let text = match live_policy_text(system, alloc, interfaces.policy) {
         Ok(Ok(text)) => text,
@@ -198,15 +246,9 @@ pub fn opened_live_interfaces<'a, T: Threads + Wait + Copy + Send + 'static>(
         Err(error) => return Err(error),
     };
     let captures = interfaces.captures.as_slice();
-    if let Some(number) = twice_among(captures) {
-        return match say_fault(system, Fault::Twice(number)) {
-            Ok(status) => Ok(Err(status)),
-            Err(error) => Err(error),
-        };
-    }
-    let coming = match begin_captures(system, rt, alloc, captures) {
-        Ok(Some(coming)) => coming,
-        Ok(None) => return Ok(Err(4)),
+    let coming = match captures_or_told(system, rt, alloc, captures) {
+        Ok(Ok(coming)) => coming,
+        Ok(Err(status)) => return Ok(Err(status)),
         Err(error) => return Err(error),
     };
     let seen = unread_of(alloc, captures);

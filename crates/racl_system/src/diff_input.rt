@@ -11,7 +11,7 @@ use crate::say_policy_remarks::{Seen, say_unlooked};
 use crate::system_files::SystemFiles;
 use racl_io::Fault;
 use racl_options::{DiffFiles, Files};
-use racl_report::{Remark, hint, remark, shown_name};
+use racl_report::{KindRemark, hint, remark, shown_name};
 use std::alloc::Global;
 use std::io;
 use std::io::Eprint;
@@ -99,7 +99,7 @@ pub fn say_capture_fault(
     let Some(other) = remark(&Err(fault), front) else {
         return Ok(status);
     };
-    match system.eprintln(&Remark { name, other }) {
+    match system.eprintln(&KindRemark { name, other }) {
         Ok(()) => Ok(status),
         Err(error) => Err(error),
     }

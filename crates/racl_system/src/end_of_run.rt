@@ -10,7 +10,7 @@ use capture_stream::FaultAt;
 use packet_view::check_capture;
 use racl_io::{Fault, Totals};
 use racl_options::{Files, Interfaces, Options, TableSize};
-use racl_report::{InterfaceInput, Remark, ending, hint, remark, shortage, shown_name};
+use racl_report::{InterfaceInput, KindRemark, ending, hint, remark, shortage, shown_name};
 use racl_views::CaptureBytes;
 use std::alloc::Global;
 use std::fs::metadata;
@@ -71,7 +71,7 @@ fn say_remark(
     fault: Fault,
 ) -> io::Result<()> {
     if let Some(other) = remark(&Err(fault), front) {
-        return rt.eprintln(&Remark { name, other });
+        return rt.eprintln(&KindRemark { name, other });
     }
     let shown = shown_name(name);
     match interface {
@@ -266,7 +266,7 @@ pub fn say_end_of_live(
     }
     if let Some(other) = remark(outcome, front) {
         let name = files.capture;
-        rt.eprintln(&Remark { name, other })?;
+        rt.eprintln(&KindRemark { name, other })?;
     }
     let seen = Seen {
         interface: 0,

@@ -6,7 +6,7 @@ ghost use Rattle.racl_system.specs.Readers.{left_in};
 use crate::live_files::{live_policy_text, opened_live};
 use crate::named_reader::Reader;
 use crate::system_files::SystemFiles;
-use expected_verdicts::ExpectationFault;
+use compared_verdicts::ExpectationFault;
 use racl_options::Files;
 use racl_report::shown_name;
 use std::alloc::Global;

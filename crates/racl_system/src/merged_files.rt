@@ -1,10 +1,31 @@
 //! Captures in regular files, whose packets are handed on together, in the order of their moments.
-ghost use Rattle.std.specs.Prelude.{[], ◌≡◌, ℕ, List, IfSome, None, false, true};
+ghost use Rattle.std.specs.Prelude.{[], ◌≡◌, ◌≢◌, ◌↔◌, ℕ, All, List, IfErr, IfNone, IfOk, IfSome, IsTrue, None, drop, false, is_some, true};
 ghost use Rattle.packet_view.specs.Captures.{IsPiece, Record, RecordFacts};
-ghost use Rattle.racl_system.specs.inner.Merges.{comes_before, may_come, turn_of};
+ghost use Rattle.racl_io.specs.declared.fault.Fault.TheVariants.{Memory, Read as ReadFault};
+ghost use Rattle.racl_system.specs.inner.MergedFiles.{
+  HasLookedAtHeader,
+  HasReadMore,
+  IsCutShort,
+  IsFilled,
+  IsNext,
+  IsNextAmong,
+  IsNoWholeRecord,
+  rest_of,
+};
+ghost use Rattle.racl_system.specs.inner.Merges.{
+  AllMayCome,
+  HasCounted,
+  HasNoRecord,
+  IsLeast,
+  NoneMayCome,
+  comes_before,
+  first_of,
+  may_come,
+  turn_of,
+};
 
 use crate::capture_feeding::{Feed, PART_BYTES};
-use packet_view::{Order, Piece, capture_header, next_record};
+use packet_view::{NextRecord, Order, capture_header, next_record};
 use racl_io::{Device, Fault, Source};
 use std::io::Read;
 use std::sync::Wait;
@@ -32,14 +53,14 @@ pub struct MergedFile<F> {
 
 /// Where a packet stands among those of all files: by the second, the microsecond, and the place of its file.
 #[derive(Clone, Copy, Debug, PartialEq, Eq)]
-struct Turn {
+struct FileTurn {
     moment: u32,
     micros: u32,
     place: usize,
 }
 
 // Whether a packet stands before another.
-fn is_before(a: Turn, b: Turn) -> bool
+fn is_before(a: FileTurn, b: FileTurn) -> bool
     ensures { result ≡ comes_before a b }
 {
     a.moment < b.moment
@@ -69,12 +90,19 @@ impl<F: Read> MergedFile<F> {
     }
 
     // What was read and not handed on.
-    fn rest(&self) -> &[u8] {
+    fn rest(&self) -> &[u8]
+        ensures { result.now ≡ rest_of self.now }
+    {
         &self.held[self.handed.min(self.held.len())..]
     }
 
     // Reads some bytes behind the others.
-    fn read_more(&mut self) -> Result<(), Fault> {
+    fn read_more(&mut self) -> Result<(), Fault>
+        ensures read { IfOk result (λ _. HasReadMore F.remaining self.old self.new) }
+        ensures kept { IfErr result (λ _. self.new ≡ record self.old { source = self.new.source }) }
+        ensures memory { IfErr result (λ fault. self.new.source.failures ≡ 0 → fault ≡ Memory) }
+        ensures failed { IfErr result (λ fault. self.new.source.failures ≢ 0 → fault ≡ ReadFault) }
+    {
         if self.source.failures > 0 {
             return Err(Fault::Read);
         }
@@ -91,14 +119,13 @@ impl<F: Read> MergedFile<F> {
     }
 
     // Whether neither the header nor the record at the front is whole, and more can be read.
-    fn wants_more(&self) -> bool {
+    fn wants_more(&self) -> bool
+        ensures { IsTrue result ↔ ((self.now.ended ≡ false) × IsCutShort self.now.order (rest_of self.now)) }
+    {
         match self.order {
             _ if self.ended => false,
             None => self.rest().len() < HEADER_BYTES,
-            Some(order) => matches!(
-                next_record(self.rest(), order),
-                Piece::End | Piece::Truncated
-            ),
+            Some(order) => is_cut_short(self.rest(), order),
         }
     }
 
@@ -109,14 +136,19 @@ impl<F: Read> MergedFile<F> {
     }
 
     // Hands on so many bytes of the front, which then are behind it. Whether more is wanted.
-    fn take_front(&mut self, rt: &impl Wait, count: usize) -> bool {
+    fn take_front(&mut self, rt: &impl Wait, count: usize) -> bool
+        ensures rest { rest_of self.new ≡ drop count (rest_of self.old) }
+        ensures same { self.new ≡ record self.old { handed = self.new.handed } }
+    {
         let is_wanted = self.hand_front(rt, count);
         self.handed = self.handed.saturating_add(count);
         is_wanted
     }
 
     // Hands on the header, where it is whole and right. Of a wrong one all stays, and no more is read. Whether more is wanted.
-    fn take_header(&mut self, rt: &impl Wait) -> bool {
+    fn take_header(&mut self, rt: &impl Wait) -> bool
+        ensures { HasLookedAtHeader self.old self.new }
+    {
         if self.order.is_some() || self.rest().len() < HEADER_BYTES {
             return true;
         }
@@ -134,7 +166,9 @@ impl<F: Read> MergedFile<F> {
 
     // Whether its header was handed on. One that is wrong or short is handed on now, before the packets of other files, since
     // nothing is wanted behind it.
-    fn has_header(&self, rt: &impl Wait) -> bool {
+    fn has_header(&self, rt: &impl Wait) -> bool
+        ensures { result ≡ is_some self.now.order }
+    {
         if self.order.is_none() {
             let _ = self.hand_rest(rt);
         }
@@ -142,7 +176,9 @@ impl<F: Read> MergedFile<F> {
     }
 
     // Reads until a record is whole, or no more can be read. Whether more is wanted.
-    fn fill(&mut self, rt: &impl Wait) -> bool {
+    fn fill(&mut self, rt: &impl Wait) -> bool
+        ensures { result ≡ true → IsFilled self.new }
+    {
         'reads: for _ in rt.forever() {
             if !self.take_header(rt) {
                 return false;
@@ -152,12 +188,8 @@ impl<F: Read> MergedFile<F> {
             }
             match self.read_more() {
                 Ok(()) => {}
-                Err(Fault::Read) => {
-                    self.feed.fail(rt);
-                    return false;
-                }
-                Err(_) => {
-                    self.feed.refuse(rt);
+                Err(fault) => {
+                    self.feed.fail(rt, fault);
                     return false;
                 }
             }
@@ -166,12 +198,18 @@ impl<F: Read> MergedFile<F> {
     }
 
     // Where its next packet stands, where it is the file at this place; None where it has no more that is whole.
-    fn turn(&self, place: usize) -> Option<Turn> {
+    fn turn(&self, place: usize) -> Option<FileTurn>
+        ensures some { IfSome result (λ turn. (turn.place ≡ place) × IsNext self.now turn) }
+        ensures none { IfNone result ((turn : FileTurn) → IsNext self.now turn → ⊥) }
+    {
         turn_at(self.rest(), self.order?, place)
     }
 
     // Hands on the records at the front whose packets stand before this one, the next of another file. Whether more is wanted.
-    fn hand_before(&mut self, rt: &impl Wait, place: usize, next: Option<Turn>) -> bool {
+    fn hand_before(&mut self, rt: &impl Wait, place: usize, next: Option<FileTurn>) -> bool
+        ensures rest { IfSome self.old.order (λ order. (count : ℕ) × HasCounted order (rest_of self.old) place next count × (rest_of self.new ≡ drop count (rest_of self.old))) }
+        ensures same { self.new ≡ record self.old { handed = self.new.handed } }
+    {
         let Some(order) = self.order else {
             return false;
         };
@@ -189,25 +227,37 @@ impl<F: Read> MergedFile<F> {
     }
 }
 
-// Where the packet of the record at these bytes' front stands, in the file at this place; None where no record is whole there.
-fn turn_at(bytes: &[u8], order: Order, place: usize) -> Option<Turn>
-    ensures { IfSome result (λ turn. (packet : RecordFacts) × (rest : List ℕ) × IsPiece order bytes.now (Record packet rest) × (turn ≡ turn_of place packet)) }
+// Whether these bytes are nothing or the front of a record, and not all of one.
+fn is_cut_short(bytes: &[u8], order: Order) -> bool
+    ensures { IsTrue result ↔ IsNoWholeRecord order bytes.now }
 {
     match next_record(bytes, order) {
-        Piece::Whole { moment, micros, .. } => Some(Turn {
+        NextRecord::End | NextRecord::Truncated => true,
+        NextRecord::Whole { .. } | NextRecord::TooLong => false,
+    }
+}
+
+// Where the packet of the record at these bytes' front stands, in the file at this place; None where no record is whole there.
+fn turn_at(bytes: &[u8], order: Order, place: usize) -> Option<FileTurn>
+    ensures some { IfSome result (λ turn. (packet : RecordFacts) × (rest : List ℕ) × IsPiece order bytes.now (Record packet rest) × (turn ≡ turn_of place packet)) }
+    ensures none { IfNone result (HasNoRecord order bytes.now) }
+{
+    match next_record(bytes, order) {
+        NextRecord::Whole { moment, micros, .. } => Some(FileTurn {
             moment,
             micros,
             place,
         }),
-        Piece::End | Piece::Truncated | Piece::TooLong => None,
+        NextRecord::End | NextRecord::Truncated | NextRecord::TooLong => None,
     }
 }
 
 // What stands behind the record at the front, where its packet stands before this one, the next of another file.
-fn behind_first(bytes: &[u8], order: Order, place: usize, next: Option<Turn>) -> Option<&[u8]>
-    ensures { IfSome result (λ rest. (packet : RecordFacts) × IsPiece order bytes.now (Record packet rest.now) × (may_come place next packet ≡ true)) }
+fn behind_first(bytes: &[u8], order: Order, place: usize, next: Option<FileTurn>) -> Option<&[u8]>
+    ensures some { IfSome result (λ rest. (packet : RecordFacts) × IsPiece order bytes.now (Record packet rest.now) × (may_come place next packet ≡ true)) }
+    ensures none { IfNone result (NoneMayCome order bytes.now place next) }
 {
-    let Piece::Whole {
+    let NextRecord::Whole {
         moment,
         micros,
         rest,
@@ -216,7 +266,7 @@ fn behind_first(bytes: &[u8], order: Order, place: usize, next: Option<Turn>) ->
     else {
         return None;
     };
-    let turn = Turn {
+    let turn = FileTurn {
         moment,
         micros,
         place,
@@ -227,36 +277,57 @@ fn behind_first(bytes: &[u8], order: Order, place: usize, next: Option<Turn>) ->
     }
 }
 
-// How many bytes the records at the front have whose packets stand before this one, the next of another file.
-fn count_before(bytes: &[u8], order: Order, place: usize, next: Option<Turn>) -> usize {
+// What stands behind the records at the front whose packets stand before this one, the next of another file.
+fn behind_those(bytes: &[u8], order: Order, place: usize, next: Option<FileTurn>) -> &[u8]
+    ensures { AllMayCome order bytes.now place next result.now }
+{
     let mut left = bytes;
-    for _ in 0..MOST_RECORDS {
+    'records: for _count in 0..MOST_RECORDS {
         let Some(rest) = behind_first(left, order, place, next) else {
-            break;
+            return left;
         };
         left = rest;
     }
+    left
+}
+
+// How many bytes the records at the front have whose packets stand before this one, the next of another file.
+fn count_before(bytes: &[u8], order: Order, place: usize, next: Option<FileTurn>) -> usize
+    ensures { HasCounted order bytes.now place next result }
+{
+    let left = behind_those(bytes, order, place, next);
     bytes.len().saturating_sub(left.len())
 }
 
+// The one of two packets that stands before the other, where both are there.
+fn first_of(one: Option<FileTurn>, other: Option<FileTurn>) -> Option<FileTurn>
+    ensures { result ≡ first_of one other }
+{
+    match (one, other) {
+        (Some(one), Some(other)) if is_before(other, one) => Some(other),
+        (None, other) => other,
+        (one, _) => one,
+    }
+}
+
 // The first of the packets that stand next in these files, but for the one at a place.
-fn first_turn<F: Read>(files: &[MergedFile<F>], but: Option<usize>) -> Option<Turn> {
+fn first_turn<F: Read>(files: &[MergedFile<F>], but: Option<usize>) -> Option<FileTurn>
+    ensures { IsLeast (IsNextAmong files.now but) result }
+{
     let mut first = None;
-    for place in 0..files.len() {
+    'files: for place in 0..files.len() {
         if but == Some(place) {
             continue;
         }
-        first = match (first, files[place].turn(place)) {
-            (Some(first), Some(turn)) if is_before(turn, first) => Some(turn),
-            (None, turn) => turn,
-            (first, _) => first,
-        };
+        first = first_of(first, files[place].turn(place));
     }
     first
 }
 
 // Reads of each file until a record of it is whole, or it has no more. Whether more is wanted.
-fn fill_all<F: Read>(rt: &impl Wait, files: &mut [MergedFile<F>]) -> bool {
+fn fill_all<F: Read>(rt: &impl Wait, files: &mut [MergedFile<F>]) -> bool
+    ensures { result ≡ true → All IsFilled files.new }
+{
     for place in 0..files.len() {
         if !files[place].fill(rt) {
             return false;
@@ -273,7 +344,7 @@ pub fn hand_merged<F: Read + Drop>(rt: &impl Wait, files: Vec<MergedFile<F>>) {
         if !fill_all(rt, &mut files) {
             return;
         }
-        let Some(Turn { place, .. }) = first_turn(&files, None) else {
+        let Some(FileTurn { place, .. }) = first_turn(&files, None) else {
             break;
         };
         let next = first_turn(&files, Some(place));

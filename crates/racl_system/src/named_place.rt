@@ -22,7 +22,7 @@ pub struct FileNumber {
 
 /// Where a name leads.
 #[derive(Drop)]
-pub enum Place {
+pub enum NamedPlace {
     /// To a regular file.
     Standing(FileNumber),
     /// To no file yet: the folder in which it would be created, and its name there.
@@ -32,14 +32,14 @@ pub enum Place {
 }
 
 /// Whether two places are of one file.
-pub fn is_one_file(one: &Place, other: &Place) -> bool
+pub fn is_one_file(one: &NamedPlace, other: &NamedPlace) -> bool
     ensures { result ≡ Places.is_one_file one.now other.now }
 {
     match (one, other) {
-        (Place::Standing(number), Place::Standing(another)) => {
+        (NamedPlace::Standing(number), NamedPlace::Standing(another)) => {
             number.device == another.device && number.inode == another.inode
         }
-        (Place::Unmade(folder, name), Place::Unmade(another, other_name)) => {
+        (NamedPlace::Unmade(folder, name), NamedPlace::Unmade(another, other_name)) => {
             folder.device == another.device
                 && folder.inode == another.inode
                 && name.as_str() == other_name.as_str()
@@ -57,33 +57,33 @@ fn number_of(found: &Metadata) -> FileNumber {
 
 // The place of a name that the system refuses to look at. Memory that ran out is told: the place may be one of another
 // name.
-fn place_refused(error: io::Error) -> io::Result<Place>
-    ensures { MatchResult result (λ place. (place ≡ Place.Unknown) × (error_kind error ≢ ErrorKind.OutOfMemory))
+fn place_refused(error: io::Error) -> io::Result<NamedPlace>
+    ensures { MatchResult result (λ place. (place ≡ NamedPlace.Unknown) × (error_kind error ≢ ErrorKind.OutOfMemory))
         (λ told. error_kind told ≡ ErrorKind.OutOfMemory) }
 {
     if error.kind() == ErrorKind::OutOfMemory {
         Err(error)
     } else {
-        Ok(Place::Unknown)
+        Ok(NamedPlace::Unknown)
     }
 }
 
 // Where a file of this path would be created, which is none and no link.
-fn place_in_folder(rt: &HostRuntime, alloc: Global, path: &PathBuf) -> io::Result<Place>
+fn place_in_folder(rt: &HostRuntime, alloc: Global, path: &PathBuf) -> io::Result<NamedPlace>
     ensures { IfErr result (λ told. error_kind told ≡ ErrorKind.OutOfMemory) }
 {
     let (Some(folder), Some(name)) = (path.parent(), path.file_name()) else {
-        return Ok(Place::Unknown);
+        return Ok(NamedPlace::Unknown);
     };
     let folder = folder.as_str();
     match metadata(rt, if folder.is_empty() { "." } else { folder }) {
-        Ok(found) => Ok(Place::Unmade(number_of(&found), String::from_str(alloc, name)?)),
+        Ok(found) => Ok(NamedPlace::Unmade(number_of(&found), String::from_str(alloc, name)?)),
         Err(error) => place_refused(error),
     }
 }
 
 // Where a file of this name would be created, which is none: behind links that lead to none, where the name is one.
-fn unmade_place(rt: &HostRuntime, alloc: Global, name: &str) -> io::Result<Place>
+fn unmade_place(rt: &HostRuntime, alloc: Global, name: &str) -> io::Result<NamedPlace>
     ensures { IfErr result (λ told. error_kind told ≡ ErrorKind.OutOfMemory) }
 {
     let mut path = PathBuf::from_str(alloc, name)?;
@@ -98,17 +98,17 @@ fn unmade_place(rt: &HostRuntime, alloc: Global, name: &str) -> io::Result<Place
             Err(_) => return place_in_folder(rt, alloc, &path),
         }
     }
-    Ok(Place::Unknown)
+    Ok(NamedPlace::Unknown)
 }
 
 /// Where this name leads. An `Err` says that memory ran out. No clause says where names lead, since that is the system's:
 /// `tests/run` looks at it.
-pub fn place_of(rt: &HostRuntime, alloc: Global, name: &str) -> io::Result<Place>
+pub fn place_of(rt: &HostRuntime, alloc: Global, name: &str) -> io::Result<NamedPlace>
     ensures { IfErr result (λ told. error_kind told ≡ ErrorKind.OutOfMemory) }
 {
     match metadata(rt, name) {
-        Ok(found) if found.is_file() => Ok(Place::Standing(number_of(&found))),
-        Ok(_) => Ok(Place::Unknown),
+        Ok(found) if found.is_file() => Ok(NamedPlace::Standing(number_of(&found))),
+        Ok(_) => Ok(NamedPlace::Unknown),
         Err(error) if error.kind() == ErrorKind::NotFound => unmade_place(rt, alloc, name),
         Err(error) => place_refused(error),
     }

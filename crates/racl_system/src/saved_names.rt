@@ -2,7 +2,7 @@
 ghost use Rattle.std.specs.Prelude.{◌≡◌, ◌<◌, IfOk, IfSome, None, Ok, length, position};
 ghost use Rattle.racl_system.specs.Places;
 
-use crate::named_place::{Place, is_one_file, place_of};
+use crate::named_place::{NamedPlace, is_one_file, place_of};
 use racl_options::{Files, Saved};
 use racl_report::shown_name;
 use std::alloc::Global;
@@ -25,11 +25,11 @@ pub struct Used<'a> {
     name: &'a str,
     /// What becomes of it.
     fate: &'static str,
-    place: Place,
+    place: NamedPlace,
 }
 
 // The first of the files of a run that is the one at this place.
-fn first_at(place: &Place, used: &[Used<'_>]) -> Option<usize>
+fn first_at(place: &NamedPlace, used: &[Used<'_>]) -> Option<usize>
     ensures first { result ≡ position (λ u. Places.is_one_file place.now u.place) used.now }
     ensures within { IfSome result (λ i. i < length used.now) }
 {

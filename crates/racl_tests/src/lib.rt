@@ -1,4 +1,4 @@
-//! The tests of the crates from `racl_options` to `racl_cli`, with whole inputs and their reports.
+//! The tests of the crates from `racl_options` to `racl_runs`, with whole inputs and their reports.
 #![tactic(auto)]
 
 #[cfg(test)]

@@ -1,4 +1,4 @@
-//! The tests of the crates from `racl_options` to `racl_cli`.
+//! The tests of the crates from `racl_options` to `racl_runs`.
 use std::test::Fail;
 
 mod checks;

@@ -2,7 +2,7 @@
 use Rattle.std.proofs.Common.{◌≡◌, ◌∙◌, ◌++◌, ◌+◌, ◌<◌, ◌≤◌, ℕ, Bool, true, false, List, [], ◌∷◌, ap, cond, get_or, length, map, sym, take}
 use Rattle.std.proofs.lemmas.Grind.{take_at_read}
 use Rattle.std.proofs.lemmas.List.{map-append, take_all}
-use Rattle.policy_words.specs.Words.{is_blank}
+use Rattle.acl_policy.specs.Words.{is_blank}
 use Rattle.racl_views.specs.RuleTexts.{before, rule_text, without_end}
 
 -- a blank at the end is left out

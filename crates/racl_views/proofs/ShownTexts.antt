@@ -5,7 +5,7 @@ use Rattle.std.specs.Str.{IsAscii, IsUtf8}
 use Rattle.std.proofs.lemmas.Bool.{and_parts, cond_both, eqb-true, ltb-true, or_cases}
 use Rattle.std.proofs.lemmas.Str.{IsAscii-drop, IsAscii-take, IsUtf8-from_ascii}
 use Rattle.std.proofs.lemmas.Str.Ascii.{IsAscii-cons, IsAscii-nil}
-use Rattle.policy_words.specs.Words.{is_blank, without_comment}
+use Rattle.acl_policy.specs.Words.{is_blank, without_comment}
 use Rattle.racl_views.specs.RuleTexts.{before, from_word, is_shown_byte, rule_text, shown_or, without_end}
 
 shown_byte : (byte : ℕ) → is_shown_byte byte ≡ true → byte < 128

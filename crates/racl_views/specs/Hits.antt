@@ -12,13 +12,13 @@ use Rattle.session_state.specs.declared.verdict.Verdict.{Verdict}
 use Rattle.session_state.specs.declared.verdict.Verdict.TheVariants as verdict
 use Rattle.racl_views.specs.declared.hit.Hit.{Hit}
 use Rattle.racl_views.specs.declared.hit.Hit.TheVariants as hit
-use Rattle.racl_views.specs.declared.reason_without_rule.Reason.{Reason}
-use Rattle.racl_views.specs.declared.reason_without_rule.Reason.TheVariants as reason
+use Rattle.racl_views.specs.declared.reason_without_rule.NoRule.{NoRule}
+use Rattle.racl_views.specs.declared.reason_without_rule.NoRule.TheVariants as reason
 use Rattle.racl_views.specs.declared.rule_name.RuleLine.{RuleLine}
 use Rattle.racl_views.specs.declared.rule_name.RuleName.{RuleName}
 use Rattle.racl_views.specs.declared.session_counts.SessionCounts.{SessionCounts}
-use Rattle.racl_views.specs.declared.text_or_json.View.{View}
-use Rattle.racl_views.specs.declared.text_or_json.View.TheVariants as form
+use Rattle.racl_views.specs.declared.text_or_json.TextOrJson.{TextOrJson}
+use Rattle.racl_views.specs.declared.text_or_json.TextOrJson.TheVariants as form
 use Rattle.racl_views.specs.Deciding.{AreDecided, hits_on}
 use Rattle.racl_views.specs.Objects.{number, object_line, object_of, string}
 use Rattle.racl_views.specs.PacketObjects.{line_fields, way_field}
@@ -31,7 +31,7 @@ use Rattle.racl_views.specs.RunEntries.{RunFacts}
 -- ---- verdicts that are no rule's
 
 -- whether a packet with this verdict has it for this reason
-abbrev pub has_reason : Reason → Verdict → Bool
+abbrev pub has_reason : NoRule → Verdict → Bool
 has_reason reason.Session verdict.Session = true
 has_reason reason.ByDefault verdict.ByDefault = true
 has_reason reason.Full verdict.Full = true
@@ -42,7 +42,7 @@ has_reason reason.Malformed verdict.Malformed = true
 has_reason reason.Short verdict.Short = true
 has_reason _ _ = false
 
-abbrev pub word_of : Reason → List ℕ
+abbrev pub word_of : NoRule → List ℕ
 word_of reason.Session = codes "session"
 word_of reason.ByDefault = codes "default"
 word_of reason.Full = codes "full"
@@ -53,7 +53,7 @@ word_of reason.Malformed = codes "malformed"
 word_of reason.Short = codes "short"
 
 -- all of them, in their order
-abbrev pub all_reasons : List Reason
+abbrev pub all_reasons : List NoRule
 all_reasons = reason.Session ∷ reason.ByDefault ∷ reason.Full ∷ reason.Worn ∷ reason.NoPages ∷ reason.NotIp ∷ reason.Malformed ∷ reason.Short ∷ []
 
 -- ---- counts
@@ -121,7 +121,7 @@ hit_object texts (hit.Entered count) = object_of (number (codes "sessions_entere
 hit_object texts (hit.Matched count) = object_of (number (codes "sessions_matched") count ∷ [])
 hit_object texts (hit.Expired count) = object_of (number (codes "sessions_expired") count ∷ [])
 
-abbrev pub hit_told : View → List (List ℕ) → Hit → List ℕ
+abbrev pub hit_told : TextOrJson → List (List ℕ) → Hit → List ℕ
 hit_told form.Text texts it = hit_line texts it
 hit_told form.Json texts it = object_line (hit_object texts it)
 
@@ -129,7 +129,7 @@ hit_told form.Json texts it = object_line (hit_object texts it)
 
 -- What is told of hits, a line or an object for each: of the rules of the policy's text in its order, of the verdicts that are no
 -- rule's, and of sessions, by those that are stored after the run.
-pub record IsHits (view : View) (times : Timeouts) (run : RunFacts) (stored : StoredFacts) (told : List ℕ) : Type 0 where
+pub record IsHits (view : TextOrJson) (times : Timeouts) (run : RunFacts) (stored : StoredFacts) (told : List ℕ) : Type 0 where
   pub rules : List RuleLine
   pub lines : AreRules run.text rules
   pub deciding : List (Option RuleName)
@@ -138,6 +138,6 @@ pub record IsHits (view : View) (times : Timeouts) (run : RunFacts) (stored : St
       (rule_hits deciding rules ++ (reason_hits run.verdicts ++ session_hits (session_counts times run stored)))
 
 -- the same, where it is asked for
-abbrev pub AreHits : Bool → View → Timeouts → RunFacts → StoredFacts → List ℕ → Type 0
+abbrev pub AreHits : Bool → TextOrJson → Timeouts → RunFacts → StoredFacts → List ℕ → Type 0
 AreHits false view times run stored told = told ≡ []
 AreHits true view times run stored told = IsHits view times run stored told

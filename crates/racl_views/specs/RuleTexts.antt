@@ -2,7 +2,7 @@
 use Rattle.std.specs.Prelude.{ℕ, Bool, ◌&&◌, ◌||◌, ◌==◌, List, [], ◌∷◌, drop, nat_lt, take, map, not, option_map, position, unwrap_or, if◌then◌else◌}
 use Rattle.std.specs.List.{list_all}
 use Rattle.std.specs.Str.Lines as split
-use Rattle.policy_words.specs.Words.{is_blank, without_comment}
+use Rattle.acl_policy.specs.Words.{is_blank, without_comment}
 use Rattle.racl_views.specs.declared.shown_rule_text.RuleText.{RuleText}
 
 -- a text from its first word on

@@ -14,8 +14,8 @@ use Rattle.session_state.specs.declared.flow.FlowKey.TheVariants.{Four, Six}
 use Rattle.session_state.specs.declared.timeouts.Timeouts.{Timeouts}
 use Rattle.racl_views.specs.declared.stored_flow_end.FlowEnd.{FlowEnd}
 use Rattle.racl_views.specs.declared.stored_flow.StoredFlow.{StoredFlow}
-use Rattle.racl_views.specs.declared.text_or_json.View.{View}
-use Rattle.racl_views.specs.declared.text_or_json.View.TheVariants as form
+use Rattle.racl_views.specs.declared.text_or_json.TextOrJson.{TextOrJson}
+use Rattle.racl_views.specs.declared.text_or_json.TextOrJson.TheVariants as form
 use Rattle.racl_views.specs.Objects.{Field, number, object_line, object_of, string}
 use Rattle.packet_words.specs.PacketWords.{address_text, flags_text, numbered, protocol_text}
 use Rattle.racl_views.specs.Stored.{StoredFacts}
@@ -124,18 +124,18 @@ session_object times flow session =
 
 -- ---- sessions in either form
 
-abbrev pub session_told : View → Timeouts → FlowFacts → SessionFacts → List ℕ
+abbrev pub session_told : TextOrJson → Timeouts → FlowFacts → SessionFacts → List ℕ
 session_told form.Text times flow session = session_line times flow session
 session_told form.Json times flow session = object_line (session_object times flow session)
 
 -- of a stored pair: nothing where its word is no session's, which no packet stores
-abbrev pub pair_told : View → Timeouts → FlowFacts → Option SessionFacts → List ℕ
+abbrev pub pair_told : TextOrJson → Timeouts → FlowFacts → Option SessionFacts → List ℕ
 pair_told view times flow None = []
 pair_told view times flow (Some session) = session_told view times flow session
 
-abbrev pub pairs_told : (List ℕ → FlowFacts) → View → Timeouts → List (List ℕ × ℕ) → List ℕ
+abbrev pub pairs_told : (List ℕ → FlowFacts) → TextOrJson → Timeouts → List (List ℕ × ℕ) → List ℕ
 pairs_told flow view times pairs = flat_map (λ pair. pair_told view times (flow pair.0) (session_of pair.1)) pairs
 
 -- a line or an object for each session of the tables, in the order of their keys, those of IPv4 first
-abbrev pub sessions_told : View → Timeouts → StoredFacts → List ℕ
+abbrev pub sessions_told : TextOrJson → Timeouts → StoredFacts → List ℕ
 sessions_told view times stored = pairs_told four_flow view times stored.four ++ pairs_told six_flow view times stored.six

@@ -10,12 +10,12 @@ const ROOM: usize = 65_536;
 
 /// Bytes that wait to be written, in room for 64 KiB.
 #[derive(Drop)]
-pub struct Batch {
+pub struct ByteBatch {
     room: [u8; ROOM],
     len: usize,
 }
 
-impl Model for Batch {
+impl Model for ByteBatch {
     ghost use Rattle.std.specs.Prelude.{◌≡◌, ◌≤◌, ℕ, List, length, take};
 
     ghost Value = { List ℕ };
@@ -25,14 +25,14 @@ impl Model for Batch {
     ghost invariant = { λ b. (length b.room ≡ 65536) × (b.len ≤ 65536) };
 }
 
-impl Batch {
+impl ByteBatch {
     ghost use Rattle.std.specs.Prelude.{◌≡◌, ◌+◌, ◌≤◌, ◌++◌, [], IsTrue, ◌↔◌, length};
 
     /// No bytes are gathered yet.
-    pub fn new() -> Batch
+    pub fn new() -> ByteBatch
         ensures { result ≡ [] }
     {
-        Batch {
+        ByteBatch {
             room: [0; ROOM],
             len: 0,
         }
@@ -72,7 +72,7 @@ impl Batch {
 }
 
 // Gathers a batch's first bytes, where none wait; more than have room are written at once.
-fn put_first<W: Sink>(writer: &mut W, batch: &mut Batch, bytes: &[u8]) -> Result<(), Fault>
+fn put_first<W: Sink>(writer: &mut W, batch: &mut ByteBatch, bytes: &[u8]) -> Result<(), Fault>
     requires sound { W.failures writer.old < 2 ^ 64 - 1 }
     requires empty { batch.old ≡ [] }
     ensures { HasPassed W.bytes W.failures writer.old writer.new batch.old batch.new bytes.now result }
@@ -85,7 +85,7 @@ fn put_first<W: Sink>(writer: &mut W, batch: &mut Batch, bytes: &[u8]) -> Result
 }
 
 // Gathers bytes behind those that wait; where they have no room, those are written.
-fn put_in_batch<W: Sink>(writer: &mut W, batch: &mut Batch, bytes: &[u8]) -> Result<(), Fault>
+fn put_in_batch<W: Sink>(writer: &mut W, batch: &mut ByteBatch, bytes: &[u8]) -> Result<(), Fault>
     requires sound { W.failures writer.old < 2 ^ 64 - 1 }
     ensures { HasPassed W.bytes W.failures writer.old writer.new batch.old batch.new bytes.now result }
 {
@@ -101,7 +101,7 @@ fn put_in_batch<W: Sink>(writer: &mut W, batch: &mut Batch, bytes: &[u8]) -> Res
 /// Gathers bytes behind those that wait, where they are kept.
 pub fn put_where<W: Sink>(
     writer: &mut W,
-    batch: &mut Batch,
+    batch: &mut ByteBatch,
     kept: bool,
     bytes: &[u8],
 ) -> Result<(), Fault>

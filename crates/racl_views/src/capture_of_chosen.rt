@@ -11,9 +11,9 @@ ghost use Rattle.racl_views.specs.declared.chosen_packets.Chosen.{Chosen};
 ghost use Rattle.racl_views.specs.inner.Batches.{HasPassed};
 ghost use Rattle.racl_views.specs.inner.ChosenBytes.{HasNoRecord, chosen_in};
 
-use crate::byte_batch::{Batch, put_where};
+use crate::byte_batch::{ByteBatch, put_where};
 use crate::chosen_packets::Chosen;
-use packet_view::{Order, Piece, capture_header, next_record};
+use packet_view::{NextRecord, Order, capture_header, next_record};
 use racl_io::{Fault, Sink, write_all};
 use session_state::Verdict;
 
@@ -24,15 +24,15 @@ fn record_to_choose(bytes: &[u8], order: Order) -> Option<(&[u8], &[u8])>
     ensures none { IfNone result (HasNoRecord order bytes.now) }
 {
     match next_record(bytes, order) {
-        Piece::Whole { frame, .. } => Some(bytes.split_at(16 + frame.len())),
-        Piece::End | Piece::Truncated | Piece::TooLong => None,
+        NextRecord::Whole { frame, .. } => Some(bytes.split_at(16 + frame.len())),
+        NextRecord::End | NextRecord::Truncated | NextRecord::TooLong => None,
     }
 }
 
 // Puts those whole records of a capture that are chosen by their verdicts behind the bytes that wait.
 fn put_chosen<W: Sink>(
     writer: &mut W,
-    batch: &mut Batch,
+    batch: &mut ByteBatch,
     records: &[u8],
     order: Order,
     chosen: Chosen,
@@ -67,7 +67,7 @@ pub fn write_chosen_records<W: Sink>(
     ensures steady { OnOk result (W.failures writer.new ≡ W.failures writer.old) }
     ensures failed { OnErr result (W.failures writer.new ≡ W.failures writer.old + 1) }
 {
-    let mut batch = Batch::new();
+    let mut batch = ByteBatch::new();
     put_chosen(writer, &mut batch, records, order, chosen, verdicts)?;
     write_all(writer, batch.as_slice())
 }
@@ -85,7 +85,7 @@ fn write_records<W: Sink>(
     ensures { HasPut W.bytes W.failures writer.old writer.new (take 24 capture.now ++ chosen_in chosen order verdicts.now (drop 24 capture.now)) result }
 {
     let (header, records) = capture.split_at(24);
-    let mut batch = Batch::new();
+    let mut batch = ByteBatch::new();
     put_where(writer, &mut batch, true, header)?;
     put_chosen(writer, &mut batch, records, order, chosen, verdicts)?;
     write_all(writer, batch.as_slice())

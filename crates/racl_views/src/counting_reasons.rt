@@ -4,28 +4,28 @@ ghost use Rattle.session_state.specs.declared.verdict.Verdict as said;
 ghost use Rattle.racl_views.specs.HitCounts.{CountReasons};
 ghost use Rattle.racl_views.specs.Hits;
 
-use crate::reason_without_rule::Reason;
+use crate::reason_without_rule::NoRule;
 use session_state::Verdict;
 
 // Whether a packet with this verdict is counted for this reason.
-fn has_reason(reason: Reason, verdict: Verdict) -> bool
+fn has_reason(reason: NoRule, verdict: Verdict) -> bool
     ensures { result ≡ Hits.has_reason reason verdict }
 {
     match (reason, verdict) {
-        (Reason::Session, Verdict::Session)
-        | (Reason::ByDefault, Verdict::ByDefault)
-        | (Reason::Full, Verdict::Full)
-        | (Reason::Worn, Verdict::Worn)
-        | (Reason::NoPages, Verdict::NoPages)
-        | (Reason::NotIp, Verdict::NotIp)
-        | (Reason::Malformed, Verdict::Malformed)
-        | (Reason::Short, Verdict::Short) => true,
+        (NoRule::Session, Verdict::Session)
+        | (NoRule::ByDefault, Verdict::ByDefault)
+        | (NoRule::Full, Verdict::Full)
+        | (NoRule::Worn, Verdict::Worn)
+        | (NoRule::NoPages, Verdict::NoPages)
+        | (NoRule::NotIp, Verdict::NotIp)
+        | (NoRule::Malformed, Verdict::Malformed)
+        | (NoRule::Short, Verdict::Short) => true,
         _ => false,
     }
 }
 
 // How many packets have this verdict.
-fn count_reason(reason: Reason, verdicts: &[Verdict]) -> u64
+fn count_reason(reason: NoRule, verdicts: &[Verdict]) -> u64
     ensures { result ≡ count_by (Hits.has_reason reason) verdicts.now }
 {
     let mut count = 0;
@@ -71,12 +71,12 @@ pub fn count_reasons(counts: &mut ReasonCounts, verdicts: &[Verdict])
     requires { (said : List said.Verdict) × CountReasons said counts.old × (length said + length verdicts.now < 2 ^ 64) }
     ensures { (said : List said.Verdict) → CountReasons said counts.old → CountReasons (said ++ verdicts.now) counts.new }
 {
-    counts.session += count_reason(Reason::Session, verdicts);
-    counts.by_default += count_reason(Reason::ByDefault, verdicts);
-    counts.full += count_reason(Reason::Full, verdicts);
-    counts.worn += count_reason(Reason::Worn, verdicts);
-    counts.no_pages += count_reason(Reason::NoPages, verdicts);
-    counts.not_ip += count_reason(Reason::NotIp, verdicts);
-    counts.malformed += count_reason(Reason::Malformed, verdicts);
-    counts.short += count_reason(Reason::Short, verdicts);
+    counts.session += count_reason(NoRule::Session, verdicts);
+    counts.by_default += count_reason(NoRule::ByDefault, verdicts);
+    counts.full += count_reason(NoRule::Full, verdicts);
+    counts.worn += count_reason(NoRule::Worn, verdicts);
+    counts.no_pages += count_reason(NoRule::NoPages, verdicts);
+    counts.not_ip += count_reason(NoRule::NotIp, verdicts);
+    counts.malformed += count_reason(NoRule::Malformed, verdicts);
+    counts.short += count_reason(NoRule::Short, verdicts);
 }

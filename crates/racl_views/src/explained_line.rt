@@ -4,7 +4,7 @@ ghost use Rattle.racl_views.specs.Entries.{entry_facts};
 ghost use Rattle.racl_views.specs.ExplainedLines.{decided_text, explained_line, head_of};
 ghost use Rattle.racl_views.specs.RuleTexts.{shown_of};
 
-use crate::packet_entry::{Entry, Place};
+use crate::packet_entry::{Entry, PacketPlace};
 use crate::rule_texts_in_policy::text_at;
 use crate::shown_rule_text::RuleText;
 use packet_words::{push_numbered, push_packet, push_verdict};
@@ -38,7 +38,12 @@ fn push_explained_rule<'a>(piece: &mut Piece, texts: &'a [RuleText<'a>], line: u
 }
 
 /// The line of the packet with this number.
-pub fn push_explained<'a>(piece: &mut Piece, texts: &'a [RuleText<'a>], place: Place, entry: &Entry)
+pub fn push_explained<'a>(
+    piece: &mut Piece,
+    texts: &'a [RuleText<'a>],
+    place: PacketPlace,
+    entry: &Entry,
+)
     requires { length piece.old + 742 ≤ 262144 }
     ensures text { piece.new ≡ piece.old ++ explained_line (map shown_of texts.now) place.named place.number (entry_facts entry.now) }
     ensures short { length piece.new ≤ length piece.old + 742 }

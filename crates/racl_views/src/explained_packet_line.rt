@@ -3,7 +3,7 @@ ghost use Rattle.std.specs.Prelude.{◌≡◌, Some, if◌then◌else◌};
 ghost use Rattle.racl_views.specs.inner.Tellings.{entry_by, line_named};
 
 use crate::explained_line::push_explained;
-use crate::packet_entry::{Place, entry_of};
+use crate::packet_entry::{PacketPlace, entry_of};
 use crate::packet_telling::Telling;
 use packet_view::Packet;
 use racl_io::{PacketLine, Piece};
@@ -35,7 +35,7 @@ impl<'a, 'b> PacketLine for ExplainedLine<'a, 'b> {
             return;
         }
         let entry = entry_of(telling.policy, &telling.table.lines, packet, verdict);
-        let place = Place {
+        let place = PacketPlace {
             named: name_for(self.names, self.named, entry.interface),
             number,
         };

@@ -1,6 +1,6 @@
 //! Counts of packets and sessions, each of which is told in one line.
 
-use crate::reason_without_rule::Reason;
+use crate::reason_without_rule::NoRule;
 use crate::rule_name::RuleLine;
 
 /// How many packets or sessions there are of a kind.
@@ -9,7 +9,7 @@ pub enum Hit {
     /// Packets that a rule decided.
     Rule(RuleLine, u64),
     /// Packets whose verdict is no rule's, for this reason.
-    Unruled(Reason, u64),
+    Unruled(NoRule, u64),
     /// Sessions that were entered.
     Entered(u64),
     /// Packets that these let through.

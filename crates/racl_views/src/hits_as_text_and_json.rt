@@ -23,7 +23,7 @@ use crate::json_fields::{
     add_line, add_number, add_string, add_way, begin_json_object, end_json_object,
 };
 use crate::place_of_rule::number_at;
-use crate::reason_without_rule::Reason;
+use crate::reason_without_rule::NoRule;
 use crate::rule_name::RuleLine;
 use crate::rule_numbering::numbered_rules;
 use crate::rule_texts_in_policy::{text_at, texts_of};
@@ -31,7 +31,7 @@ use crate::run_and_verdicts::Run;
 use crate::session_counts::{SessionCounts, count_sessions};
 use crate::shown_rule_text::RuleText;
 use crate::stored_pairs::StoredPairs;
-use crate::text_or_json::View;
+use crate::text_or_json::TextOrJson;
 use packet_view::Direction;
 use packet_words::push_numbered;
 use racl_io::Piece;
@@ -50,19 +50,19 @@ fn way_word(direction: Direction) -> &'static [u8]
 }
 
 // The word for a reason in the hits, as text and in JSON.
-fn word_of(reason: Reason) -> &'static str
+fn word_of(reason: NoRule) -> &'static str
     ensures word { result.now ≡ Hits.word_of reason }
     ensures short { length result.now ≤ 9 }
 {
     match reason {
-        Reason::Session => "session",
-        Reason::ByDefault => "default",
-        Reason::Full => "full",
-        Reason::Worn => "worn",
-        Reason::NoPages => "no-pages",
-        Reason::NotIp => "not-ip",
-        Reason::Malformed => "malformed",
-        Reason::Short => "short",
+        NoRule::Session => "session",
+        NoRule::ByDefault => "default",
+        NoRule::Full => "full",
+        NoRule::Worn => "worn",
+        NoRule::NoPages => "no-pages",
+        NoRule::NotIp => "not-ip",
+        NoRule::Malformed => "malformed",
+        NoRule::Short => "short",
     }
 }
 
@@ -81,7 +81,7 @@ fn push_rule<'a>(piece: &mut Piece, texts: &'a [RuleText<'a>], at: RuleLine, cou
 }
 
 // The line among the hits of how many packets a reason decided that is no rule.
-fn push_reason(piece: &mut Piece, reason: Reason, count: u64)
+fn push_reason(piece: &mut Piece, reason: NoRule, count: u64)
     requires { length piece.old + 199 ≤ 262144 }
     ensures { piece.new ≡ piece.old ++ hit_line [] (Unruled reason count) }
 {
@@ -132,7 +132,7 @@ fn rule_object<'a>(
 }
 
 // The object among the hits of how many packets a reason decided that is no rule, behind a text.
-fn reason_object(text: Vec<u8>, reason: Reason, count: u64) -> Result<Vec<u8>, AllocError>
+fn reason_object(text: Vec<u8>, reason: NoRule, count: u64) -> Result<Vec<u8>, AllocError>
     ensures { IfOk result (λ new. new.items ≡ text.items ++ object_line (Hits.hit_object [] (Unruled reason count))) }
 {
     let mut object = begin_json_object(&text)?;
@@ -167,26 +167,26 @@ fn hit_object<'a>(text: Vec<u8>, texts: &'a [RuleText<'a>], hit: Hit) -> Result<
 fn tell_hit<'a>(
     text: Vec<u8>,
     piece: &mut Piece,
-    view: View,
+    view: TextOrJson,
     texts: &'a [RuleText<'a>],
     hit: Hit,
 ) -> Result<Vec<u8>, AllocError>
     ensures { IfOk result (λ new. new.items ≡ text.items ++ hit_told view (map shown_of texts.now) hit) }
 {
     match view {
-        View::Text => {
+        TextOrJson::Text => {
             piece.clear();
             push_hit(piece, texts, hit);
             append_line_text(text, piece)
         }
-        View::Json => hit_object(text, texts, hit),
+        TextOrJson::Json => hit_object(text, texts, hit),
     }
 }
 
 // What is told of hits.
 fn tell_hits<'a>(
     alloc: Global,
-    view: View,
+    view: TextOrJson,
     texts: &'a [RuleText<'a>],
     hits: &[Hit],
 ) -> Result<Vec<u8>, AllocError>
@@ -220,14 +220,14 @@ fn push_reason_hits_to_tell(hits: &mut Vec<Hit>, counts: &ReasonCounts) -> Resul
     ensures { OnOk result ((verdicts : List Verdict) → CountReasons verdicts counts.now → hits.new.items ≡ hits.old.items ++ reason_hits verdicts) }
 {
     hits.extend_from_slice(&[
-        Hit::Unruled(Reason::Session, counts.session),
-        Hit::Unruled(Reason::ByDefault, counts.by_default),
-        Hit::Unruled(Reason::Full, counts.full),
-        Hit::Unruled(Reason::Worn, counts.worn),
-        Hit::Unruled(Reason::NoPages, counts.no_pages),
-        Hit::Unruled(Reason::NotIp, counts.not_ip),
-        Hit::Unruled(Reason::Malformed, counts.malformed),
-        Hit::Unruled(Reason::Short, counts.short),
+        Hit::Unruled(NoRule::Session, counts.session),
+        Hit::Unruled(NoRule::ByDefault, counts.by_default),
+        Hit::Unruled(NoRule::Full, counts.full),
+        Hit::Unruled(NoRule::Worn, counts.worn),
+        Hit::Unruled(NoRule::NoPages, counts.no_pages),
+        Hit::Unruled(NoRule::NotIp, counts.not_ip),
+        Hit::Unruled(NoRule::Malformed, counts.malformed),
+        Hit::Unruled(NoRule::Short, counts.short),
     ])?;
     Ok(())
 }
@@ -269,7 +269,7 @@ fn hits_to_tell(
 /// out.
 pub fn counted_hits_text(
     alloc: Global,
-    view: View,
+    view: TextOrJson,
     times: Timeouts,
     text: &[u8],
     counts: &HitCounts,
@@ -290,7 +290,7 @@ pub fn counted_hits_text(
 /// `Err` says that memory ran out.
 pub fn hits_text(
     alloc: Global,
-    view: View,
+    view: TextOrJson,
     times: Timeouts,
     run: Run<'_>,
     stored: &StoredPairs,

@@ -1,4 +1,4 @@
-//! Objects of JSON, written field by field (RFC 8259).
+//! Objects of JSON, written field by field (RFC 8259); which keys a packet's object has stands in `json_objects`.
 ghost use Rattle.std.specs.Prelude.{◌≡◌, ◌<◌, ◌++◌, [], ◌∷◌, true, List, IfOk, OnOk, map, string_bytes};
 ghost use Rattle.json.specs.Json.{boolean};
 ghost use Rattle.json.specs.Token.{begin_object};

@@ -56,5 +56,5 @@ pub use rule_texts_in_policy::text_at;
 pub use run_and_verdicts::Run;
 pub use sessions_as_text_and_json::sessions_text;
 pub use stored_pairs::StoredPairs;
-pub use text_or_json::View;
+pub use text_or_json::TextOrJson;
 pub use writing_explained_lines::{ExplainedLines, write_explained};

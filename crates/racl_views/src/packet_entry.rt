@@ -29,7 +29,7 @@ pub struct Entry {
 
 /// Where a packet stands in what is told.
 #[derive(Clone, Copy)]
-pub struct Place {
+pub struct PacketPlace {
     /// The interface that its line names, where it names one.
     pub named: Option<u8>,
     /// Its number among all packets.

@@ -2,7 +2,7 @@
 
 /// Why a packet met a verdict that is no rule's.
 #[derive(Clone, Copy)]
-pub enum Reason {
+pub enum NoRule {
     Session,
     ByDefault,
     Full,

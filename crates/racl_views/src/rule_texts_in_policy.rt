@@ -2,13 +2,12 @@
 ghost use Rattle.std.specs.Prelude.{◌≡◌, ◌-◌, ◌<◌, ◌≤◌, [], IfOk, get_or, length, map, take};
 ghost use Rattle.std.specs.List.{list_all};
 ghost use Rattle.std.specs.Str.{IsUtf8};
-ghost use Rattle.policy_words.specs.Words.{without_comment};
+ghost use Rattle.acl_policy.specs.Words.{without_comment};
 ghost use Rattle.racl_views.specs.RuleTexts;
 ghost use Rattle.racl_views.specs.RuleTexts.{from_word, rule_texts, shown_of, shown_or, without_end};
 
 use crate::shown_rule_text::RuleText;
-use acl_policy::before_comment;
-use policy_words::{is_blank, word_start};
+use acl_policy::{before_comment, is_blank, word_start};
 use std::alloc::{AllocError, Global};
 
 /// How many bytes of a rule are shown at most.

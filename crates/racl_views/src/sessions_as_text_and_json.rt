@@ -17,7 +17,7 @@ use crate::line_room::Room;
 use crate::stored_flow::StoredFlow;
 use crate::stored_flow_end::FlowEnd;
 use crate::stored_pairs::StoredPairs;
-use crate::text_or_json::View;
+use crate::text_or_json::TextOrJson;
 use json::Writer;
 use packet_words::{push_address, push_line_flags, push_line_protocol, push_numbered};
 use racl_io::Piece;
@@ -170,7 +170,7 @@ fn session_object(
 fn tell_session(
     text: Vec<u8>,
     room: &mut Room,
-    view: View,
+    view: TextOrJson,
     times: &Timeouts,
     flow: &StoredFlow,
     session: &Session,
@@ -178,12 +178,12 @@ fn tell_session(
     ensures { IfOk result (λ new. new.items ≡ text.items ++ session_told view times.now (flow_facts flow.now) session.now) }
 {
     match view {
-        View::Text => {
+        TextOrJson::Text => {
             room.piece.clear();
             push_session(&mut room.piece, times, flow, session);
             append_line_text(text, &room.piece)
         }
-        View::Json => session_object(text, &mut room.address, times, flow, session),
+        TextOrJson::Json => session_object(text, &mut room.address, times, flow, session),
     }
 }
 
@@ -191,7 +191,7 @@ fn tell_session(
 fn tell_pair(
     text: Vec<u8>,
     room: &mut Room,
-    view: View,
+    view: TextOrJson,
     times: &Timeouts,
     flow: &StoredFlow,
     word: u64,
@@ -208,7 +208,7 @@ fn tell_pair(
 fn tell_four(
     text: Vec<u8>,
     room: &mut Room,
-    view: View,
+    view: TextOrJson,
     times: &Timeouts,
     pairs: &[([u64; 2], u64)],
 ) -> Result<Vec<u8>, AllocError>
@@ -225,7 +225,7 @@ fn tell_four(
 fn tell_six(
     text: Vec<u8>,
     room: &mut Room,
-    view: View,
+    view: TextOrJson,
     times: &Timeouts,
     pairs: &[([u64; 5], u64)],
 ) -> Result<Vec<u8>, AllocError>
@@ -243,7 +243,7 @@ fn tell_six(
 /// it is live. An `Err` says that memory ran out.
 pub fn sessions_text(
     alloc: Global,
-    view: View,
+    view: TextOrJson,
     times: Timeouts,
     stored: &StoredPairs,
 ) -> Result<Vec<u8>, AllocError>

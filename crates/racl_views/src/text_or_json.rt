@@ -2,7 +2,7 @@
 
 /// In which form hits and sessions are told.
 #[derive(Clone, Copy)]
-pub enum View {
+pub enum TextOrJson {
     /// Lines of text.
     Text,
     /// Objects of JSON, one a line.

@@ -9,32 +9,32 @@ use Rattle.packet_view.specs.Tuples.{TupleFacts}
 use Rattle.acl_policy.specs.Matching.{Matches}
 use Rattle.acl_policy.specs.Rules.{RuleFacts}
 use Rattle.rule_cover.specs.Covers.{IsLeft, IsPacket, IsTaken}
-use Rattle.rule_cover.specs.declared.piece.Meeting.{Meeting}
-use Rattle.rule_cover.specs.declared.piece.Parting.{Parting}
-use Rattle.rule_cover.specs.declared.piece.Parting.TheVariants.{Apart, Whole, Cut}
-use Rattle.rule_cover.specs.declared.piece.Piece.{Piece}
+use Rattle.rule_cover.specs.declared.packet_set.Meeting.{Meeting}
+use Rattle.rule_cover.specs.declared.packet_set.Parting.{Parting}
+use Rattle.rule_cover.specs.declared.packet_set.Parting.TheVariants.{Apart, Whole, Cut}
+use Rattle.rule_cover.specs.declared.packet_set.PacketSet.{PacketSet}
 use Rattle.rule_cover.specs.declared.region.Region.{Region}
 use Rattle.rule_cover.specs.declared.region.Shown.{Shown}
 use Rattle.rule_cover.specs.declared.region.Shown.TheVariants.{Nothing, PortPair, PortsAndFlags, TypeAndCode}
 use Rattle.rule_cover.specs.inner.Pieces.{AddsShown, AreBeside, AreFirst, IsBesideRegion, IsCutBy, IsInSome, IsMeeting, IsParting, IsPartingAt, IsPiece, IsSearch, IsWhole, TakesRegion}
 use Rattle.rule_cover.specs.inner.Regions.{IsCut, IsInRegion, shown_of}
 
-in_left : (xs ys : List Piece) (tuple : TupleFacts) → IsInSome xs tuple → IsInSome (xs ++ ys) tuple
+in_left : (xs ys : List PacketSet) (tuple : TupleFacts) → IsInSome xs tuple → IsInSome (xs ++ ys) tuple
 in_left [] ys tuple is = absurd is
 in_left (x ∷ xs) ys tuple (inl here) = inl here
 in_left (x ∷ xs) ys tuple (inr there) = inr (in_left xs ys tuple there)
 
-in_right : (xs ys : List Piece) (tuple : TupleFacts) → IsInSome ys tuple → IsInSome (xs ++ ys) tuple
+in_right : (xs ys : List PacketSet) (tuple : TupleFacts) → IsInSome ys tuple → IsInSome (xs ++ ys) tuple
 in_right [] ys tuple is = is
 in_right (x ∷ xs) ys tuple is = inr (in_right xs ys tuple is)
 
-in_cases : (xs ys : List Piece) (tuple : TupleFacts) → IsInSome (xs ++ ys) tuple → IsInSome xs tuple ⊎ IsInSome ys tuple
+in_cases : (xs ys : List PacketSet) (tuple : TupleFacts) → IsInSome (xs ++ ys) tuple → IsInSome xs tuple ⊎ IsInSome ys tuple
 in_cases [] ys tuple is = inr is
 in_cases (x ∷ xs) ys tuple (inl here) = inl (inl here)
 in_cases (x ∷ xs) ys tuple (inr there) = elim (in_cases xs ys tuple there) [ inl left ↦ inl (inr left) | inr right ↦ inr right ]
 
 -- no packet shows this
-pub adds_none : (a b : RuleFacts) (shown : Shown) (old : List Piece)
+pub adds_none : (a b : RuleFacts) (shown : Shown) (old : List PacketSet)
     → ((tuple : TupleFacts) → IsPacket tuple → Matches a tuple → Matches b tuple → shown_of tuple.fields ≡ shown → ⊥) → AddsShown a b shown old old
 adds_none a b shown old none = record {
   more = [];
@@ -44,7 +44,7 @@ adds_none a b shown old none = record {
 }
 
 -- the packets of both regions
-pub adds_both : (a b : RuleFacts) (shown : Shown) (one two joined : Region) (old new : List Piece)
+pub adds_both : (a b : RuleFacts) (shown : Shown) (one two joined : Region) (old new : List PacketSet)
     → ((tuple : TupleFacts) → IsPacket tuple → IsInRegion one tuple ↔ (Matches a tuple × (shown_of tuple.fields ≡ shown)))
     → ((tuple : TupleFacts) → IsPacket tuple → IsInRegion two tuple ↔ (Matches b tuple × (shown_of tuple.fields ≡ shown)))
     → ((tuple : TupleFacts) → IsInRegion joined tuple ↔ (IsInRegion one tuple × IsInRegion two tuple))
@@ -63,7 +63,7 @@ adds_both a b shown one two joined old new first second both is = record {
 }
 
 -- whatever a packet shows
-pub all_shown : (a b : RuleFacts) (o p q r s : List Piece) → o ≡ [] → AddsShown a b Nothing o p → AddsShown a b TypeAndCode p q → AddsShown a b PortPair q r
+pub all_shown : (a b : RuleFacts) (o p q r s : List PacketSet) → o ≡ [] → AddsShown a b Nothing o p → AddsShown a b TypeAndCode p q → AddsShown a b PortPair q r
     → AddsShown a b PortsAndFlags r s → AreFirst a b s
 all_shown a b o p q r s none one two three four =
     let P = IsWhole a b in
@@ -74,27 +74,27 @@ all_shown a b o p q r s none one two three four =
     record {
       each = subst (All P) (sym four.is) (All-append P r four.more third four.each);
       every = λ tuple packet left right.
-          let from_p = λ (is : IsInSome p tuple). subst (λ (ps : List Piece). IsInSome ps tuple) (sym two.is) (in_left p two.more tuple is) in
-          let from_q = λ (is : IsInSome q tuple). subst (λ (ps : List Piece). IsInSome ps tuple) (sym three.is) (in_left q three.more tuple is) in
-          let from_r = λ (is : IsInSome r tuple). subst (λ (ps : List Piece). IsInSome ps tuple) (sym four.is) (in_left r four.more tuple is) in
+          let from_p = λ (is : IsInSome p tuple). subst (λ (ps : List PacketSet). IsInSome ps tuple) (sym two.is) (in_left p two.more tuple is) in
+          let from_q = λ (is : IsInSome q tuple). subst (λ (ps : List PacketSet). IsInSome ps tuple) (sym three.is) (in_left q three.more tuple is) in
+          let from_r = λ (is : IsInSome r tuple). subst (λ (ps : List PacketSet). IsInSome ps tuple) (sym four.is) (in_left r four.more tuple is) in
           let go : (shown : Shown) → shown_of tuple.fields ≡ shown → IsInSome s tuple = λ shown is. by_shown a b o p q r s one two three four tuple packet left right shown is from_p from_q from_r in
           go (shown_of tuple.fields) refl;
     }
   where
-    by_shown : (a b : RuleFacts) (o p q r s : List Piece) → AddsShown a b Nothing o p → AddsShown a b TypeAndCode p q → AddsShown a b PortPair q r
+    by_shown : (a b : RuleFacts) (o p q r s : List PacketSet) → AddsShown a b Nothing o p → AddsShown a b TypeAndCode p q → AddsShown a b PortPair q r
         → AddsShown a b PortsAndFlags r s → (tuple : TupleFacts) → IsPacket tuple → Matches a tuple → Matches b tuple → (shown : Shown) → shown_of tuple.fields ≡ shown
         → (IsInSome p tuple → IsInSome q tuple) → (IsInSome q tuple → IsInSome r tuple) → (IsInSome r tuple → IsInSome s tuple) → IsInSome s tuple
     by_shown a b o p q r s one two three four tuple packet left right Nothing is f g h =
-        h (g (f (subst (λ (ps : List Piece). IsInSome ps tuple) (sym one.is) (in_right o one.more tuple (one.every tuple packet left right is)))))
+        h (g (f (subst (λ (ps : List PacketSet). IsInSome ps tuple) (sym one.is) (in_right o one.more tuple (one.every tuple packet left right is)))))
     by_shown a b o p q r s one two three four tuple packet left right TypeAndCode is f g h =
-        h (g (subst (λ (ps : List Piece). IsInSome ps tuple) (sym two.is) (in_right p two.more tuple (two.every tuple packet left right is))))
+        h (g (subst (λ (ps : List PacketSet). IsInSome ps tuple) (sym two.is) (in_right p two.more tuple (two.every tuple packet left right is))))
     by_shown a b o p q r s one two three four tuple packet left right PortPair is f g h =
-        h (subst (λ (ps : List Piece). IsInSome ps tuple) (sym three.is) (in_right q three.more tuple (three.every tuple packet left right is)))
+        h (subst (λ (ps : List PacketSet). IsInSome ps tuple) (sym three.is) (in_right q three.more tuple (three.every tuple packet left right is)))
     by_shown a b o p q r s one two three four tuple packet left right PortsAndFlags is f g h =
-        subst (λ (ps : List Piece). IsInSome ps tuple) (sym four.is) (in_right r four.more tuple (four.every tuple packet left right is))
+        subst (λ (ps : List PacketSet). IsInSome ps tuple) (sym four.is) (in_right r four.more tuple (four.every tuple packet left right is))
 
 -- the search begins with whole pieces
-whole_piece : (a b : RuleFacts) (rules : List RuleFacts) (piece : Piece) → IsWhole a b piece → IsPiece a b rules piece
+whole_piece : (a b : RuleFacts) (rules : List RuleFacts) (piece : PacketSet) → IsWhole a b piece → IsPiece a b rules piece
 whole_piece a b rules piece whole = record {
   within = omega (arith, whole.start);
   one = whole.one;
@@ -102,20 +102,20 @@ whole_piece a b rules piece whole = record {
   beside = λ k rule low high. absurd (omega (arith, whole.start));
 }
 
-pub search_begins : (a b : RuleFacts) (rules : List RuleFacts) (pieces : List Piece) (first last : ℕ) → AreFirst a b pieces → IsSearch a b rules pieces first last
+pub search_begins : (a b : RuleFacts) (rules : List RuleFacts) (pieces : List PacketSet) (first last : ℕ) → AreFirst a b pieces → IsSearch a b rules pieces first last
 search_begins a b rules pieces first last are = record {
   each = All-weaker (IsWhole a b) (IsPiece a b rules) (whole_piece a b rules) pieces are.each;
   every = λ tuple packet left right. inr (are.every tuple packet left right);
 }
 
 -- one piece is taken out
-pub record IsOpen (a b : RuleFacts) (rules : List RuleFacts) (pieces : List Piece) (piece : Piece) (first last : ℕ) : Type 0 where
+pub record IsOpen (a b : RuleFacts) (rules : List RuleFacts) (pieces : List PacketSet) (piece : PacketSet) (first last : ℕ) : Type 0 where
   pub each : All (IsPiece a b rules) pieces
   pub here : IsPiece a b rules piece
   pub every : (tuple : TupleFacts) → IsPacket tuple → Matches a tuple → Matches b tuple
       → IsTaken rules first last tuple ⊎ (IsInSome pieces tuple ⊎ IsInRegion piece.region tuple)
 
-pub opened : (a b : RuleFacts) (rules : List RuleFacts) (old new : List Piece) (piece : Piece) (first last : ℕ) → IsSearch a b rules old first last
+pub opened : (a b : RuleFacts) (rules : List RuleFacts) (old new : List PacketSet) (piece : PacketSet) (first last : ℕ) → IsSearch a b rules old first last
     → old ≡ new ++ option_to_list (Some piece) → IsOpen a b rules new piece first last
 opened a b rules old new piece first last search same =
     let parts = All-pop (IsPiece a b rules) old new (Some piece) same search.each in
@@ -124,7 +124,7 @@ opened a b rules old new piece first last search same =
       here = parts.1;
       every = λ tuple packet left right. elim (search.every tuple packet left right) [
         | inl taken ↦ inl taken
-        | inr some ↦ elim (in_cases new (piece ∷ []) tuple (subst (λ (ps : List Piece). IsInSome ps tuple) same some)) [
+        | inr some ↦ elim (in_cases new (piece ∷ []) tuple (subst (λ (ps : List PacketSet). IsInSome ps tuple) same some)) [
           | inl before ↦ inr (inl before)
           | inr last_one ↦ elim last_one [ inl it ↦ inr (inr it) | inr nothing ↦ absurd nothing ]
         ]
@@ -132,7 +132,7 @@ opened a b rules old new piece first last search same =
     }
 
 -- the piece has no packet
-pub piece_empty : (a b : RuleFacts) (rules : List RuleFacts) (pieces : List Piece) (piece : Piece) (first last : ℕ) → IsOpen a b rules pieces piece first last
+pub piece_empty : (a b : RuleFacts) (rules : List RuleFacts) (pieces : List PacketSet) (piece : PacketSet) (first last : ℕ) → IsOpen a b rules pieces piece first last
     → ((tuple : TupleFacts) → IsPacket tuple → IsInRegion piece.region tuple → ⊥) → IsSearch a b rules pieces first last
 piece_empty a b rules pieces piece first last search none = record {
   each = search.each;
@@ -143,7 +143,7 @@ piece_empty a b rules pieces piece first last search none = record {
 }
 
 -- a rule takes the piece
-pub piece_taken : (a b : RuleFacts) (rules : List RuleFacts) (pieces : List Piece) (piece : Piece) (first last place low high : ℕ) (rule : RuleFacts)
+pub piece_taken : (a b : RuleFacts) (rules : List RuleFacts) (pieces : List PacketSet) (piece : PacketSet) (first last place low high : ℕ) (rule : RuleFacts)
     → IsOpen a b rules pieces piece first last → slice_get rules place ≡ Some rule → TakesRegion piece.region rule
     → low ≤ first → low ≤ place → last ≤ high → place ≤ high → IsSearch a b rules pieces low high
 piece_taken a b rules pieces piece first last place low high rule search at takes lower here upper there = record {
@@ -177,7 +177,7 @@ beside_next rules region low high rule before at beside k other from below there
           λ matches. beside tuple packet is (subst (λ (r : RuleFacts). Matches r tuple) (sym it) matches)
     ]
 
-inside_piece : (a b : RuleFacts) (rules : List RuleFacts) (piece : Piece) (place : ℕ) (rule : RuleFacts) (outside inside : Region) → IsPiece a b rules piece
+inside_piece : (a b : RuleFacts) (rules : List RuleFacts) (piece : PacketSet) (place : ℕ) (rule : RuleFacts) (outside inside : Region) → IsPiece a b rules piece
     → AreBeside rules piece.region piece.place place → slice_get rules place ≡ Some rule → IsCutBy piece.region rule outside inside
     → IsPiece a b rules (record { region = inside; place = place })
 inside_piece a b rules piece place rule outside inside here beside at cut = record {
@@ -187,7 +187,7 @@ inside_piece a b rules piece place rule outside inside here beside at cut = reco
   beside = beside_more rules piece.region inside piece.place place here.beside beside cut.rest;
 }
 
-outside_piece : (a b : RuleFacts) (rules : List RuleFacts) (piece : Piece) (place : ℕ) (rule : RuleFacts) (outside inside : Region) → IsPiece a b rules piece
+outside_piece : (a b : RuleFacts) (rules : List RuleFacts) (piece : PacketSet) (place : ℕ) (rule : RuleFacts) (outside inside : Region) → IsPiece a b rules piece
     → AreBeside rules piece.region piece.place place → slice_get rules place ≡ Some rule → IsCutBy piece.region rule outside inside
     → IsPiece a b rules (record { region = outside; place = place + 1 })
 outside_piece a b rules piece place rule outside inside here beside at cut = record {
@@ -197,7 +197,7 @@ outside_piece a b rules piece place rule outside inside here beside at cut = rec
   beside = beside_next rules outside 0 place rule (beside_more rules piece.region outside piece.place place here.beside beside cut.out) at cut.apart;
 }
 
-pub piece_cut : (a b : RuleFacts) (rules : List RuleFacts) (pieces mid new : List Piece) (piece : Piece) (first last place : ℕ) (rule : RuleFacts) (outside inside : Region)
+pub piece_cut : (a b : RuleFacts) (rules : List RuleFacts) (pieces mid new : List PacketSet) (piece : PacketSet) (first last place : ℕ) (rule : RuleFacts) (outside inside : Region)
     → IsOpen a b rules pieces piece first last → AreBeside rules piece.region piece.place place → slice_get rules place ≡ Some rule
     → IsCutBy piece.region rule outside inside → mid ≡ pieces ++ record { region = inside; place = place } ∷ []
     → new ≡ mid ++ record { region = outside; place = place + 1 } ∷ [] → IsSearch a b rules new first last
@@ -211,19 +211,19 @@ piece_cut a b rules pieces mid new piece first last place rule outside inside se
       every = λ tuple packet left right. elim (search.every tuple packet left right) [
         | inl taken ↦ inl taken
         | inr some ↦
-            let in_mid = λ (is : IsInSome mid tuple). subst (λ (ps : List Piece). IsInSome ps tuple) (sym two) (in_left mid _ tuple is) in
+            let in_mid = λ (is : IsInSome mid tuple). subst (λ (ps : List PacketSet). IsInSome ps tuple) (sym two) (in_left mid _ tuple is) in
             elim some [
-              | inl before ↦ inr (in_mid (subst (λ (ps : List Piece). IsInSome ps tuple) (sym one) (in_left pieces _ tuple before)))
+              | inl before ↦ inr (in_mid (subst (λ (ps : List PacketSet). IsInSome ps tuple) (sym one) (in_left pieces _ tuple before)))
               | inr it ↦ elim (cut.splits tuple it) [
-                | inl out ↦ inr (subst (λ (ps : List Piece). IsInSome ps tuple) (sym two) (in_right mid _ tuple (inl out)))
-                | inr rest ↦ inr (in_mid (subst (λ (ps : List Piece). IsInSome ps tuple) (sym one) (in_right pieces _ tuple (inl rest))))
+                | inl out ↦ inr (subst (λ (ps : List PacketSet). IsInSome ps tuple) (sym two) (in_right mid _ tuple (inl out)))
+                | inr rest ↦ inr (in_mid (subst (λ (ps : List PacketSet). IsInSome ps tuple) (sym one) (in_right pieces _ tuple (inl rest))))
               ]
             ]
       ];
     }
 
 -- no rule is left for the piece
-pub piece_free : (a b : RuleFacts) (rules : List RuleFacts) (piece : Piece) (place : ℕ) → IsPiece a b rules piece
+pub piece_free : (a b : RuleFacts) (rules : List RuleFacts) (piece : PacketSet) (place : ℕ) → IsPiece a b rules piece
     → AreBeside rules piece.region piece.place place → place ≡ length rules → (tuple : TupleFacts) → IsPacket tuple → IsInRegion piece.region tuple
     → IsLeft a b rules tuple
 piece_free a b rules piece place here beside end tuple packet is = record {
@@ -254,13 +254,13 @@ parting_at rules region place rule Whole at is not = (rule, at, is)
 parting_at rules region place rule (Cut outside inside) at is not = (rule, at, is)
 
 -- what a meeting says, by what the rule does
-pub met_apart : (rules : List RuleFacts) (piece : Piece) (met : Meeting) → IsMeeting rules piece met → met.parting ≡ Apart → met.place ≡ length rules
+pub met_apart : (rules : List RuleFacts) (piece : PacketSet) (met : Meeting) → IsMeeting rules piece met → met.parting ≡ Apart → met.place ≡ length rules
 met_apart rules piece met is same = subst (λ (p : Parting). IsPartingAt rules piece.region met.place p) same is.parts
 
-pub met_whole : (rules : List RuleFacts) (piece : Piece) (met : Meeting) → IsMeeting rules piece met → met.parting ≡ Whole
+pub met_whole : (rules : List RuleFacts) (piece : PacketSet) (met : Meeting) → IsMeeting rules piece met → met.parting ≡ Whole
     → (rule : RuleFacts) × (slice_get rules met.place ≡ Some rule) × TakesRegion piece.region rule
 met_whole rules piece met is same = subst (λ (p : Parting). IsPartingAt rules piece.region met.place p) same is.parts
 
-pub met_cut : (rules : List RuleFacts) (piece : Piece) (met : Meeting) (outside inside : Region) → IsMeeting rules piece met → met.parting ≡ Cut outside inside
+pub met_cut : (rules : List RuleFacts) (piece : PacketSet) (met : Meeting) (outside inside : Region) → IsMeeting rules piece met → met.parting ≡ Cut outside inside
     → (rule : RuleFacts) × (slice_get rules met.place ≡ Some rule) × IsCutBy piece.region rule outside inside
 met_cut rules piece met outside inside is same = subst (λ (p : Parting). IsPartingAt rules piece.region met.place p) same is.parts

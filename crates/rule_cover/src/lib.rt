@@ -5,7 +5,7 @@ mod answer;
 mod flag_cuts;
 mod numbers_of_rule;
 mod packet_in_region;
-mod piece;
+mod packet_set;
 mod piece_meeting;
 mod region;
 mod region_cuts;

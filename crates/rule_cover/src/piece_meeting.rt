@@ -3,7 +3,7 @@ ghost use Rattle.std.specs.Prelude.{◌≤◌, length, map};
 ghost use Rattle.acl_policy.specs.Rules.{rule_facts};
 ghost use Rattle.rule_cover.specs.inner.Pieces.{IsMeeting, IsParting};
 
-use crate::piece::{Meeting, Parting, Piece};
+use crate::packet_set::{Meeting, PacketSet, Parting};
 use crate::region::Region;
 use crate::region_cuts::{cut, is_apart};
 use crate::region_of_rule::region_of;
@@ -24,7 +24,7 @@ fn part_by(region: &Region, rule: &Rule) -> Parting
 }
 
 /// The first rule from the piece's place on that may match packets of it.
-pub fn first_meeting(piece: &Piece, rules: &[Rule]) -> Meeting
+pub fn first_meeting(piece: &PacketSet, rules: &[Rule]) -> Meeting
     requires { piece.now.place ≤ length rules.now }
     ensures { IsMeeting (map rule_facts rules.now) piece.now result }
 {

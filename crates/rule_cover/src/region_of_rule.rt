@@ -4,7 +4,7 @@ ghost use Rattle.packet_view.specs.Addresses.{address_limit};
 ghost use Rattle.packet_view.specs.Tuples.{TupleFacts};
 ghost use Rattle.acl_policy.specs.Matching.{HoldsPrefix, IsIn, Matches};
 ghost use Rattle.acl_policy.specs.Rules.{rule_facts};
-ghost use Rattle.policy_words.specs.Widths.{width};
+ghost use Rattle.acl_policy.specs.Widths.{width};
 ghost use Rattle.rule_cover.specs.Covers.{IsPacket};
 ghost use Rattle.rule_cover.specs.inner.Regions.{IsInRegion, shown_of};
 

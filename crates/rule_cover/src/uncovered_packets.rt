@@ -7,7 +7,7 @@ ghost use Rattle.rule_cover.specs.inner.Pieces.{AddsShown, AreFirst};
 
 use crate::answer::Cover;
 use crate::packet_in_region::packet_in;
-use crate::piece::{Parting, Piece};
+use crate::packet_set::{PacketSet, Parting};
 use crate::piece_meeting::first_meeting;
 use crate::region::Shown;
 use crate::region_cuts::{both, is_apart};
@@ -16,7 +16,12 @@ use acl_policy::Rule;
 use std::alloc::{AllocError, Global};
 
 // Adds the packets that show this and that both rules match, whose uncovered ones are looked for.
-fn add_shown(left: &mut Vec<Piece>, one: &Rule, two: &Rule, shown: Shown) -> Result<(), AllocError>
+fn add_shown(
+    left: &mut Vec<PacketSet>,
+    one: &Rule,
+    two: &Rule,
+    shown: Shown,
+) -> Result<(), AllocError>
     ensures { OnOk result (AddsShown (rule_facts one.now) (rule_facts two.now) shown left.old.items left.new.items) }
 {
     let first = region_of(one, shown);
@@ -24,7 +29,7 @@ fn add_shown(left: &mut Vec<Piece>, one: &Rule, two: &Rule, shown: Shown) -> Res
     if is_apart(&first, &second) {
         return Ok(());
     }
-    left.push(Piece {
+    left.push(PacketSet {
         region: both(&first, &second),
         place: 0,
     })?;
@@ -32,7 +37,7 @@ fn add_shown(left: &mut Vec<Piece>, one: &Rule, two: &Rule, shown: Shown) -> Res
 }
 
 // All packets that both rules match, whose uncovered ones are looked for: those with ports first, which stand last.
-fn all_packets(alloc: Global, one: &Rule, two: &Rule) -> Result<Vec<Piece>, AllocError>
+fn all_packets(alloc: Global, one: &Rule, two: &Rule) -> Result<Vec<PacketSet>, AllocError>
     ensures { IfOk result (λ left. AreFirst (rule_facts one.now) (rule_facts two.now) left.items) }
 {
     let mut left = Vec::new(alloc);
@@ -80,11 +85,11 @@ pub fn uncovered(
                 continue;
             }
             Parting::Cut(outside, inside) => {
-                left.push(Piece {
+                left.push(PacketSet {
                     region: inside,
                     place: met.place,
                 })?;
-                left.push(Piece {
+                left.push(PacketSet {
                     region: outside,
                     place: met.place + 1,
                 })?;

@@ -12,7 +12,7 @@ use Rattle.rule_index.specs.Dimensions.{Span}
 use Rattle.rule_index.specs.Indexes.{Sieves}
 use Rattle.acl_policy.specs.Rules.{RuleFacts}
 use Rattle.std.specs.Prelude.{slice_get, Some}
-use Rattle.policy_words.proofs.OptionLemmas.{same_some}
+use Rattle.acl_policy.proofs.OptionLemmas.{same_some}
 use Rattle.std.proofs.lemmas.Nat.{mul-le}
 use Rattle.std.proofs.lemmas.Nat.Bits.{bit_at_set_same, bit_at_set_other}
 use Rattle.std.specs.Prelude.{bit_or, slice_set}

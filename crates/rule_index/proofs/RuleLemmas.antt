@@ -9,7 +9,7 @@ use Rattle.packet_view.specs.Tuples.{TupleFacts}
 use Rattle.acl_policy.specs.declared.rule.Rule.{Rule}
 use Rattle.acl_policy.specs.Rules.{RuleFacts, rule_facts}
 use Rattle.acl_policy.proofs.RulingLemmas.{slice_get-rule_facts}
-use Rattle.policy_words.proofs.OptionLemmas.{same_some}
+use Rattle.acl_policy.proofs.OptionLemmas.{same_some}
 
 -- the facts read at a place are those of the rule there
 pub facts_there : (rules : List Rule) (i k : ℕ) (item : Rule) (rule : RuleFacts) → slice_get rules i ≡ Some item → k ≡ i

@@ -4,7 +4,7 @@ ghost use Rattle.rule_index.specs.Dimensions.{port_range, protocol_base, protoco
 ghost use Rattle.acl_policy.specs.Matching.{HoldsPrefix};
 ghost use Rattle.rule_index.specs.Rows.{IsWithin};
 ghost use Rattle.acl_policy.specs.Rules.{rule_facts};
-ghost use Rattle.policy_words.specs.Widths.{width};
+ghost use Rattle.acl_policy.specs.Widths.{width};
 
 use crate::dimension::Dimension;
 use acl_policy::{Rule, width_of};

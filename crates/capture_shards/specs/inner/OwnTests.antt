@@ -8,8 +8,8 @@ use Rattle.session_state.specs.declared.flow.Flow.{Flow}
 use Rattle.session_state.specs.declared.flow.FlowKey.{FlowKey}
 use Rattle.session_state.specs.declared.flow.FlowKey.TheVariants.{Four, Six}
 use Rattle.flow_filter.specs.Updates.{words_of}
-use Rattle.packet_dealing.specs.Dealings.{flow_of_frame}
-use Rattle.packet_dealing.specs.declared.hashed_flow.HashedFlow.{HashedFlow}
+use Rattle.flow_dealing.specs.Dealings.{flow_of_frame}
+use Rattle.flow_dealing.specs.declared.hashed_flow.HashedFlow.{HashedFlow}
 use Rattle.capture_shards.specs.Shards.{Own}
 use Rattle.capture_shards.specs.declared.shard.Shard.{Shard}
 

@@ -14,12 +14,12 @@ use Rattle.racl_io.specs.declared.fault.Fault.{Fault}
 use Rattle.racl_io.specs.declared.fault.Fault.TheVariants.{LongRecord, Memory, Short, Write}
 use Rattle.racl_io.specs.declared.totals_and_truncation.Captured.{Captured}
 use Rattle.capture_stream.specs.Arrivals.{part_in}
-use Rattle.capture_stream.specs.ComingCaptures.{HasLongRecordAt, HasWrongHeader}
+use Rattle.capture_stream.specs.ComingCaptures.{HasLongRecord, HasWrongHeader}
 use Rattle.capture_stream.specs.Feeding.{rest_in}
 use Rattle.capture_stream.specs.Found.{HaveFound}
 use Rattle.capture_stream.specs.Histories.{AreRight, Follows}
 use Rattle.capture_stream.specs.Lives.{most_live}
-use Rattle.capture_stream.specs.Turns.{AreHeaded, AreTurns, HasCaptureEnded, HaveCome, Turn, cuts_of, packets_of}
+use Rattle.capture_stream.specs.Turns.{AreTurns, AreTurnsToLong, HasCaptureEnded, HaveCome, HaveComeToLong, Turn, cuts_of, packets_of}
 use Rattle.capture_stream.specs.inner.Lanes.{AreLanes, IsHeadFault, IsLane, IsShort}
 use Rattle.capture_stream.specs.declared.arrival.Arrival.{Arrival}
 use Rattle.capture_stream.specs.declared.arrival.FaultAt.{FaultAt}
@@ -127,7 +127,7 @@ pub record HasCutMore {J : Type 0} (Became : J → List PacketFacts → List Ver
     (wording : Wording) (arrival : Arrival) (bytes : List ℕ) (records : List RecordFacts) (live : Live J) (old new : Option (List ℕ)) : Type 0 where
   pub more : List RecordFacts
   pub verdicts : List Verdict
-  pub come : HaveCome (bytes ++ arrival.bytes.items) (records ++ more)
+  pub come : HaveCome (bytes ++ arrival.bytes.items) (records ++ more) ⊎ HaveComeToLong (bytes ++ arrival.bytes.items) (records ++ more)
   pub right : AreRight Became Judged live.engine.judges (packets_at arrival.interface more) verdicts
   pub front : GotFront old new (lines_after wording arrival live more verdicts)
 
@@ -136,10 +136,7 @@ pub record HasLongMore {J : Type 0} (Became : J → List PacketFacts → List Ve
     (wording : Wording) (arrival : Arrival) (bytes : List ℕ) (records : List RecordFacts) (live : Live J) (old new : Option (List ℕ)) (fault : Fault) : Type 0 where
   pub more : List RecordFacts
   pub verdicts : List Verdict
-  pub order : Order
-  pub rest : List ℕ
-  pub are : AreHeaded order (bytes ++ arrival.bytes.items) (records ++ more) rest
-  pub long : IsTooLong order rest
+  pub long : HaveComeToLong (bytes ++ arrival.bytes.items) (records ++ more)
   pub right : AreRight Became Judged live.engine.judges (packets_at arrival.interface more) verdicts
   pub text : Appends old new (lines_after wording arrival live more verdicts)
   pub same : fault ≡ LongRecord (length (records ++ more) + 1)
@@ -179,9 +176,9 @@ pub record IsComing {J : Type 0} (Became : J → List PacketFacts → List Verdi
   pub cuts : coming.cuts.items ≡ cuts_of turns
 
 -- of these turns all is told
-pub record AreTold {J : Type 0} (Judged : J → List PacketFacts → List Verdict → Type 0) (wording : Wording) (begun : J) (old now : Option (List ℕ))
-    (turns : List Turn) : Type 0 where
-  pub are : AreTurns turns
+pub record AreTold {J : Type 0} (Are : List Turn → Type 0) (Judged : J → List PacketFacts → List Verdict → Type 0) (wording : Wording) (begun : J)
+    (old now : Option (List ℕ)) (turns : List Turn) : Type 0 where
+  pub are : Are turns
   pub verdicts : List Verdict
   pub judged : packets_of turns ≢ [] → Judged begun (packets_of turns) verdicts
   pub count : length verdicts ≡ length (packets_of turns)
@@ -190,7 +187,7 @@ pub record AreTold {J : Type 0} (Judged : J → List PacketFacts → List Verdic
 -- and a front of it was written
 pub record AreCutTold {J : Type 0} (Judged : J → List PacketFacts → List Verdict → Type 0) (wording : Wording) (begun : J) (old now : Option (List ℕ))
     (turns : List Turn) : Type 0 where
-  pub are : AreTurns turns
+  pub are : AreTurns turns ⊎ AreTurnsToLong turns
   pub verdicts : List Verdict
   pub judged : Judged begun (packets_of turns) verdicts
   pub count : length verdicts ≡ length (packets_of turns)
@@ -211,8 +208,8 @@ abbrev pub IsPartFault : {J : Type 0} → (J → List PacketFacts → List Verdi
     → Fault → Type 0
 IsPartFault Judged wording arrival begun old now turns fault =
     let found : FaultAt = record { fault = fault; interface = Some arrival.interface } in
-    ((fault ≡ Memory) × AreTold Judged wording begun old now turns)
-    ⊎ (AreTold Judged wording begun old now turns × HasWrongHeader turns (part_in arrival) found)
-    ⊎ ((records : List RecordFacts) × AreTold Judged wording begun old now (turn_of arrival records [] ∷ turns)
-    × HasLongRecordAt (turn_of arrival records [] ∷ turns) found)
+    ((fault ≡ Memory) × AreTold AreTurns Judged wording begun old now turns)
+    ⊎ (AreTold AreTurns Judged wording begun old now turns × HasWrongHeader turns (part_in arrival) found)
+    ⊎ ((records : List RecordFacts) × AreTold AreTurnsToLong Judged wording begun old now (turn_of arrival records [] ∷ turns)
+    × HasLongRecord (turn_of arrival records [] ∷ turns) found)
     ⊎ ((fault ≡ Write) × (records : List RecordFacts) × AreCutTold Judged wording begun old now (turn_of arrival records [] ∷ turns))

@@ -1,7 +1,9 @@
 //! Captures byte by byte, with the packets that the format gives them, of which `tests/rows/captures.txt` has more.
 use super::filter_test_refused;
 use super::frames::UDP;
-use packet_view::{Order, Packet, Packets, Piece, Stop, front_records, next_record, read_capture};
+use packet_view::{
+    NextRecord, Order, Packet, Packets, Stop, front_records, next_record, read_capture,
+};
 use std::test::Fail;
 
 /// A header and three records of 42 bytes, little-endian, with microseconds.
@@ -33,7 +35,7 @@ const BIG: [u8; 82] = [
 /// The first record behind a capture's header, and the bytes after it.
 #[test]
 fn finds_the_next_record(rt: HostRuntime) {
-    let Piece::Whole {
+    let NextRecord::Whole {
         moment,
         micros,
         frame,

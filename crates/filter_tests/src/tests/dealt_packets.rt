@@ -1,6 +1,6 @@
 //! Packets whose workers were worked out by hand.
 use bihash_words::{ShapeV4, ShapeV6, flow_shapes_are_sound};
-use packet_dealing::{Dealer, Dealing, see_other, see_plain, worker_of_packet};
+use flow_dealing::{Dealer, Dealing, see_other, see_plain, worker_of_packet};
 use packet_view::Packet;
 
 // Who has 10.0.0.2?

@@ -184,16 +184,16 @@ fn verdicts_on_parts<R: Threads + Wait + Sync, G: Gate + Sync>(
         many: 0,
         ages: false,
     };
-    let Ok(mut begun) = Workers::new(alloc, setup, callers) else {
+    let Ok(mut workers) = Workers::new(alloc, setup, callers) else {
         return Err(RunFault::Memory);
     };
-    let Ok(mut verdicts) = begun.judge_on(alloc, Packets::Slice(first)) else {
+    let Ok(mut verdicts) = workers.judge_on(alloc, Packets::Slice(first)) else {
         return Err(RunFault::Memory);
     };
-    let Ok(twice) = begun.judge(alloc, Packets::Slice(second)) else {
+    let Ok(()) = workers.judge(alloc, Packets::Slice(second)) else {
         return Err(RunFault::Memory);
     };
-    let Ok((last, callers)) = twice.end(alloc) else {
+    let Ok((last, callers)) = workers.end(alloc) else {
         return Err(RunFault::Memory);
     };
     let Ok(()) = verdicts.extend_from_slice(&last) else {

@@ -10,17 +10,16 @@ use Rattle.flow_filter.specs.Readings.{IsSeenAt}
 use Rattle.flow_filter.specs.InterfaceFilters.{IsReadyAt}
 use Rattle.flow_filter.specs.declared.interface_filters.InterfaceFilter.{InterfaceFilter}
 use Rattle.session_state.specs.declared.verdict.Verdict.{Verdict}
-use Rattle.packet_dealing.specs.Dealings.{flow_of_frame, worker_of}
+use Rattle.flow_dealing.specs.Dealings.{flow_of_frame, worker_of}
 use Rattle.flow_dealing.specs.Views.{Views}
-use Rattle.packet_dealing.specs.HashedFlows.{IsHashed}
-use Rattle.packet_dealing.specs.Dealt.{AreDealt, IsDealtChunk, IsDealtTo, IsFoundOf, IsOtherOf, IsSightingOf, deal_of, place_of}
-use Rattle.packet_dealing.specs.declared.packet_worker.Dealer.{Dealer}
-use Rattle.packet_dealing.specs.declared.plain_sighting.PlainSighting.{PlainSighting}
-use Rattle.packet_dealing.specs.declared.other_sighting.OtherSighting.{OtherSighting}
-use Rattle.packet_dealing.specs.declared.dealt_chunk.DealtPacket.{DealtPacket}
-use Rattle.packet_dealing.specs.declared.dealt_chunk.DealtChunk.{DealtChunk}
+use Rattle.flow_dealing.specs.HashedFlows.{IsHashed}
+use Rattle.flow_dealing.specs.Dealt.{AreDealt, IsDealtChunk, IsDealtTo, IsOtherOf, IsSightingOf, deal_of}
+use Rattle.flow_dealing.specs.declared.dealer.Dealer.{Dealer}
+use Rattle.flow_dealing.specs.declared.plain_sighting.PlainSighting.{PlainSighting}
+use Rattle.flow_dealing.specs.declared.other_sighting.OtherSighting.{OtherSighting}
+use Rattle.flow_dealing.specs.declared.dealt_chunk.DealtChunk.{DealtChunk}
 use Rattle.flow_workers.specs.declared.worker_setup.Setup.{Setup}
-use Rattle.flow_workers.specs.declared.worker_share.Job.{Job}
+use Rattle.flow_workers.specs.declared.worker_share.WorkerJob.{WorkerJob}
 use Rattle.flow_workers.specs.declared.worker_share.Batch.{Batch}
 use Rattle.flow_workers.specs.declared.worker_share.Share.{Share}
 use Rattle.flow_workers.specs.declared.viewed_packet.ViewedPacket.{ViewedPacket}
@@ -59,7 +58,7 @@ AreDealtFrom ga gb batch first chunks =
     AreDealt ga gb (dealer_of batch.setup) (batch.first + first) chunks (drop first (remaining batch.packets))
 
 pub record CanWork {A B R G K L : Type 0} (ga : Ghosts A K) (gb : Ghosts B L)
-    (job : Job A B R G K L ga gb) : Type 0 where
+    (job : WorkerJob A B R G K L ga gb) : Type 0 where
   pub shapes : AreShapes ga gb
   pub few : job.worker < job.batch.setup.workers
   pub fits : job.batch.first + length (remaining job.batch.packets) < 2 ^ 64
@@ -89,13 +88,6 @@ pub record MayJudgeOther {A B R G K L : Type 0} (ga : Ghosts A K) (gb : Ghosts B
   pub packet : PacketFacts
   pub is : IsOtherOf (layout_of ga gb) packet seen
   pub may : MayJudgePacket ga gb batch worker at packet share
-
--- it is one of which this was found when it was dealt, beside these others, in a chunk that begins at this place
-pub record MayJudgeFound {A B R G K L : Type 0} (ga : Ghosts A K) (gb : Ghosts B L) (batch : Batch A B R G K L)
-    (worker first : ℕ) (others : List PacketFacts) (found : DealtPacket) (share : Share A B K L ga gb) : Type 0 where
-  pub packet : PacketFacts
-  pub is : IsFoundOf (layout_of ga gb) others packet found
-  pub may : MayJudgePacket ga gb batch worker (first + place_of found) packet share
 
 -- the packet at this place of the batch was viewed so, by the filter at its interface, and its frame is nothing else
 pub record IsViewedAt {A B R G K L : Type 0} (batch : Batch A B R G K L) (at : ℕ) (filter : InterfaceFilter)
@@ -160,6 +152,6 @@ abbrev pub HasWorked : {A B R G K L : Type 0} (ga : Ghosts A K) (gb : Ghosts B L
 HasWorked ga gb batch worker = HasWorkedOn ga gb batch worker 0 (length (remaining batch.packets))
 
 -- the job was done
-abbrev pub IsShareOf : {A B R G K L : Type 0} (ga : Ghosts A K) (gb : Ghosts B L) → Job A B R G K L ga gb
+abbrev pub IsShareOf : {A B R G K L : Type 0} (ga : Ghosts A K) (gb : Ghosts B L) → WorkerJob A B R G K L ga gb
     → Share A B K L ga gb → Type 0
 IsShareOf ga gb job = HasWorked ga gb job.batch job.worker job.share

@@ -8,7 +8,7 @@ use Rattle.packet_view.specs.Frames as frames
 use Rattle.bihash_words.specs.declared.shape.Shape.{Ghosts}
 use Rattle.flow_filter.specs.Readings.{IsSeen}
 use Rattle.session_state.specs.declared.verdict.Verdict.{Verdict}
-use Rattle.packet_dealing.specs.Dealings.{flow_of_frame, worker_of}
+use Rattle.flow_dealing.specs.Dealings.{flow_of_frame, worker_of}
 use Rattle.flow_dealing.specs.Traces.{ArePlaced, AreTraces, AreFrames, Item, numbers_from}
 use Rattle.flow_workers.specs.declared.verdict_merge.VerdictMerge.{VerdictMerge}
 use Rattle.flow_workers.specs.declared.worker_share.Share.{Share}

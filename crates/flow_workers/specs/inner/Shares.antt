@@ -1,7 +1,7 @@
 -- The shares of workers that judged nothing, and the workers of packets in chunks.
 use Rattle.std.specs.Prelude.{◌≡◌, ◌≤◌, ◌<◌, ◌++◌, ℕ, List, [], ◌∷◌, length, slice_index_or}
 use Rattle.bihash_words.specs.declared.shape.Shape.{Ghosts}
-use Rattle.packet_dealing.specs.declared.dealt_chunk.DealtChunk.{DealtChunk}
+use Rattle.flow_dealing.specs.declared.dealt_chunk.DealtChunk.{DealtChunk}
 use Rattle.flow_workers.specs.declared.worker_share.Share.{Share}
 use Rattle.flow_workers.specs.declared.session_tables.Callers.{Callers}
 use Rattle.flow_workers.specs.declared.session_tables.Tables.{Tables}

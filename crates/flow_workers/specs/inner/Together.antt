@@ -3,10 +3,9 @@ use Rattle.std.specs.Prelude.{◌≡◌, ◌≤◌, ◌<◌, ◌+◌, ◌++◌, 
 use Rattle.packet_view.specs.Captures.{PacketFacts}
 use Rattle.packet_view.specs.CheckedCaptures.{remaining}
 use Rattle.bihash_words.specs.declared.shape.Shape.{Ghosts}
-use Rattle.packet_dealing.specs.Dealt.{AreWorkers, IsDealtTo}
-use Rattle.packet_dealing.specs.declared.packet_worker.Dealer.{Dealer}
+use Rattle.flow_dealing.specs.Dealt.{AreWorkers, IsDealtTo}
+use Rattle.flow_dealing.specs.declared.dealer.Dealer.{Dealer}
 use Rattle.flow_workers.specs.declared.worker_share.Batch.{Batch}
-use Rattle.flow_workers.specs.declared.worker_share.JudgedBatch.{JudgedBatch}
 use Rattle.flow_workers.specs.declared.worker_share.Share.{Share}
 use Rattle.flow_workers.specs.Callers.{AreIdle, AreShapes}
 use Rattle.flow_workers.specs.inner.Jobs.{dealer_of}
@@ -51,9 +50,8 @@ pub record MayJudgeByOne {A B R G K L : Type 0} (ga : Ghosts A K) (gb : Ghosts B
   pub idle : AreIdle ga gb batch.setup.tables.now share.callers
   pub fits : batch.first + length (remaining batch.packets) < 2 ^ 64
 
--- the packets of the batch were judged, and, if there are several workers, the worker of each was noted
+-- the packets of the batch were judged, and the worker of each was noted
 pub record HaveJudgedBatch {A B R G K L : Type 0} {ga : Ghosts A K} {gb : Ghosts B L} (batch : Batch A B R G K L)
-    (old : List (Share A B K L ga gb)) (judged : JudgedBatch A B K L ga gb) : Type 0 where
-  pub worked : HaveWorked batch old judged.shares.items
-  pub noted : 1 < batch.setup.workers
-      → HaveNoted ga gb (dealer_of batch.setup) batch.first (remaining batch.packets) [] judged.judges.items
+    (old new : List (Share A B K L ga gb)) (judges : List ℕ) : Type 0 where
+  pub worked : HaveWorked batch old new
+  pub noted : HaveNoted ga gb (dealer_of batch.setup) batch.first (remaining batch.packets) [] judges

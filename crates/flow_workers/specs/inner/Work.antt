@@ -11,7 +11,7 @@ use Rattle.session_state.specs.declared.timeouts.Timeouts.{Timeouts}
 use Rattle.session_state.specs.declared.verdict.Verdict.{Verdict}
 use Rattle.flow_filter.specs.Judged.{verdict_on}
 use Rattle.flow_dealing.specs.Views.{Views}
-use Rattle.packet_dealing.specs.Dealings.{Deal}
+use Rattle.flow_dealing.specs.Dealings.{Deal}
 use Rattle.flow_dealing.specs.Traces.{AreFrames, IsItem, IsItemOf, Item, judged_of, numbers_from}
 use Rattle.flow_dealing.specs.AgeingTraces.{AreDeeds, AreInOrder, Deed, IsRemovalOf, aged_in, calls_by, items_in}
 use Rattle.flow_workers.specs.inner.Wanted.{KeepWanted}

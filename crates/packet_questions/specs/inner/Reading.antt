@@ -7,10 +7,10 @@ use Rattle.packet_view.specs.declared.tuple.Direction.{Direction}
 use Rattle.packet_view.specs.declared.tuple.Family.{Family}
 use Rattle.packet_view.specs.declared.tuple.Fields.{Fields}
 use Rattle.packet_view.specs.declared.tuple.Fields.TheVariants.{Absent, Icmp, Ports, Tcp}
-use Rattle.policy_words.specs.inner.Reading.{if_last, next_in, ◌>>=◌}
-use Rattle.policy_words.specs.inner.Reading.Numerals.{numeral_in, octet_in, pair_in}
-use Rattle.policy_words.specs.inner.Reading.Prefixes.{address_in}
-use Rattle.policy_words.specs.inner.Reading.Traffic.{after_in, number_up_to_in, protocol_in}
+use Rattle.acl_policy.specs.inner.WordReading.{if_last, next_in, ◌>>=◌}
+use Rattle.acl_policy.specs.inner.WordReading.Numerals.{numeral_in, octet_in, pair_in}
+use Rattle.acl_policy.specs.inner.WordReading.Prefixes.{address_in}
+use Rattle.acl_policy.specs.inner.WordReading.Traffic.{after_in, number_up_to_in, protocol_in}
 use Rattle.acl_policy.specs.inner.Reading.Lines.{direction_in}
 use Rattle.packet_questions.specs.Questions.{QuestionFacts, family_of, same_family}
 

@@ -2,7 +2,7 @@
 use acl_policy::read_policy;
 use packet_view::{Packet, Packets};
 use racl_io::{Captured, Device};
-use racl_views::{Run, View, write_explained, write_objects};
+use racl_views::{Run, TextOrJson, write_explained, write_objects};
 use session_state::{Shown, Verdict};
 use std::alloc::Global;
 use std::test::Fail;
@@ -123,7 +123,7 @@ const ROWS: [(u8, &[u8], Verdict, &str, &str); 7] = [
 // For tests of explained packets: what is told, as text or as JSON, of this packet as the only one of a capture.
 fn told(
     alloc: Global,
-    view: View,
+    view: TextOrJson,
     interface: u8,
     frame: &[u8],
     verdict: Verdict,
@@ -150,8 +150,8 @@ fn told(
     };
     let mut report = Device::new(Vec::new(alloc));
     match view {
-        View::Text => write_explained(alloc, &mut report, run)?,
-        View::Json => write_objects(alloc, &mut report, run)?,
+        TextOrJson::Text => write_explained(alloc, &mut report, run)?,
+        TextOrJson::Json => write_objects(alloc, &mut report, run)?,
     };
     Ok(report.inner)
 }
@@ -160,9 +160,9 @@ fn told(
 #[test]
 fn packets_and_the_rules_that_decided_them(rt: HostRuntime) -> Result<(), Fail> {
     for (interface, frame, verdict, explained, object) in ROWS {
-        let text = told(rt.alloc(), View::Text, interface, frame, verdict)?;
+        let text = told(rt.alloc(), TextOrJson::Text, interface, frame, verdict)?;
         assert!(rt; text.as_slice() == explained.as_bytes());
-        let text = told(rt.alloc(), View::Json, interface, frame, verdict)?;
+        let text = told(rt.alloc(), TextOrJson::Json, interface, frame, verdict)?;
         assert!(rt; text.as_slice() == object.as_bytes());
     }
     Ok(())

@@ -2,7 +2,7 @@
 use acl_policy::{Policy, read_policy};
 use packet_view::{Direction, Packets};
 use racl_views::{
-    CaptureBytes, RuleLine, RuleName, Run, StoredPairs, View, hits_text, numbered_rules,
+    CaptureBytes, RuleLine, RuleName, Run, StoredPairs, TextOrJson, hits_text, numbered_rules,
     packets_in, sessions_text,
 };
 use session_state::{Shown, Timeouts, Verdict};
@@ -52,10 +52,10 @@ const SHORTER_TIMES: Timeouts = Timeouts {
 };
 
 // What is told of the rules and the packets.
-const HITS: [(Timeouts, View, &str); 3] = [
+const HITS: [(Timeouts, TextOrJson, &str); 3] = [
     (
         TIMES,
-        View::Text,
+        TextOrJson::Text,
         "interface 0 out rule 1 line 2 packets 1 | out permit+reflect ipv4 any any udp # questions\n\
         interface 0 in rule 1 line 4 packets 1 | in deny ipv4 10.0.0.3 any\n\
         interface 0 out rule 2 line 5 packets 0 | out deny ipv4 any any\n\
@@ -65,7 +65,7 @@ const HITS: [(Timeouts, View, &str); 3] = [
     ),
     (
         SHORT_TIMES,
-        View::Json,
+        TextOrJson::Json,
         "{\"interface\":0,\"direction\":\"out\",\"rule\":1,\"line\":2,\"text\":\"out permit+reflect ipv4 any any udp # questions\",\"packets\":1}\n\
         {\"interface\":0,\"direction\":\"in\",\"rule\":1,\"line\":4,\"text\":\"in deny ipv4 10.0.0.3 any\",\"packets\":1}\n\
         {\"interface\":0,\"direction\":\"out\",\"rule\":2,\"line\":5,\"text\":\"out deny ipv4 any any\",\"packets\":0}\n\
@@ -77,7 +77,7 @@ const HITS: [(Timeouts, View, &str); 3] = [
     ),
     (
         SHORTER_TIMES,
-        View::Text,
+        TextOrJson::Text,
         "interface 0 out rule 1 line 2 packets 1 | out permit+reflect ipv4 any any udp # questions\n\
         interface 0 in rule 1 line 4 packets 1 | in deny ipv4 10.0.0.3 any\n\
         interface 0 out rule 2 line 5 packets 0 | out deny ipv4 any any\n\
@@ -124,7 +124,7 @@ fn hits_run<'a>(policy: &'a Policy, packets: Packets<'a>) -> Run<'a> {
 }
 
 // For tests of hits: what is told of the capture's packets, after which the session of the request is stored.
-fn hits_told(alloc: Global, times: Timeouts, view: View) -> Result<Vec<u8>, Fail> {
+fn hits_told(alloc: Global, times: Timeouts, view: TextOrJson) -> Result<Vec<u8>, Fail> {
     let mut captures = Vec::new(alloc);
     captures.push(CaptureBytes {
         interface: 0,
@@ -199,7 +199,7 @@ const OBJECTS: &str =
 #[test]
 fn sessions_that_are_stored(rt: HostRuntime) -> Result<(), Fail> {
     let stored = stored_of(rt.alloc(), &FOUR, &SIX)?;
-    for (view, told) in [(View::Text, LINES), (View::Json, OBJECTS)] {
+    for (view, told) in [(TextOrJson::Text, LINES), (TextOrJson::Json, OBJECTS)] {
         let text = sessions_text(rt.alloc(), view, TIMES, &stored)?;
         assert!(rt; text.as_slice() == told.as_bytes());
     }

@@ -1,5 +1,5 @@
 //! A whole input through the program, with devices that are slow or fail.
-use racl_cli::{Lines, Options, TableSize};
+use racl_runs::{Lines, Options, TableSize};
 use session_state::{Shown, Timeouts};
 
 mod live;

@@ -4,10 +4,10 @@ use Rattle.packet_view.specs.Tuples.{TupleFacts}
 use Rattle.acl_policy.specs.Matching.{Matches}
 use Rattle.acl_policy.specs.Rules.{RuleFacts}
 use Rattle.rule_cover.specs.Covers.{IsPacket, IsTaken}
-use Rattle.rule_cover.specs.declared.piece.Meeting.{Meeting}
-use Rattle.rule_cover.specs.declared.piece.Parting.{Parting}
-use Rattle.rule_cover.specs.declared.piece.Parting.TheVariants.{Apart, Whole, Cut}
-use Rattle.rule_cover.specs.declared.piece.Piece.{Piece}
+use Rattle.rule_cover.specs.declared.packet_set.Meeting.{Meeting}
+use Rattle.rule_cover.specs.declared.packet_set.Parting.{Parting}
+use Rattle.rule_cover.specs.declared.packet_set.Parting.TheVariants.{Apart, Whole, Cut}
+use Rattle.rule_cover.specs.declared.packet_set.PacketSet.{PacketSet}
 use Rattle.rule_cover.specs.declared.region.Region.{Region}
 use Rattle.rule_cover.specs.declared.region.Shown.{Shown}
 use Rattle.rule_cover.specs.inner.Regions.{IsInRegion, shown_of}
@@ -43,43 +43,43 @@ IsPartingAt rules region place Whole = (rule : RuleFacts) × (slice_get rules pl
 IsPartingAt rules region place (Cut outside inside) =
     (rule : RuleFacts) × (slice_get rules place ≡ Some rule) × IsCutBy region rule outside inside
 
-pub record IsMeeting (rules : List RuleFacts) (piece : Piece) (met : Meeting) : Type 0 where
+pub record IsMeeting (rules : List RuleFacts) (piece : PacketSet) (met : Meeting) : Type 0 where
   pub low : piece.place ≤ met.place
   pub high : met.place ≤ length rules
   pub beside : AreBeside rules piece.region piece.place met.place
   pub parts : IsPartingAt rules piece.region met.place met.parting
 
 -- Packets of both rules, of which no rule before the piece's place matches one.
-pub record IsPiece (a b : RuleFacts) (rules : List RuleFacts) (piece : Piece) : Type 0 where
+pub record IsPiece (a b : RuleFacts) (rules : List RuleFacts) (piece : PacketSet) : Type 0 where
   pub within : piece.place ≤ length rules
   pub one : TakesRegion piece.region a
   pub two : TakesRegion piece.region b
   pub beside : AreBeside rules piece.region 0 piece.place
 
 -- A piece that no rule was tried on.
-pub record IsWhole (a b : RuleFacts) (piece : Piece) : Type 0 where
+pub record IsWhole (a b : RuleFacts) (piece : PacketSet) : Type 0 where
   pub start : piece.place ≡ 0
   pub one : TakesRegion piece.region a
   pub two : TakesRegion piece.region b
 
 -- A packet is in one of the pieces.
-abbrev pub IsInSome : List Piece → TupleFacts → Type 0
+abbrev pub IsInSome : List PacketSet → TupleFacts → Type 0
 IsInSome [] tuple = ⊥
 IsInSome (piece ∷ pieces) tuple = IsInRegion piece.region tuple ⊎ IsInSome pieces tuple
 
 -- The pieces have all packets of both rules that show this.
-pub record AddsShown (a b : RuleFacts) (shown : Shown) (old new : List Piece) : Type 0 where
-  pub more : List Piece
+pub record AddsShown (a b : RuleFacts) (shown : Shown) (old new : List PacketSet) : Type 0 where
+  pub more : List PacketSet
   pub is : new ≡ old ++ more
   pub each : All (IsWhole a b) more
   pub every : (tuple : TupleFacts) → IsPacket tuple → Matches a tuple → Matches b tuple → shown_of tuple.fields ≡ shown → IsInSome more tuple
 
 -- The pieces have all packets of both rules.
-pub record AreFirst (a b : RuleFacts) (pieces : List Piece) : Type 0 where
+pub record AreFirst (a b : RuleFacts) (pieces : List PacketSet) : Type 0 where
   pub each : All (IsWhole a b) pieces
   pub every : (tuple : TupleFacts) → IsPacket tuple → Matches a tuple → Matches b tuple → IsInSome pieces tuple
 
 -- Each packet of both rules is matched by a rule from the first to the last place, or is in a piece.
-pub record IsSearch (a b : RuleFacts) (rules : List RuleFacts) (pieces : List Piece) (first last : ℕ) : Type 0 where
+pub record IsSearch (a b : RuleFacts) (rules : List RuleFacts) (pieces : List PacketSet) (first last : ℕ) : Type 0 where
   pub each : All (IsPiece a b rules) pieces
   pub every : (tuple : TupleFacts) → IsPacket tuple → Matches a tuple → Matches b tuple → IsTaken rules first last tuple ⊎ IsInSome pieces tuple

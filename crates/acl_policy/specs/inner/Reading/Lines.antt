@@ -10,11 +10,11 @@ use Rattle.acl_policy.specs.declared.policy_line.Line.TheVariants as read
 use Rattle.acl_policy.specs.declared.rule.Action.{Action}
 use Rattle.acl_policy.specs.declared.rule.Action.TheVariants.{Deny, Permit, Reflect}
 use Rattle.acl_policy.specs.Lines.{Begins, Blank, LineFacts, Own, Ruled}
-use Rattle.policy_words.specs.inner.Reading.{if_last, next_in, ◌>>=◌}
-use Rattle.policy_words.specs.inner.Reading.Prefixes.{mac_in, prefix_in}
-use Rattle.policy_words.specs.inner.Reading.Traffic.{number_up_to_in, traffic_in}
+use Rattle.acl_policy.specs.inner.WordReading.{if_last, next_in, ◌>>=◌}
+use Rattle.acl_policy.specs.inner.WordReading.Prefixes.{mac_in, prefix_in}
+use Rattle.acl_policy.specs.inner.WordReading.Traffic.{number_up_to_in, traffic_in}
 use Rattle.acl_policy.specs.Rules.{rule_facts}
-use Rattle.policy_words.specs.Words.{without_comment, words_of}
+use Rattle.acl_policy.specs.Words.{without_comment, words_of}
 
 -- what a line says, without what the type of a rule keeps
 abbrev pub line_facts : Line → LineFacts

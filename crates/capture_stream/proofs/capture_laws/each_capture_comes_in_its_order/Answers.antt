@@ -1,4 +1,5 @@
 use Rattle.capture_stream.proofs.ComingLemmas.{own_come, own_packets}
+use Rattle.capture_stream.proofs.EndLemmas.{own_end}
 use Rattle.capture_stream.proofs.capture_laws.each_capture_comes_in_its_order.Goals as goal
 
 pub returns-clause-whole : goal.returns-clause-whole
@@ -6,3 +7,6 @@ returns-clause-whole c = own_come
 
 pub returns-clause-own : goal.returns-clause-own
 returns-clause-own c = own_packets
+
+pub returns-clause-end : goal.returns-clause-end
+returns-clause-end c = own_end

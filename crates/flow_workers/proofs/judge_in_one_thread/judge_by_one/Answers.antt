@@ -2,7 +2,7 @@ use Rattle.std.proofs.Common.{◌≡◌, ◌∙◌, ◌+◌, arith, length, refl
 use Rattle.packet_view.specs.Captures.{packet_facts}
 use Rattle.packet_view.specs.CheckedCaptures.{remaining}
 use Rattle.packet_view.proofs.BurstLemmas.{left_behind}
-use Rattle.packet_dealing.proofs.DealtLists.{none_left, stands_at}
+use Rattle.flow_dealing.proofs.DealtLists.{none_left, stands_at}
 use Rattle.flow_workers.specs.inner.Jobs.{dealer_of}
 use Rattle.flow_workers.proofs.DealtLemmas.{worked_on, worked_to}
 use Rattle.flow_workers.proofs.TogetherLemmas.{only_dealt}

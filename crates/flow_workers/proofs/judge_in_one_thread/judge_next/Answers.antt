@@ -1,7 +1,7 @@
 use Rattle.std.proofs.Common.{◌+◌, ap, arith, refl, subst, sym}
 use Rattle.packet_view.specs.Captures.{packet_facts}
-use Rattle.packet_dealing.specs.Dealt.{HasFlow, IsDealtTo}
-use Rattle.packet_dealing.specs.declared.packet_worker.Dealer.{Dealer}
+use Rattle.flow_dealing.specs.Dealt.{HasFlow, IsDealtTo}
+use Rattle.flow_dealing.specs.declared.dealer.Dealer.{Dealer}
 use Rattle.flow_workers.specs.Callers.{AreIdle}
 use Rattle.flow_workers.proofs.DealtLemmas.{worked_on}
 use Rattle.flow_workers.proofs.TogetherLemmas.{next_worked}

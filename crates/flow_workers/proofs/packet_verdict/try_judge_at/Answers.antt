@@ -6,7 +6,7 @@ use Rattle.packet_view.proofs.FrameLemmas.{view_only}
 use Rattle.acl_policy.specs.Policies.{SectionFacts, policy_facts}
 use Rattle.flow_filter.specs.Filters.{section_in}
 use Rattle.flow_filter.specs.Readings.{IsSeenAt}
-use Rattle.packet_dealing.specs.Dealings.{flow_of_frame}
+use Rattle.flow_dealing.specs.Dealings.{flow_of_frame}
 use Rattle.flow_workers.specs.Judging.{TookByOneTry}
 use Rattle.flow_workers.specs.Verdicts.{HasNoVerdict, HasVerdict}
 use Rattle.flow_workers.specs.inner.ViewedPackets.{IsViewedBy}

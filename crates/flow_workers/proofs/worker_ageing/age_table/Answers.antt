@@ -1,4 +1,4 @@
-use Rattle.std.proofs.Common.{[], arith, refl}
+use Rattle.std.proofs.Common.{[], refl}
 use Rattle.std.proofs.lemmas.List.Elements.{All-nil}
 use Rattle.bihash_words.specs.Sizes.{sizes_of}
 use Rattle.flow_workers.specs.inner.Ageing.{IsOwn}

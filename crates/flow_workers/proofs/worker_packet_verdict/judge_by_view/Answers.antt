@@ -2,7 +2,7 @@ use Rattle.std.proofs.Common.{ap, refl, subst, sym}
 use Rattle.packet_view.specs.Captures.{packet_facts}
 use Rattle.packet_view.specs.Frames.{frame_facts}
 use Rattle.flow_filter.specs.OneThread.{layout_of}
-use Rattle.packet_dealing.specs.HashedFlows.{IsHashed}
+use Rattle.flow_dealing.specs.HashedFlows.{IsHashed}
 use Rattle.flow_workers.proofs.DealtLemmas.{may_judge_viewed}
 use Rattle.flow_workers.proofs.worker_packet_verdict.judge_by_view.Goals as goal
 

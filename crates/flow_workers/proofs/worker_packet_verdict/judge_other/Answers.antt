@@ -3,7 +3,7 @@ use Rattle.packet_view.specs.Captures.{PacketFacts, packet_facts}
 use Rattle.packet_view.specs.Frames.{frame_facts}
 use Rattle.flow_filter.specs.OneThread.{layout_of}
 use Rattle.flow_filter.specs.Readings.{IsSeenAt}
-use Rattle.packet_dealing.specs.HashedFlows.{IsHashed}
+use Rattle.flow_dealing.specs.HashedFlows.{IsHashed}
 use Rattle.flow_workers.specs.inner.Jobs.{MayJudgePacket}
 use Rattle.flow_workers.proofs.DealtLemmas.{may_judge_viewed}
 use Rattle.flow_workers.proofs.worker_packet_verdict.judge_other.Goals as goal

@@ -9,8 +9,8 @@ use Rattle.session_state.specs.declared.flow.Flow.{Flow}
 use Rattle.flow_filter.specs.InterfaceFilters.{IsReadyAt}
 use Rattle.flow_filter.specs.OneThread.{layout_of}
 use Rattle.flow_filter.specs.Readings.{IsSeenAt}
-use Rattle.packet_dealing.specs.Dealings.{hash_in}
-use Rattle.packet_dealing.specs.HashedFlows.{IsHashed}
+use Rattle.flow_dealing.specs.Dealings.{hash_in}
+use Rattle.flow_dealing.specs.HashedFlows.{IsHashed}
 use Rattle.flow_workers.specs.inner.Jobs.{policy_of}
 use Rattle.flow_workers.proofs.DealtLemmas.{may_judge_viewed}
 use Rattle.flow_workers.proofs.worker_packet_verdict.judge_sighting.Goals as goal

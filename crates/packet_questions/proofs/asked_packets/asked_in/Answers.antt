@@ -1,7 +1,7 @@
 use Rattle.std.proofs.Common.{◌≡◌, ◌∙◌, ◌+◌, ◌-◌, ◌++◌, ℕ, List, [], ◌∷◌, ap, arith, drop, length, map, rules, subst, sym, take}
 use Rattle.std.proofs.lemmas.List.{map-append}
 use Rattle.acl_policy.specs.Policies.{policy_facts}
-use Rattle.policy_words.specs.Words.{words_of}
+use Rattle.acl_policy.specs.Words.{words_of}
 use Rattle.packet_questions.specs.Answers.{AskedFacts, asked_facts, words_of_each}
 use Rattle.packet_questions.specs.Asks.{texts}
 use Rattle.packet_questions.proofs.ListLaws.{HaveCome, comes_to_end, front_text, goes_on_by, is_fault, no_text, same_length}

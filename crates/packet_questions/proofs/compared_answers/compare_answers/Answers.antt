@@ -2,7 +2,7 @@ use Rattle.std.proofs.Common.{◌≡◌, List, map, subst}
 use Rattle.std.specs.Io.KnownBytes.{Appends}
 use Rattle.acl_policy.specs.Policies.{policy_facts}
 use Rattle.session_state.specs.declared.verdict.Verdict.{Verdict}
-use Rattle.expected_verdicts.specs.Meeting.{are_met, told_of, totals_alone}
+use Rattle.compared_verdicts.specs.Meeting.{are_met, told_of, totals_alone}
 use Rattle.packet_questions.specs.Answers.{asked_facts}
 use Rattle.packet_questions.proofs.compared_answers.compare_answers.Goals as goal
 

@@ -2,7 +2,7 @@ use Rattle.std.proofs.Common.{arith, ℕ, ◌+◌, ◌*◌, ◌^◌, ◌≤◌, 
 use Rattle.std.specs.Char.{digit_value}
 use Rattle.std.proofs.lemmas.Grind.{common_steps}
 use Rattle.std.proofs.Math.Nat.{pow-le-pow_right}
-use Rattle.policy_words.proofs.NumeralBounds.{digits_value_after-drop, number-lt}
+use Rattle.acl_policy.proofs.NumeralBounds.{digits_value_after-drop, number-lt}
 use Rattle.packet_questions.proofs.word_numbers.long_numeral_of.Goals as goal
 
 -- ten digits fit 64 bits

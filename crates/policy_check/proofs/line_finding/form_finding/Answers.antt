@@ -1,5 +1,5 @@
 use Rattle.std.proofs.Common.{List, ℕ, inl, inr, subst}
-use Rattle.policy_words.specs.Words.{words_of}
+use Rattle.acl_policy.specs.Words.{words_of}
 use Rattle.policy_check.specs.Reasons.{IsWordsReason}
 use Rattle.policy_check.proofs.line_finding.form_finding.Goals as goal
 

@@ -1,6 +1,6 @@
 use Rattle.std.proofs.Common.{◌≡◌, length}
 use Rattle.std.specs.List.{list_any}
-use Rattle.policy_words.specs.Words.{words_of}
+use Rattle.acl_policy.specs.Words.{words_of}
 use Rattle.policy_check.specs.ForExpand.{is_list}
 use Rattle.policy_check.proofs.lines_for_expand.has_list.Given as goal
 

@@ -1,5 +1,5 @@
 use Rattle.std.proofs.Common.{[]}
-use Rattle.policy_words.specs.Words.{words_of}
+use Rattle.acl_policy.specs.Words.{words_of}
 use Rattle.policy_check.proofs.FormLemmas.{both_right, both_wrong}
 use Rattle.policy_check.proofs.port_and_flag_findings.after_both.Goals as goal
 

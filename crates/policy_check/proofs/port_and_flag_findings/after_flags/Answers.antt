@@ -1,7 +1,7 @@
 use Rattle.std.proofs.Common.{◌≡◌, rules, tests, [], ◌∷◌, ◌++◌, ◌∙◌, ap, List, ℕ}
 use Rattle.std.specs.Prelude.{codes}
-use Rattle.policy_words.specs.Traffic.{OfTcp}
-use Rattle.policy_words.specs.Words.{words_of}
+use Rattle.acl_policy.specs.Traffic.{OfTcp}
+use Rattle.acl_policy.specs.Words.{words_of}
 use Rattle.policy_check.specs.Reasons.{IsPartReason}
 use Rattle.policy_check.specs.declared.reason.Reason.TheVariants.{NoFlags}
 use Rattle.policy_check.proofs.FormLemmas.{flags_reason, said, two_words}

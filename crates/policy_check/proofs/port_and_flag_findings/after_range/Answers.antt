@@ -1,5 +1,5 @@
 use Rattle.std.proofs.Common.{◌≡◌, rules, tests, [], ◌∷◌, ◌++◌, List, ℕ, subst, sym}
-use Rattle.policy_words.specs.Words.{words_of}
+use Rattle.acl_policy.specs.Words.{words_of}
 use Rattle.policy_check.specs.Reasons.{HasRange, IsPartReason}
 use Rattle.policy_check.proofs.FormLemmas.{said, two_words, value_reason}
 use Rattle.policy_check.proofs.port_and_flag_findings.after_range.Goals as goal

@@ -1,5 +1,5 @@
 use Rattle.std.proofs.Common.{inl, inr}
-use Rattle.policy_words.specs.Words.{words_of}
+use Rattle.acl_policy.specs.Words.{words_of}
 use Rattle.policy_check.specs.Reasons.{IsEndReason}
 use Rattle.policy_check.proofs.FormLemmas.{end_reason, said, two_words}
 use Rattle.policy_check.proofs.prefix_findings.ends.Goals as goal

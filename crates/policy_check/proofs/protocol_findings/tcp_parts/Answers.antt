@@ -1,6 +1,6 @@
 use Rattle.std.proofs.Common.{◌++◌, refl}
-use Rattle.policy_words.specs.Traffic.{OfTcp}
-use Rattle.policy_words.specs.Words.{words_of}
+use Rattle.acl_policy.specs.Traffic.{OfTcp}
+use Rattle.acl_policy.specs.Words.{words_of}
 use Rattle.policy_check.specs.Reasons.{IsPartReason}
 use Rattle.policy_check.specs.declared.reason.Reason.TheVariants.{NoTcpPart}
 use Rattle.policy_check.proofs.FormLemmas.{both_used, left_wrong}

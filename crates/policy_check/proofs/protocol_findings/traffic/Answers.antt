@@ -1,4 +1,4 @@
-use Rattle.policy_words.specs.Words.{words_of}
+use Rattle.acl_policy.specs.Words.{words_of}
 use Rattle.policy_check.specs.Reasons.{IsTrafficReason}
 use Rattle.policy_check.specs.declared.reason.Reason.TheVariants.{NoProtocol}
 use Rattle.policy_check.proofs.FormLemmas.{said, traffic_wrong}

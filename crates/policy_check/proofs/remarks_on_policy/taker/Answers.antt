@@ -2,7 +2,7 @@ use Rattle.std.proofs.Common.{◌≡◌, ◌∙◌, ℕ, Some, map, sym, subst, 
 use Rattle.std.specs.Prelude.{slice_get}
 use borrow.Author.Count.{below_more}
 use Rattle.acl_policy.specs.Rules.{RuleFacts, rule_facts}
-use Rattle.policy_words.proofs.OptionLemmas.{same_some}
+use Rattle.acl_policy.proofs.OptionLemmas.{same_some}
 use Rattle.policy_check.specs.Remarks.{Covers, NoneCovers}
 use Rattle.policy_check.proofs.RemarkLemmas.{rule_there}
 use Rattle.policy_check.proofs.remarks_on_policy.taker.Goals as goal

@@ -1,5 +1,5 @@
 use Rattle.std.proofs.Common.{[], ◌∷◌, ◌++◌}
-use Rattle.policy_words.specs.Words.{words_of}
+use Rattle.acl_policy.specs.Words.{words_of}
 use Rattle.policy_check.proofs.WalkLemmas.{one_further}
 use Rattle.policy_check.proofs.unseen_characters.unseen.Goals as goal
 

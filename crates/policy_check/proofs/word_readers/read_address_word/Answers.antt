@@ -1,6 +1,6 @@
-use Rattle.policy_words.proofs.PrefixLaws.{address_in-complete, address_in-sound}
-use Rattle.policy_words.specs.Prefixes.{IsAddress}
-use Rattle.policy_words.specs.inner.Reading.Prefixes.{address_in}
+use Rattle.acl_policy.proofs.PrefixLaws.{address_in-complete, address_in-sound}
+use Rattle.acl_policy.specs.Prefixes.{IsAddress}
+use Rattle.acl_policy.specs.inner.WordReading.Prefixes.{address_in}
 use Rattle.policy_check.proofs.ReaderLemmas.{read_as}
 use Rattle.policy_check.proofs.word_readers.read_address_word.Goals as goal
 

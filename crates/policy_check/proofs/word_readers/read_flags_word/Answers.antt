@@ -1,6 +1,6 @@
-use Rattle.policy_words.proofs.RangeLaws.{flags_in-complete, flags_in-sound}
-use Rattle.policy_words.specs.Traffic.{IsFlags}
-use Rattle.policy_words.specs.inner.Reading.Traffic.{flags_in}
+use Rattle.acl_policy.proofs.RangeLaws.{flags_in-complete, flags_in-sound}
+use Rattle.acl_policy.specs.Traffic.{IsFlags}
+use Rattle.acl_policy.specs.inner.WordReading.Traffic.{flags_in}
 use Rattle.policy_check.proofs.ReaderLemmas.{read_as}
 use Rattle.policy_check.proofs.word_readers.read_flags_word.Goals as goal
 

@@ -1,6 +1,6 @@
-use Rattle.policy_words.proofs.PieceLaws.{mac_in-complete, mac_in-sound}
-use Rattle.policy_words.specs.Prefixes.{IsMac}
-use Rattle.policy_words.specs.inner.Reading.Prefixes.{mac_in}
+use Rattle.acl_policy.proofs.PieceLaws.{mac_in-complete, mac_in-sound}
+use Rattle.acl_policy.specs.Prefixes.{IsMac}
+use Rattle.acl_policy.specs.inner.WordReading.Prefixes.{mac_in}
 use Rattle.policy_check.proofs.ReaderLemmas.{read_as}
 use Rattle.policy_check.proofs.word_readers.read_mac_word.Goals as goal
 

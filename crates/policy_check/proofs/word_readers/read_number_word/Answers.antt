@@ -1,6 +1,6 @@
-use Rattle.policy_words.proofs.NumeralLaws.{number_in-complete, number_in-sound}
-use Rattle.policy_words.specs.Numerals.{IsNumber}
-use Rattle.policy_words.specs.inner.Reading.Numerals.{number_in}
+use Rattle.acl_policy.proofs.NumeralLaws.{number_in-complete, number_in-sound}
+use Rattle.acl_policy.specs.Numerals.{IsNumber}
+use Rattle.acl_policy.specs.inner.WordReading.Numerals.{number_in}
 use Rattle.policy_check.proofs.ReaderLemmas.{read_as}
 use Rattle.policy_check.proofs.word_readers.read_number_word.Goals as goal
 

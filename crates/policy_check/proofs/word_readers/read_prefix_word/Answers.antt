@@ -1,6 +1,6 @@
-use Rattle.policy_words.proofs.PrefixLaws.{prefix_in-complete, prefix_in-sound}
-use Rattle.policy_words.specs.Prefixes.{IsPrefix}
-use Rattle.policy_words.specs.inner.Reading.Prefixes.{prefix_in}
+use Rattle.acl_policy.proofs.PrefixLaws.{prefix_in-complete, prefix_in-sound}
+use Rattle.acl_policy.specs.Prefixes.{IsPrefix}
+use Rattle.acl_policy.specs.inner.WordReading.Prefixes.{prefix_in}
 use Rattle.policy_check.proofs.ReaderLemmas.{read_as}
 use Rattle.policy_check.proofs.word_readers.read_prefix_word.Goals as goal
 

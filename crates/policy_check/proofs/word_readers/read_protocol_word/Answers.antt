@@ -1,6 +1,6 @@
-use Rattle.policy_words.proofs.TrafficLaws.{protocol_in-complete, protocol_in-sound}
-use Rattle.policy_words.specs.Traffic.{IsProtocol}
-use Rattle.policy_words.specs.inner.Reading.Traffic.{protocol_in}
+use Rattle.acl_policy.proofs.TrafficLaws.{protocol_in-complete, protocol_in-sound}
+use Rattle.acl_policy.specs.Traffic.{IsProtocol}
+use Rattle.acl_policy.specs.inner.WordReading.Traffic.{protocol_in}
 use Rattle.policy_check.proofs.ReaderLemmas.{read_as}
 use Rattle.policy_check.proofs.word_readers.read_protocol_word.Goals as goal
 

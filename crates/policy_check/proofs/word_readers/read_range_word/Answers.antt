@@ -1,6 +1,6 @@
-use Rattle.policy_words.proofs.RangeLaws.{range_in-complete, range_in-sound}
-use Rattle.policy_words.specs.Traffic.{IsRange}
-use Rattle.policy_words.specs.inner.Reading.Traffic.{range_in}
+use Rattle.acl_policy.proofs.RangeLaws.{range_in-complete, range_in-sound}
+use Rattle.acl_policy.specs.Traffic.{IsRange}
+use Rattle.acl_policy.specs.inner.WordReading.Traffic.{range_in}
 use Rattle.policy_check.proofs.ReaderLemmas.{read_as}
 use Rattle.policy_check.proofs.word_readers.read_range_word.Goals as goal
 

@@ -1,5 +1,5 @@
 use Rattle.std.proofs.Common.{◌≡◌, ◌++◌, length, map}
-use Rattle.policy_words.specs.Words.{without_comment, words_of}
+use Rattle.acl_policy.specs.Words.{without_comment, words_of}
 use Rattle.policy_expand.specs.Written.{word_text}
 use Rattle.policy_expand.proofs.word_reading.words_of_written_line.Given as goal
 

@@ -1,5 +1,5 @@
 use Rattle.std.proofs.Common.{◌≡◌, ◌∙◌, ap, arith, rules, sym}
-use Rattle.policy_words.specs.inner.Reading.Numerals.{cut_in, number_in}
+use Rattle.acl_policy.specs.inner.WordReading.Numerals.{cut_in, number_in}
 use Rattle.racl_options.proofs.ShardWordLemmas.{apart, same_in, word_cut, word_is, word_parts}
 use Rattle.racl_options.proofs.shard_word.shard_named.Goals as goal
 

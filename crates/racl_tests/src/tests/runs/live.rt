@@ -3,8 +3,8 @@ ghost use Rattle.std.specs.Prelude.{◌-◌, ◌<◌, ◌^◌};
 
 use super::DEFAULTS;
 use super::slow_and_failing_devices::{Drip, Trickle, trickling};
-use racl_cli::{Fault, Lines, LiveAsked, LiveSaves, Options, Saves, Totals, run_live};
 use racl_io::decode_digits;
+use racl_runs::{Fault, Lines, LiveAsked, LiveSaves, Options, Saves, Totals, run_live};
 use session_state::Shown;
 use std::alloc::Global;
 use std::sync::Wait;

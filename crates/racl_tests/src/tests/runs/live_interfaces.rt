@@ -1,11 +1,13 @@
 //! Captures of several interfaces that are told while they come.
-ghost use Rattle.std.specs.Prelude.{◌≤◌, None, length};
+ghost use Rattle.std.specs.Prelude.{◌≡◌, ◌≤◌, IfErr, IfOk, None, Some, length};
+ghost use Rattle.racl_io.specs.declared.fault.Fault.TheVariants.{Memory};
+ghost use Rattle.capture_stream.specs.declared.arrival.Arrival.{Arrival};
 
 use super::DEFAULTS;
 use super::slow_and_failing_devices::trickling;
 use capture_stream::{Arrival, Arrivals, FaultAt};
-use racl_cli::{Fault, Lines, LiveAsked, run_live_interfaces};
 use racl_io::decode_digits;
+use racl_runs::{Fault, Lines, LiveAsked, run_live_interfaces};
 use session_state::Shown;
 use std::alloc::Global;
 use std::test::Fail;
@@ -52,10 +54,35 @@ fn part(bytes: &[u8], start: usize, end: usize) -> &[u8]
     &all[..all.len().min(65536)]
 }
 
+// For tests of live runs: a part.
+fn arrived(
+    alloc: Global,
+    bytes: &[u8],
+    turn: &(u8, usize, usize),
+) -> Result<Option<Arrival>, FaultAt>
+    ensures some { IfOk result (λ found. (arrival : Arrival) × (found ≡ Some arrival) × (length arrival.bytes.items ≤ 65536)) }
+    ensures fault { IfErr result (λ found. (found.fault ≡ Memory) × (found.interface ≡ None)) }
+{
+    let (interface, start, end) = *turn;
+    match Vec::from_slice(alloc, part(bytes, start, end)) {
+        Ok(bytes) => Ok(Some(Arrival { interface, bytes })),
+        Err(_) => Err(FaultAt {
+            fault: Fault::Memory,
+            interface: None,
+        }),
+    }
+}
+
 impl Arrivals for Parted<'_> {
     ghost parts = { λ _. None };
 
+    ghost whole = { λ _. tt };
+
+    ghost left = { λ _. None };
+
     ghost failures = { λ _. 0 };
+
+    ghost unread = { λ _. None };
 
     // For tests of live runs: the next part, or that none is left.
     fn next(&mut self) -> Result<Option<Arrival>, FaultAt> {
@@ -63,14 +90,42 @@ impl Arrivals for Parted<'_> {
             return Ok(None);
         };
         self.turns = rest;
-        let (interface, start, end) = *turn;
-        match Vec::from_slice(self.alloc, part(self.bytes, start, end)) {
-            Ok(bytes) => Ok(Some(Arrival { interface, bytes })),
-            Err(_) => Err(FaultAt {
-                fault: Fault::Memory,
-                interface: None,
-            }),
-        }
+        arrived(self.alloc, self.bytes, turn)
+    }
+}
+
+/// So, but when none is left the capture of this interface can't be read.
+#[derive(Drop)]
+struct Unreadable<'a> {
+    alloc: Global,
+    bytes: &'a [u8],
+    turns: &'a [(u8, usize, usize)],
+    interface: u8,
+    failures: u64,
+}
+
+impl Arrivals for Unreadable<'_> {
+    ghost parts = { λ _. None };
+
+    ghost whole = { λ _. tt };
+
+    ghost left = { λ _. None };
+
+    ghost failures = { λ captures. captures.failures };
+
+    ghost unread = { λ captures. Some captures.interface };
+
+    // For tests of live runs: the next part, or that there is none.
+    fn next(&mut self) -> Result<Option<Arrival>, FaultAt> {
+        let Some((turn, rest)) = self.turns.split_first() else {
+            self.failures += 1;
+            return Err(FaultAt {
+                fault: Fault::Read,
+                interface: Some(self.interface),
+            });
+        };
+        self.turns = rest;
+        arrived(self.alloc, self.bytes, turn)
     }
 }
 
@@ -176,5 +231,33 @@ fn a_capture_with_a_fault_is_named(rt: HostRuntime) -> Result<(), Fail> {
     };
     assert!(rt; outcome == Err(fault));
     assert!(rt; writer.taken.as_slice() == b"1 if 1 pass rule 1 reflect\n".as_slice());
+    Ok(())
+}
+
+/// A capture that can't be read ends a live run behind the lines of the packets before, and is named.
+#[test]
+fn a_capture_that_cannot_be_read_is_named(rt: HostRuntime) -> Result<(), Fail> {
+    let alloc = rt.alloc();
+    let bytes = decode_digits(alloc, CAPTURE)?;
+    let asked = LiveAsked {
+        options: &DEFAULTS,
+        text: POLICY,
+    };
+    let mut unreadable = Unreadable {
+        alloc,
+        bytes: &bytes,
+        turns: &[(1, 0, 82), (2, 0, 30)],
+        interface: 2,
+        failures: 0,
+    };
+    let mut writer = trickling(alloc, usize::MAX);
+    let outcome = run_live_interfaces(&rt, alloc, asked, &mut unreadable, &mut writer);
+    let fault = FaultAt {
+        fault: Fault::Read,
+        interface: Some(2),
+    };
+    assert!(rt; outcome == Err(fault));
+    assert!(rt; writer.taken.as_slice() == b"1 if 1 pass rule 1 reflect\n".as_slice());
+    assert!(rt; unreadable.failures == 1);
     Ok(())
 }

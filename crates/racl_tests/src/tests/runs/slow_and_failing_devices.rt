@@ -2,7 +2,7 @@
 ghost use Rattle.std.specs.Prelude.{◌≡◌, None};
 
 use super::{DEFAULTS, whole_run_input, whole_run_report};
-use racl_cli::{Device, DeviceFault, Fault, Sink, Source, run, status};
+use racl_runs::{Device, DeviceFault, Fault, Sink, Source, run, status};
 use std::alloc::Global;
 
 /// Gives one byte a read. Once it has made its reads it fails, and then goes on.

@@ -6,7 +6,7 @@ use Rattle.packet_view.specs.Tuples.{tuple_facts}
 use Rattle.acl_policy.specs.Matching.{Matches}
 use Rattle.acl_policy.specs.Rules.{RuleFacts, rule_facts}
 use Rattle.acl_policy.proofs.RulingLemmas.{slice_get-rule_facts}
-use Rattle.policy_words.proofs.OptionLemmas.{same_some}
+use Rattle.acl_policy.proofs.OptionLemmas.{same_some}
 use Rattle.rule_index.proofs.first_candidate.match_at.Goals as goal
 
 pub returns-then-is_match : goal.returns-then-is_match

@@ -4,7 +4,7 @@ use Rattle.std.proofs.lemmas.Option.{slice_get_read}
 use Rattle.rule_index.specs.Dimensions.{Spans}
 use Rattle.acl_policy.specs.Rules.{RuleFacts, rule_facts}
 use Rattle.acl_policy.proofs.RulingLemmas.{slice_get-rule_facts}
-use Rattle.policy_words.proofs.OptionLemmas.{same_some}
+use Rattle.acl_policy.proofs.OptionLemmas.{same_some}
 use Rattle.rule_index.proofs.RangeLemmas.{spans_more}
 use Rattle.rule_index.proofs.ranges_of_rules.ranges_of.Goals as goal
 

@@ -9,5 +9,5 @@ hand_over-requires g c =
 
 pub returns-in-Ok : goal.returns-in-Ok
 returns-in-Ok g c =
-    judged_on g.A.Shape g.B.Shape c.args.self.now c.judge_more.new.self c.hand_over.new.self c.args.packets c.hand_over.result.items c.in-Ok.ensures
+    judged_on g.A.Shape g.B.Shape c.args.self.now c.judge.new.self c.hand_over.new.self c.args.packets c.hand_over.result.items c.in-Ok.ensures
     c.hand_over.ensures

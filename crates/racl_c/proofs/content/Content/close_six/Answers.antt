@@ -4,8 +4,8 @@ use Rattle.std.specs.Global.{Vec}
 use Rattle.packet_view.specs.declared.tuple.Family.TheVariants.{V6}
 use Rattle.bihash_words.specs.contracts.flow_shapes.ShapeV4Shape.TheImpl as four
 use Rattle.bihash_words.specs.contracts.flow_shapes.ShapeV6Shape.TheImpl as six
-use Rattle.large_shapes.specs.contracts.large_flow_shapes.LargeV4Shape.TheImpl as large_four
-use Rattle.large_shapes.specs.contracts.large_flow_shapes.LargeV6Shape.TheImpl as large_six
+use Rattle.bihash_words.specs.contracts.large_flow_shapes.LargeV4Shape.TheImpl as large_four
+use Rattle.bihash_words.specs.contracts.large_flow_shapes.LargeV6Shape.TheImpl as large_six
 use Rattle.bihash_table.specs.declared.close_fault.CloseFault.{CloseFault}
 use Rattle.session_state.specs.declared.timeouts.Timeouts.{Timeouts}
 use Rattle.flow_judge.specs.Closings.{IsClosedSix}

@@ -3,8 +3,8 @@ use Rattle.std.specs.Prelude.{◌≡◌, ℕ}
 use Rattle.std.proofs.Common.{subst, sym}
 use Rattle.bihash_words.specs.contracts.flow_shapes.ShapeV4Shape.TheImpl as four
 use Rattle.bihash_words.specs.contracts.flow_shapes.ShapeV6Shape.TheImpl as six
-use Rattle.large_shapes.specs.contracts.large_flow_shapes.LargeV4Shape.TheImpl as large_four
-use Rattle.large_shapes.specs.contracts.large_flow_shapes.LargeV6Shape.TheImpl as large_six
+use Rattle.bihash_words.specs.contracts.large_flow_shapes.LargeV4Shape.TheImpl as large_four
+use Rattle.bihash_words.specs.contracts.large_flow_shapes.LargeV6Shape.TheImpl as large_six
 use Rattle.flow_filter.specs.OneThread.{Layout, layout_of}
 use Rattle.flow_judge.specs.JudgeStates.{JudgeState}
 use Rattle.racl_c.specs.Contents.{Calls}

@@ -1,3 +1,0 @@
-pub mod FileLemmas
-pub mod MeetingLemmas
-pub mod NumberLemmas

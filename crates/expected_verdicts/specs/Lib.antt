@@ -1,4 +1,0 @@
-pub mod Expectations
-pub mod Files
-pub mod Meeting
-pub mod inner

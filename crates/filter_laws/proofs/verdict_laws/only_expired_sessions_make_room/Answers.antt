@@ -1,5 +1,0 @@
-use Rattle.filter_laws.proofs.RecyclingLemmas.{made_room}
-use Rattle.filter_laws.proofs.verdict_laws.only_expired_sessions_make_room.Goals as goal
-
-pub returns : goal.returns
-returns c = made_room

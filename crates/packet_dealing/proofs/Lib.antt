@@ -1,4 +1,0 @@
-pub mod ChunkLemmas
-pub mod DealtLists
-pub mod HandedPackets
-pub mod OwnAddresses

@@ -1,8 +1,0 @@
-use Rattle.std.proofs.Common.{◌≡◌, All, [], length}
-use Rattle.packet_dealing.proofs.dealt_chunk.DealtRoom.new.Given as goal
-
-abbrev pub invariant-loop : goal.invariant-loop
-invariant-loop l = record {
-  count : length l.own.items ≡ l.counter;
-  each : All (λ list. list.items ≡ []) l.own.items;
-}

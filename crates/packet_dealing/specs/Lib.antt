@@ -1,4 +1,0 @@
-pub mod Dealings
-pub mod Dealt
-pub mod HashedFlows
-pub mod inner

@@ -1,2 +1,0 @@
--- Definitions that go as the code goes. Contracts of readers name them, and a law ties each to the grammar.
-pub mod Reading

@@ -1,8 +1,0 @@
-use Rattle.racl_cli.proofs.CountedLemmas.{counted_end}
-use Rattle.racl_cli.proofs.counted_judging.Counted.end.Goals as goal
-
-pub end-requires : goal.end-requires
-end-requires g c = let (orders, asked, packets, said, has) = c.requires in (packets, said, has.after.rest)
-
-pub returns-in-Ok : goal.returns-in-Ok
-returns-in-Ok g c = λ orders asked packets said has. counted_end orders asked packets said _ c.args.self _ has c.in-Ok.ensures

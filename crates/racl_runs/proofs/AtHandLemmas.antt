@@ -1,0 +1,145 @@
+-- An input of which all was read: what is answered of it, and what is kept.
+use Rattle.std.proofs.Common.{◌≡◌, ◌∙◌, ◌≤◌, ◌⊎◌, ◌||◌, ℕ, zero, suc, Bool, true, false, List, [], ◌∷◌, Option, Some, None, Ok, Err, drop, length, refl, sym, ap, subst, take, inl, inr}
+use Rattle.packet_view.specs.Bytes.{AreBytes}
+use Rattle.packet_view.specs.Captures.{PacketFacts}
+use Rattle.acl_policy.specs.Policies.{PolicyFacts, policy_facts}
+use Rattle.acl_policy.specs.declared.policy.Policy.{Policy}
+use Rattle.racl_options.specs.declared.settings.Options.{Options}
+use Rattle.racl_io.specs.declared.fault.Fault.{Fault}
+use Rattle.racl_io.specs.declared.fault.Fault.TheVariants.{Memory}
+use Rattle.racl_io.specs.declared.marker_line.Form.{Form}
+use Rattle.racl_io.specs.declared.totals_and_truncation.Captured.{Captured}
+use Rattle.racl_io.specs.Faults.{IsFaultOfBytes, IsFaultOfContent}
+use Rattle.racl_io.specs.Inputs.{most_bytes}
+use Rattle.racl_report.specs.KeptInputs.{HaveCaptures, IsKeptWhere, Keeps, KeepsWhere}
+use Rattle.racl_report.specs.ReadInputs.{HasPackets, IsRead}
+use Rattle.racl_report.specs.RunReports.{JudgedFacts}
+use Rattle.racl_report.specs.declared.kept_input.Kept.{Kept}
+use Rattle.racl_report.specs.declared.kept_input.KeptCaptures.{KeptCaptures}
+use Rattle.racl_report.proofs.CaptureLaws.{AreFit, fit_bytes, no_fault_of_packets, one_fault_of_content, one_packets}
+use Rattle.racl_report.proofs.ReadInputLemmas.{read_in}
+use Rattle.racl_runs.specs.Reads.{AnswersInput, HasMarked, IsReached}
+use Rattle.racl_runs.specs.declared.input_front.Marked.{Marked}
+use Rattle.racl_runs.specs.inner.Plans.{HasReached}
+use Rattle.racl_runs.proofs.OutcomeLemmas.{memory_answers}
+use Rattle.racl_runs.proofs.RunLemmas.{fault_of_known_parts, fault_of_right_policy}
+
+-- what is kept for two purposes is kept for each
+or_first : (a b : Bool) → (a || b) ≡ false → a ≡ false
+or_first true b none = none
+or_first false b none = refl
+
+or_second : (a b : Bool) → (a || b) ≡ false → b ≡ false
+or_second true b none = absurd (let f : ⊥ = cc in f)
+or_second false b none = none
+
+pub kept_for_first : (a b : Bool) (input : List ℕ) (of : Option Kept) (policy : PolicyFacts) (packets : List PacketFacts) (told : List Captured) → KeepsWhere (a || b) input of
+    → IsRead input policy packets told → IsKeptWhere a input policy packets of
+kept_for_first a b input None policy packets told keeps read = or_first a b keeps
+kept_for_first a b input (Some of) policy packets told keeps read = keeps policy packets told read
+
+pub kept_for_second : (a b : Bool) (input : List ℕ) (of : Option Kept) (policy : PolicyFacts) (packets : List PacketFacts) (told : List Captured) → KeepsWhere (a || b) input of
+    → IsRead input policy packets told → IsKeptWhere b input policy packets of
+kept_for_second a b input None policy packets told keeps read = or_second a b keeps
+kept_for_second a b input (Some of) policy packets told keeps read = keeps policy packets told read
+
+-- ---- what follows a marker line
+
+bytes_behind : (from : ℕ) (bytes : List ℕ) → AreBytes bytes → AreBytes (drop from bytes)
+bytes_behind zero bytes fit = fit
+bytes_behind (suc from) [] fit = fit
+bytes_behind (suc from) (b ∷ bytes) fit = bytes_behind from bytes (λ place. fit (suc place))
+
+-- what follows a marker line are bytes, and so is a capture that it is
+pub fit_behind : (form : Form) (bytes : List ℕ) (from : ℕ) → AreBytes bytes → AreFit form (drop from bytes)
+fit_behind form bytes from fit = fit_bytes form (drop from bytes) (bytes_behind from bytes fit)
+
+-- ---- what is answered
+
+module _ (options : Options) (bytes : List ℕ) (marked : Marked) (has : HasMarked options bytes marked) (fit : AreFit marked.form (drop marked.from bytes)) where
+  abbrev form : Form
+  form = marked.form
+
+  abbrev content : List ℕ
+  content = drop marked.from bytes
+
+  has_packets : (packets : List PacketFacts) (captures : List Captured) → HasPackets form content packets captures
+      → HasPackets has.parts.form has.parts.content packets captures
+  has_packets packets captures taken =
+      subst (λ f. HasPackets f has.parts.content packets captures) (sym has.form)
+      (subst (λ c. HasPackets form c packets captures) has.content taken)
+
+  packets_there : (packets : List PacketFacts) (captures : List Captured) → HasPackets has.parts.form has.parts.content packets captures
+      → HasPackets form content packets captures
+  packets_there packets captures is =
+      subst (λ c. HasPackets form c packets captures) (sym has.content)
+      (subst (λ f. HasPackets f has.parts.content packets captures) has.form is)
+
+  has_fault : (fault : Fault) → IsFaultOfContent form content fault → IsFaultOfContent has.parts.form has.parts.content fault
+  has_fault fault of =
+      subst (λ f. IsFaultOfContent f has.parts.content fault) (sym has.form)
+      (subst (λ c. IsFaultOfContent form c fault) has.content of)
+
+  fault_there : (fault : Fault) → IsFaultOfBytes bytes fault → IsFaultOfContent form content fault
+  fault_there fault of =
+      let known = fault_of_right_policy has.parts fault has.policy.right (fault_of_known_parts bytes has.parts fault has.parted of) in
+      subst (λ c. IsFaultOfContent form c fault) (sym has.content)
+      (subst (λ f. IsFaultOfContent f has.parts.content fault) has.form known)
+
+  taken_answers : (packets : List PacketFacts) (judged : JudgedFacts) → length bytes ≤ most_bytes
+      → HasPackets form content packets judged.outcome.captures
+      → IsReached options (policy_facts marked.filter.policy) packets judged.outcome.captures judged → AnswersInput options bytes (Ok judged)
+  taken_answers packets judged few taken reached = record {
+    ok = record {
+      policy = policy_facts marked.filter.policy;
+      packets = packets;
+      read = record { few = few; parts = has.parts; parted = has.parted; says = has.policy.says; content = has_packets packets judged.outcome.captures taken };
+      reached = reached;
+    };
+    accepts = λ other others captures read.
+        let is = read_in bytes has.parts other others captures has.parted read in
+        let same =
+        one_packets form content packets others judged.outcome.captures captures fit taken
+        (packets_there others captures is.content) in
+        subst (λ p. IsReached options p others captures judged) (has.policy.one other is.says)
+        (subst (λ ps. IsReached options (policy_facts marked.filter.policy) ps captures judged) same.0
+        (record { by_workers = reached.by_workers; kept = reached.kept; by_one_thread = reached.by_one_thread; told = same.1 }));
+    fault = tt;
+    refuses = λ fault of.
+        no_fault_of_packets form content packets judged.outcome.captures fault fit taken (fault_there fault of);
+  }
+
+  pub fault_answers : (fault : Fault) → (fault ≡ Memory) ⊎ IsFaultOfContent form content fault
+      → AnswersInput options bytes (Err fault)
+  fault_answers fault (inl memory) =
+      subst (λ (e : Fault). AnswersInput options bytes (Err e)) (sym memory)
+      (memory_answers options bytes has.parts (policy_facts marked.filter.policy) has.parted has.policy)
+  fault_answers fault (inr of) = record {
+    ok = tt;
+    accepts = λ other others captures read.
+        let is = read_in bytes has.parts other others captures has.parted read in
+        absurd (no_fault_of_packets form content others captures fault fit (packets_there others captures is.content) of);
+    fault = λ differs. inr (has.parts, has.parted, inr (policy_facts marked.filter.policy, has.policy.says, has_fault fault of));
+    refuses = λ other is. inl (one_fault_of_content form content fault other fit of (fault_there other is));
+  }
+
+  pub answered : (met : JudgedFacts × KeptCaptures) → length bytes ≤ most_bytes → HasReached options (policy_facts marked.filter.policy) form content met
+      → AnswersInput options bytes (Ok met.0)
+  answered met few reached = taken_answers reached.packets met.0 few reached.taken reached.reached
+
+  -- what is kept with the policy and its text is kept of the input
+  pub kept_of : (met : JudgedFacts × KeptCaptures) (of : Kept) → HasReached options (policy_facts marked.filter.policy) form content met
+      → of.policy ≡ marked.filter.policy → of.text.items ≡ take marked.text bytes → of.captures ≡ met.1 → Keeps bytes of
+  kept_of met of reached same text captures = λ policy packets told read.
+      let here = read_in bytes has.parts policy packets told has.parted read in
+      let one = one_packets form content reached.packets packets met.0.outcome.captures told fit reached.taken (packets_there packets told here.content) in
+      let have = subst (λ (cs : KeptCaptures). HaveCaptures cs form content packets) (sym captures) (subst (λ ps. HaveCaptures met.1 form content ps) one.0 reached.have) in
+      record {
+        parts = has.parts;
+        parted = has.parted;
+        says = here.says;
+        policy_is = ap (λ (p : Policy). policy_facts p) same ∙ has.policy.one policy here.says;
+        text = text ∙ has.text;
+        captures = subst (λ f. HaveCaptures of.captures f has.parts.content packets) (sym has.form)
+            (subst (λ c. HaveCaptures of.captures form c packets) has.content have);
+      }

@@ -1,0 +1,133 @@
+-- Workers that count the packets that they judged, and what stands behind the totals over these.
+use Rattle.std.proofs.Common.{◌≡◌, ◌∙◌, ◌<◌, ◌+◌, ◌++◌, ◌^◌, ℕ, Bool, true, List, [], ◌∷◌, Option, Result, ap, append-nil, arith, length, refl, subst, sym}
+use Rattle.std.specs.Io.KnownBytes.{Appends}
+use Rattle.std.specs.Prelude.{⊤}
+use Rattle.std.proofs.lemmas.List.{length-append}
+use Rattle.packet_view.specs.Captures.{PacketFacts}
+use Rattle.acl_policy.specs.Policies.{IsPolicyText, PolicyFacts, policy_facts}
+use Rattle.session_state.specs.declared.verdict.Verdict.{Verdict}
+use Rattle.racl_io.specs.declared.fault.Fault.{Fault}
+use Rattle.racl_io.specs.Sinks.{HasPutFront}
+use Rattle.racl_io.specs.Tellings.{HasToldText, IsTellingFault}
+use Rattle.racl_io.specs.declared.fault.Fault.TheVariants as fault
+use Rattle.racl_io.proofs.TellingLemmas.{front_of_first, put_more, told_put}
+use Rattle.racl_views.specs.HitCounts.{HaveCounted, HaveCountedOn, MayCount}
+use Rattle.racl_views.specs.Stored.{StoredFacts}
+use Rattle.racl_views.specs.declared.hit_counts.HitCounts.{HitCounts}
+use Rattle.racl_report.specs.BehindTotals.{IsBehind}
+use Rattle.racl_report.specs.RunReports.{told_facts}
+use Rattle.racl_report.specs.declared.text_behind_totals.Behind.{Behind}
+use Rattle.racl_runs.specs.Crews.{AreAsAsked, AreIdleOf, AreSaid, AreSaidBy, AreSaidSoFar, HaveCountedAfter, HaveEndedCounting, HaveEndedOn, HaveSaidAfter, Orders, cuts_four, orders_for, size_of, views_with}
+use Rattle.racl_runs.specs.LiveRuns.{IsToldBehind, ages_in}
+use Rattle.racl_runs.specs.Runs.{AreStoredOf, keeps_stored, layout_for}
+use Rattle.racl_runs.specs.inner.LiveEnds.{MayTellBehind}
+use Rattle.racl_runs.specs.declared.counted_judging.Counted.{Counted}
+use Rattle.racl_runs.specs.declared.live_run.LiveWay.{LiveWay}
+use Rattle.racl_runs.specs.declared.sized_tables_and_workers.SizedCallers.{SizedCallers}
+use Rattle.racl_runs.specs.declared.sized_tables_and_workers.SizedTables.{SizedTables}
+use Rattle.racl_runs.proofs.LiveLemmas.{by_live_workers}
+use Rattle.racl_runs.proofs.OutcomeLemmas.{judged_count}
+
+-- what was said of all packets is as much as there are
+pub said_count : (orders : Orders) (packets : List PacketFacts) (said : List Verdict) → AreSaid orders packets said → length said ≡ length packets
+said_count orders packets said are = judged_count orders.deal orders.times orders.policy packets said are.1.removals are.1.judged
+
+-- so much is counted of it
+pub may_count : {T : Type 0} (orders : Orders) (asked : Bool) (packets more : List PacketFacts) (said verdicts : List Verdict) (counted : Counted T)
+    → HaveCountedAfter orders asked packets said counted → counted.asked ≡ true → AreSaidSoFar T orders (packets ++ more) (said ++ verdicts)
+    → length packets + length more < 2 ^ 64 → MayCount counted.counts (length verdicts)
+may_count orders asked packets more said verdicts counted has is are fits =
+    let all = are.count in
+    let packets_all = length-append packets more in
+    let said_all = length-append said verdicts in
+    let each = has.each in
+    record {
+      policy = orders.policy;
+      packets = packets;
+      verdicts = said;
+      have = has.counts (sym has.same ∙ is);
+      each = each;
+      fits = omega arith;
+    }
+
+-- the workers judged more packets, which are counted too
+pub counted_more : {T : Type 0} (orders : Orders) (asked : Bool) (packets more : List PacketFacts) (said verdicts : List Verdict) (old new : Counted T)
+    → HaveCountedAfter orders asked packets said old → HaveSaidAfter orders (packets ++ more) (said ++ verdicts) new.crew.workers
+    → AreSaidSoFar T orders (packets ++ more) (said ++ verdicts) → new.policy ≡ old.policy → new.asked ≡ old.asked
+    → (old.asked ≡ true → HaveCountedOn (policy_facts old.policy.now) old.counts more verdicts new.counts)
+    → HaveCountedAfter orders asked (packets ++ more) (said ++ verdicts) new
+counted_more orders asked packets more said verdicts old new has after are policy same counts = record {
+  after = after;
+  each = are.count;
+  policy = ap (λ p. policy_facts p.now) policy ∙ has.policy;
+  same = same ∙ has.same;
+  counts = λ is. subst (λ (p : PolicyFacts). HaveCounted p (packets ++ more) (said ++ verdicts) new.counts) has.policy
+      (counts (has.same ∙ is) packets said (subst (λ (p : PolicyFacts). HaveCounted p packets said old.counts) (sym has.policy) (has.counts is)) has.each);
+}
+
+none_kept : (kept : List Verdict) → length kept ≡ 0 → kept ≡ []
+none_kept [] none = refl
+none_kept (x ∷ xs) none = absurd (omega arith)
+
+-- the workers ended
+pub counted_end : {T : Type 0} (orders : Orders) (asked : Bool) (packets : List PacketFacts) (said kept : List Verdict) (counted : Counted T) (callers : SizedCallers)
+    → HaveCountedAfter orders asked packets said counted → HaveEndedOn counted.crew.workers kept callers → HaveEndedCounting orders asked packets said counted.counts callers
+counted_end orders asked packets said kept counted callers has ended =
+    let by = subst (λ (o : Orders). AreSaidBy o packets (said ++ kept) callers) has.after.given (ended said packets has.after.rest) in
+    let all = said_count orders packets (said ++ kept) (views_with callers, by.said) in
+    let both = length-append said kept in
+    let each = has.each in
+    let none = none_kept kept (omega arith) in
+    record {
+      by = subst (λ (vs : List Verdict). AreSaidBy orders packets vs callers) (ap (λ (vs : List Verdict). said ++ vs) none ∙ append-nil said) by;
+      counted = has.counts;
+    }
+
+-- what stands behind the totals may be told
+pub may_tell_behind : (way : LiveWay) (tables : SizedTables) (packets : List PacketFacts) (said : List Verdict) (counts : HitCounts) (callers : SizedCallers) (orders : Orders)
+    → IsPolicyText way.text.now (policy_facts way.filter.now.policy.now) → way.filter.now.times ≡ way.options.now.times
+    → AreAsAsked way.options.now.tables (ages_in way.options.now) tables → orders ≡ orders_for tables way.filter.now way.options.now.workers (cuts_four tables)
+    → HaveEndedCounting orders way.options.now.hits packets said counts callers → MayTellBehind way tables packets said counts callers
+may_tell_behind way tables packets said counts callers orders says times asked given ended =
+    record { says = says; times = times; asked = asked; orders = orders; given = given; ended = ended }
+
+-- its callers hold nothing
+pub ended_idle : (way : LiveWay) (tables : SizedTables) (packets : List PacketFacts) (said : List Verdict) (counts : HitCounts) (callers : SizedCallers)
+    → MayTellBehind way tables packets said counts callers → AreIdleOf tables callers
+ended_idle way tables packets said counts callers may = subst (λ (o : Orders). AreIdleOf o.tables callers) may.given may.ended.by.idle
+
+-- what stands behind the totals
+pub told_behind : (way : LiveWay) (tables : SizedTables) (packets : List PacketFacts) (said : List Verdict) (counts : HitCounts) (callers : SizedCallers)
+    (stored : StoredFacts) (behind : Behind) → MayTellBehind way tables packets said counts callers
+    → (keeps_stored way.options.now ≡ true → AreStoredOf (layout_for (size_of tables)) (views_with callers) stored)
+    → IsBehind way.options.now way.text.now counts stored behind
+    → IsToldBehind way.options.now way.text.now (policy_facts way.filter.now.policy.now) packets said (behind.hits.items ++ behind.sessions.items)
+told_behind way tables packets said counts callers stored behind may kept is =
+    let options = way.options.now in
+    let ready = way.filter.now in
+    let one = by_live_workers options ready tables may.orders options.workers packets said may.given may.asked.four may.asked.size may.times options.few.0 (omega arith)
+    (views_with callers, may.ended.by.said) in
+    record {
+      by_live = one.0;
+      stored = stored;
+      kept = λ asked. subst (λ v. AreStoredOf (layout_for options.tables) v stored) (sym one.1)
+          (subst (λ s. AreStoredOf (layout_for s) (views_with callers) stored) may.asked.size (kept asked));
+      hits = behind.hits.items;
+      told = λ captures. is.hits (told_facts (policy_facts ready.policy.now) way.text.now packets (record { verdicts = said; captures = captures }) options.shown) refl may.says
+          (λ asked. subst (λ (p : PolicyFacts). HaveCounted p packets said counts) (ap (λ (o : Orders). o.policy) may.given) (may.ended.counted asked));
+      all = ap (λ (text : List ℕ). behind.hits.items ++ text) is.sessions;
+    }
+
+-- the totals, and what stands behind them
+pub end_then : {W : Type 0} (bytes : W → Option (List ℕ)) (failures : W → ℕ) (a b c : W) (end behind : List ℕ) (result : Result ⊤ Fault)
+    → Appends (bytes a) (bytes b) end → failures b ≡ failures a → HasPutFront bytes failures b c behind result
+    → HasToldText bytes failures a c (end ++ behind) result
+end_then bytes failures a b c end behind result wrote same put =
+    let (one, two, three, four, five) = put_more bytes failures a b c end behind result wrote same put in
+    told_put bytes failures a c (end ++ behind) result one two three four five
+
+-- they couldn't be told
+pub end_cut : (old new : Option (List ℕ)) (end behind : List ℕ) (found : Fault) → IsTellingFault old new end found → IsTellingFault old new (end ++ behind) found
+end_cut old new end behind fault.Memory same = same
+end_cut old new end behind fault.Write front = front_of_first old new end behind front
+end_cut old new end behind found wrong = absurd wrong

@@ -1,0 +1,194 @@
+-- A run over a capture whose verdicts are compared with expected ones.
+use Rattle.std.proofs.KnownBytes.{Appends-trans, Consumes-all, Consumes-trans}
+use Rattle.std.proofs.Common.{◌≡◌, ◌∙◌, ◌≤◌, ◌++◌, ℕ, Bool, List, [], Option, Result, Ok, Err, ap, ap₂, arith, drop, inl, inr, length, refl, subst, sym}
+use Rattle.std.specs.Prelude.{◌⊎◌}
+use Rattle.std.proofs.lemmas.List.{drop_all, length-map}
+use Rattle.std.specs.Io.KnownBytes.{Appends}
+use Rattle.packet_view.specs.Captures.{AreRecords, PacketFacts, packet_at, packets_at}
+use Rattle.packet_view.specs.declared.capture.Order.{Order}
+use Rattle.packet_view.proofs.FrontLemmas.{behind_header_appended, header_appended}
+use Rattle.acl_policy.specs.Policies.{IsPolicyText, PolicyFacts, policy_facts}
+use Rattle.flow_filter.specs.declared.interface_filters.InterfaceFilters.{InterfaceFilters}
+use Rattle.session_state.specs.declared.verdict.Verdict.{Verdict}
+use Rattle.racl_options.specs.declared.settings.Options.{Options}
+use Rattle.racl_io.specs.declared.fault.Fault.{Fault}
+use Rattle.racl_io.specs.declared.fault.Fault.TheVariants as fault
+use Rattle.racl_io.specs.declared.totals_and_truncation.Totals.{Totals}
+use Rattle.racl_io.specs.Reports.{totals_of}
+use Rattle.racl_io.specs.Sinks.{GotFront}
+use Rattle.racl_io.specs.Tellings.{IsTellingFault, Wording, lines_in, told_alone, with_write}
+use Rattle.racl_io.proofs.TellingLemmas.{alone_truncated, front_on}
+use Rattle.capture_stream.specs.Lives.{HasJudgedAll, HasToldSome, HaveFailed, IsLiveFault}
+use Rattle.compared_verdicts.specs.Meeting.{are_met, end_of, met_told, told_of, unmet_wording}
+use Rattle.compared_verdicts.specs.declared.expectation.Expectation.{Expectation}
+use Rattle.compared_verdicts.proofs.MeetingLemmas.{lines_told}
+use Rattle.racl_runs.specs.Crews.{AreSaidSoFar, Orders, cuts_four, orders_for, size_of}
+use Rattle.racl_runs.specs.ExpectingRuns.{ByLoneWorker, ComparesAll, EndsExpecting, HasComparedAll, HasCutEnd, HasJudgedCapture, manner_by, output}
+use Rattle.racl_runs.specs.inner.Heads.{HasReadHeader}
+use Rattle.racl_runs.specs.declared.expecting_run_parts.Compared.{Compared}
+use Rattle.racl_runs.specs.declared.sized_tables_and_workers.SizedTables.{SizedTables}
+use Rattle.racl_runs.proofs.OutcomeLemmas.{by_one, given_by_workers, judged_as}
+
+-- what one worker said
+pub by_lone_worker : {T : Type 0} (options : Options) (ready : InterfaceFilters) (tables : SizedTables) (orders : Orders) (packets : List PacketFacts)
+    (verdicts : List Verdict) → orders ≡ orders_for tables ready 1 (cuts_four tables) → cuts_four tables ≡ options.ages → size_of tables ≡ options.tables
+    → ready.times ≡ options.times → 1 ≤ options.workers → AreSaidSoFar T orders packets verdicts
+    → ByLoneWorker options (policy_facts ready.policy.now) packets verdicts
+by_lone_worker options ready tables orders packets verdicts given cut sized same some said =
+    let policy = policy_facts ready.policy.now in
+    let one = said.one (ap (λ (o : Orders). o.deal.workers) given) in
+    let judged = judged_as packets verdicts one.0 orders tables options.tables ready 1 options.ages (given ∙ ap (orders_for tables ready 1) cut) sized one.1 in
+    let by = given_by_workers options ready.times options.ages policy packets verdicts one.0 1 same (omega arith) some judged in
+    record { by_workers = by.0; one = by.2; by_one_thread = by_one options options.ages policy packets verdicts by.0 }
+
+-- where nothing is saved, only the report's device fails
+pub write_failed : (written writing saved : ℕ) (found : Fault) → HaveFailed written writing saved saved found → writing ≡ with_write written found
+write_failed written writing saved fault.Write (inl failed) = failed.0
+write_failed written writing saved fault.Write (inr failed) = let more = failed.1 in absurd (omega (arith, more))
+write_failed written writing saved fault.Memory failed = failed.0
+write_failed written writing saved found failed = failed.0
+
+-- ---- The end, where all packets were judged
+
+module _ {J : Type 0} {Judged : J → List PacketFacts → List Verdict → Type 0} {begun : J} (options : Options) (expectations : List Expectation) (policy : PolicyFacts)
+    (order : Order) (before after old mid : Option (List ℕ)) (totals : Totals) (all : HasJudgedAll Judged begun order before after totals)
+    (by : ByLoneWorker options policy (packets_at 0 all.packets) all.verdicts)
+    (wrote : Appends old mid (lines_in (unmet_wording expectations) 1 (packets_at 0 all.packets) all.verdicts)) where
+  abbrev lines : List ℕ
+  lines = lines_in (unmet_wording expectations) 1 (packets_at 0 all.packets) all.verdicts
+
+  abbrev judged : HasJudgedAll (ByLoneWorker options) policy order before after totals
+  judged = record {
+    read = all.read;
+    consumed = all.consumed;
+    ended = all.ended;
+    packets = all.packets;
+    rest = all.rest;
+    records = all.records;
+    truncated = all.truncated;
+    end = all.end;
+    verdicts = all.verdicts;
+    judged = by;
+    count = all.count;
+    counted = all.counted;
+  }
+
+  -- of all packets their lines were written, and no more
+  some_told : (new : Option (List ℕ)) (whole : List ℕ) → all.read ≡ whole ++ all.rest → new ≡ mid
+      → HasToldSome (ByLoneWorker options) (manner_by expectations) policy order before after (output old) (output new) all.rest
+  some_told new whole spelt same = record {
+    read = all.read;
+    consumed = all.consumed;
+    packets = all.packets;
+    records = all.records;
+    verdicts = all.verdicts;
+    judged = λ some. by;
+    count = all.count;
+    text = subst (λ b. Appends old b lines) (sym same) wrote;
+    whole = whole;
+    spelt = spelt;
+    saved = tt;
+  }
+
+  module _ (met : Bool) (is : met ≡ are_met expectations all.verdicts totals) where
+    abbrev last : List ℕ
+    last = met_told met (length expectations)
+
+    all_lines : lines ++ (end_of expectations totals ++ last) ≡ told_of expectations all.verdicts totals
+    all_lines = ap₂ (λ (l : List ℕ) (b : Bool). l ++ (end_of expectations totals ++ met_told b (length expectations)))
+        (lines_told expectations 1 (packets_at 0 all.packets) all.verdicts (all.count ∙ sym (length-map all.packets (packet_at 0)))) is
+
+    pub end_told : (new : Option (List ℕ)) (at : Wording) → at ≡ unmet_wording expectations → Appends mid new (at.end totals ++ last)
+        → HasComparedAll options expectations policy order before after old new (record { met = met; truncated = totals.truncated })
+    end_told new at same more = record {
+      totals = totals;
+      judged = judged;
+      written = subst (λ (b : List ℕ). Appends old new b) all_lines
+          (Appends-trans old mid new lines (end_of expectations totals ++ last) wrote (subst (λ (w : Wording). Appends mid new (w.end totals ++ last)) same more));
+      met = is;
+      cut = refl;
+    }
+
+    fault_at_end : (new : Option (List ℕ)) (whole : List ℕ) → all.read ≡ whole ++ all.rest → (found : Fault) → IsTellingFault mid new (end_of expectations totals ++ last) found
+        → IsLiveFault (ByLoneWorker options) (manner_by expectations) policy order before after (output old) (output new) found ⊎ HasCutEnd options expectations policy order before after old new found
+    fault_at_end new whole spelt fault.Memory same = inl (all.rest, some_told new whole spelt same)
+    fault_at_end new whole spelt fault.Write front = inr (record {
+      failed = refl;
+      totals = totals;
+      judged = judged;
+      front = subst (λ (b : List ℕ). GotFront old new b) all_lines (front_on old mid new lines (end_of expectations totals ++ last) wrote front);
+    })
+    fault_at_end new whole spelt found wrong = absurd wrong
+
+    pub end_fault : (new : Option (List ℕ)) (whole : List ℕ) → all.read ≡ whole ++ all.rest → (found : Fault) (at : Wording) → at ≡ unmet_wording expectations
+        → IsTellingFault mid new (at.end totals ++ last) found
+        → IsLiveFault (ByLoneWorker options) (manner_by expectations) policy order before after (output old) (output new) found ⊎ HasCutEnd options expectations policy order before after old new found
+    end_fault new whole spelt found at same why = fault_at_end new whole spelt found (subst (λ (w : Wording). IsTellingFault mid new (w.end totals ++ last) found) same why)
+
+-- ---- The whole run
+
+-- all bytes were read, and are a capture
+judged_capture : (options : Options) (text : List ℕ) (before left after : Option (List ℕ)) (policy : PolicyFacts) (order : Order) (totals : Totals)
+    → IsPolicyText text policy → HasReadHeader before left order → HasJudgedAll (ByLoneWorker options) policy order left after totals
+    → HasJudgedCapture options text before
+judged_capture options text before left after policy order totals says head all =
+    let bytes = head.header ++ all.read in
+    let header = header_appended order head.header all.read (record { right = head.headed.right; one = head.headed.one; none = head.headed.none }) in
+    let whole = head.whole in
+    let behind : drop 24 bytes ≡ all.read =
+    behind_header_appended head.header all.read (omega arith) ∙ ap (λ b. b ++ all.read) (drop_all 24 head.header (omega arith)) in
+    record {
+      policy = policy;
+      says = says;
+      bytes = bytes;
+      known = Consumes-all before after bytes [] bytes (Consumes-trans before left after head.header all.read head.consumed all.consumed) all.ended refl;
+      packets = packets_at 0 all.packets;
+      truncated = all.truncated;
+      records = (
+        all.packets,
+        (order, all.rest, header.right, subst (λ (b : List ℕ). AreRecords order b all.packets all.rest) (sym behind) all.records, all.end),
+        refl,
+      );
+      verdicts = all.verdicts;
+      by = all.judged;
+    }
+
+-- the totals are over all its packets
+totals_same : {options : Options} {policy : PolicyFacts} {order : Order} {left after : Option (List ℕ)} {totals : Totals} (all : HasJudgedAll (ByLoneWorker options) policy order left after totals)
+    → totals ≡ totals_of all.verdicts (told_alone (length (packets_at 0 all.packets)) all.truncated)
+totals_same all = all.counted ∙ ap (λ n. totals_of all.verdicts (told_alone n all.truncated)) (sym (length-map all.packets (packet_at 0)))
+
+-- what was compared behind the header, or why not all was
+pub expecting_ends : (options : Options) (text : List ℕ) (expectations : List Expectation) (before left after old new : Option (List ℕ)) (policy : PolicyFacts) (order : Order)
+    (result : Result Compared Fault) → IsPolicyText text policy → HasReadHeader before left order → ComparesAll options expectations policy order left after old new result
+    → EndsExpecting options text expectations before after old new result
+unfolding judged_capture
+expecting_ends options text expectations before left after old new policy order (Ok compared) says head told =
+    let all = told.judged in
+    record {
+      judged = judged_capture options text before left after policy order told.totals says head all;
+      written = subst (λ (t : Totals). Appends old new (told_of expectations all.verdicts t)) (totals_same all) told.written;
+      met = told.met ∙ ap (are_met expectations all.verdicts) (totals_same all);
+      cut = told.cut ∙ ap (λ (t : Totals). t.truncated) all.counted ∙ sym (alone_truncated (length all.packets) all.truncated);
+    }
+expecting_ends options text expectations before left after old new policy order (Err found) says head (inl why) = inr (inl (
+  record {
+    policy = policy;
+    says = says;
+    header = head.header;
+    order = order;
+    right = head.headed.right;
+    whole = head.whole;
+    left = left;
+    consumed = head.consumed;
+  },
+  why,
+))
+expecting_ends options text expectations before left after old new policy order (Err found) says head (inr cut) =
+    let all = cut.judged in
+    inr (inr (record {
+      failed = cut.failed;
+      ended = all.ended;
+      judged = judged_capture options text before left after policy order cut.totals says head all;
+      front = subst (λ (t : Totals). GotFront old new (told_of expectations all.verdicts t)) (totals_same all) cut.front;
+    }))

@@ -1,0 +1,100 @@
+-- What was judged of captures of interfaces that come apart, and the report on it.
+use Rattle.std.proofs.Common.{◌≡◌, ◌≢◌, ◌∙◌, ◌≤◌, ◌⊎◌, ◌+◌, ◌++◌, ℕ, List, [], Option, None, Result, Ok, Err, IfOk, length, refl, sym, ap, ap₂, subst, inl, inr}
+use Rattle.packet_view.specs.Captures.{PacketFacts}
+use Rattle.acl_policy.specs.Policies.{IsPolicyFault, IsPolicyText, PolicyFacts}
+use Rattle.acl_policy.specs.declared.policy.PolicyFault.{PolicyFault}
+use Rattle.acl_policy.specs.declared.policy.PolicyFault.TheVariants as policy
+use Rattle.flow_dealing.specs.WorkerRecords.{HavePages}
+use Rattle.flow_filter.proofs.OneThreadLemmas.{one_verdicts}
+use Rattle.racl_options.specs.declared.settings.Options.{Options}
+use Rattle.racl_io.specs.declared.fault.Fault.{Fault}
+use Rattle.racl_io.specs.declared.fault.Fault.TheVariants.{Memory, Write}
+use Rattle.racl_io.specs.declared.totals_and_truncation.Captured.{Captured}
+use Rattle.racl_io.specs.declared.totals_and_truncation.Totals.{Totals}
+use Rattle.racl_io.specs.Faults.{policy_fault}
+use Rattle.racl_io.specs.Inputs.{most_bytes}
+use Rattle.racl_views.specs.RunEntries.{RunFacts}
+use Rattle.racl_views.specs.Stored.{StoredFacts}
+use Rattle.racl_views.specs.declared.capture_bytes.CaptureBytes.{CaptureBytes}
+use Rattle.racl_report.specs.InterfaceInputs.{AreAllBytes, AreTakenApart, IsFaultApart, IsFaultBehind, bytes_in, placeless}
+use Rattle.racl_report.specs.declared.placed_fault.PlacedFault.{PlacedFault}
+use Rattle.racl_report.specs.RunReports.{JudgedFacts, Outcome, sessions_behind, told_facts}
+use Rattle.racl_report.specs.WrittenReports.{HasTold}
+use Rattle.racl_report.proofs.InterfaceLaws.{fault_not_write, found_at, no_fault_apart, one_fault_apart, one_read_apart}
+use Rattle.racl_report.proofs.ViewLemmas.{outcome_of}
+use Rattle.racl_runs.specs.InterfaceRuns.{HasOutcomeApart, HasRunApart, IsSystemApart}
+use Rattle.racl_runs.specs.Reads.{IsReached}
+use Rattle.racl_runs.specs.Runs.{AgeInTime, ByOneThread, layout_for}
+
+-- a run on them has the outcome of the one-thread filter, where no verdict says no-pages and ageing is in time
+pub one_outcome_apart : (text : List ℕ) (captures : List CaptureBytes) → AreAllBytes captures → (options : Options) (old new : Option (List ℕ)) (totals : Totals) (outcome : Outcome) (run : HasRunApart options text captures old new totals)
+    → HasOutcomeApart options.tables options.times text captures outcome → HavePages run.judged.outcome.verdicts → AgeInTime run.reached.by_workers
+    → outcome ≡ run.judged.outcome
+one_outcome_apart text captures fit options old new totals outcome run has paged in_time =
+    let same = one_read_apart text captures fit run.policy has.policy run.packets has.packets run.judged.outcome.captures outcome.captures run.read has.read in
+    let verdicts = run.judged.outcome.verdicts in
+    let here : ByOneThread options.tables options.times has.policy has.packets verdicts =
+    subst (λ ps. ByOneThread options.tables options.times has.policy ps verdicts) same.1.0
+    (subst (λ p. ByOneThread options.tables options.times p run.packets verdicts) same.0 (run.reached.by_one_thread paged in_time)) in
+    ap₂ outcome_of (one_verdicts (layout_for options.tables) options.times has.policy has.packets outcome.verdicts verdicts has.verdicts here) (sym same.1.1)
+
+-- the report on what was judged of a text and captures
+pub has_run_apart : (options : Options) (text : List ℕ) (captures : List CaptureBytes) (policy : PolicyFacts) (packets : List PacketFacts) (told : List Captured) (judged : JudgedFacts)
+    (run : RunFacts) (stored : StoredFacts) (old new : Option (List ℕ)) (result : Result Totals Fault) → length text + bytes_in captures ≤ most_bytes → IsPolicyText text policy
+    → AreTakenApart [] captures packets told → IsReached options policy packets told judged → run ≡ told_facts policy text packets judged.outcome options.shown
+    → stored ≡ judged.stored → (IsPolicyText run.text run.policy → IfOk result (HasTold options run stored old new)) → IfOk result (HasRunApart options text captures old new)
+has_run_apart options text captures policy packets told judged run stored old new (Ok totals) few says taken reached made stood tells =
+    let here = subst (λ (r : RunFacts). IsPolicyText r.text r.policy → HasTold options r stored old new totals) made tells says in
+    let has = subst (λ (s : StoredFacts). HasTold options (told_facts policy text packets judged.outcome options.shown) s old new totals) stood here in
+    record {
+      policy = policy;
+      packets = packets;
+      judged = judged;
+      read = record { few = few; says = says; taken = subst (λ (cs : List Captured). AreTakenApart [] captures packets cs) (sym reached.told) taken };
+      reached = record { by_workers = reached.by_workers; kept = reached.kept; by_one_thread = reached.by_one_thread; told = refl };
+      report = has.lines ++ (has.hits ++ sessions_behind options judged.stored);
+      told = record { lines = has.lines; are = has.are; hits = has.hits; told = has.told; all = refl };
+      written = has.text;
+      counted = has.counted;
+    }
+has_run_apart options text captures policy packets told judged run stored old new (Err fault) few says taken reached made stood tells = tt
+
+-- ---- which fault is answered
+
+-- a policy that is refused for a cause or since memory ran out
+pub wrong_policy : (text : List ℕ) (captures : List CaptureBytes) (cause : PolicyFault) (fault : Fault) → fault ≡ policy_fault cause
+    → (cause ≢ policy.Memory → IsPolicyFault text cause) → (found_at fault None ≡ placeless Memory) ⊎ IsFaultApart text captures (found_at fault None)
+wrong_policy text captures policy.Memory fault same is = inl (ap (λ (f : Fault). placeless f) same)
+wrong_policy text captures policy.NotUtf8 fault same is = inr (inl (policy.NotUtf8, is (λ e. cc), ap (λ (f : Fault). placeless f) same))
+wrong_policy text captures (policy.BadLine number) fault same is = inr (inl (policy.BadLine number, is (λ e. cc), ap (λ (f : Fault). placeless f) same))
+wrong_policy text captures (policy.TooMany number) fault same is = inr (inl (policy.TooMany number, is (λ e. cc), ap (λ (f : Fault). placeless f) same))
+
+-- captures that are refused behind a right policy
+pub wrong_captures : (text : List ℕ) (captures : List CaptureBytes) (policy : PolicyFacts) (found : PlacedFault) → IsPolicyText text policy
+    → (found ≡ placeless Memory) ⊎ IsFaultBehind 0 [] captures found → (found ≡ placeless Memory) ⊎ IsFaultApart text captures found
+wrong_captures text captures policy found says (inl memory) = inl memory
+wrong_captures text captures policy found says (inr behind) = inr (inr (policy, says, behind))
+
+-- what is answered of text and captures with a fault
+module _ (text : List ℕ) (captures : List CaptureBytes) (fit : AreAllBytes captures) (found : PlacedFault) (is : (found ≡ placeless Memory) ⊎ IsFaultApart text captures found) where
+  pub fault_of_system : (found ≡ placeless Memory) ⊎ IsFaultApart text captures found → IsSystemApart found ⊎ IsFaultApart text captures found
+  fault_of_system (inl memory) = inl (inl memory)
+  fault_of_system (inr of) = inr of
+
+  pub right_is_not_faulty : (options : Options) (outcome : Outcome) → HasOutcomeApart options.tables options.times text captures outcome → IsSystemApart found
+  right_is_not_faulty options outcome has = elim is [
+    | inl memory ↦ inl memory
+    | inr of ↦ absurd (no_fault_apart text captures fit has.policy has.packets outcome.captures found has.read.says has.read.taken of)
+  ]
+
+  pub fault_is_only : (cause : PlacedFault) → IsFaultApart text captures cause → (found ≡ cause) ⊎ (found ≡ placeless Memory)
+  fault_is_only cause of = elim is [
+    | inl memory ↦ inr memory
+    | inr own ↦ inl (one_fault_apart text captures fit found cause own of)
+  ]
+
+  pub no_failed_write : found ≡ placeless Write → ⊥
+  no_failed_write same = elim is [
+    | inl memory ↦ let e : placeless Memory ≡ placeless Write = sym memory ∙ same in let f : Memory ≡ Write = ap (λ (p : PlacedFault). p.fault) e in cc
+    | inr of ↦ fault_not_write text captures fit found of same
+  ]

@@ -1,0 +1,146 @@
+-- A run over the packets of one shard of a capture, which is told while it is read (this project's profile).
+use Rattle.std.specs.Prelude.{◌≡◌, ◌≢◌, ◌⊎◌, ◌++◌, ℕ, Bool, List, Option, Result, IfSome, MatchResult, length}
+use Rattle.std.specs.Io.KnownBytes.{Appends, Consumes, IsAtEnd}
+use Rattle.packet_view.specs.Captures.{AreRecords, IsCaptureAt, IsEnd, PacketFacts, RecordFacts, end_of, packets_at}
+use Rattle.packet_view.specs.declared.capture.Order.{Order}
+use Rattle.acl_policy.specs.Policies.{IsPolicyText, PolicyFacts}
+use Rattle.session_state.specs.declared.verdict.Verdict.{Verdict}
+use Rattle.racl_options.specs.ShardWords.{ShardFacts}
+use Rattle.racl_options.specs.declared.settings.Options.{Options}
+use Rattle.racl_io.specs.declared.fault.Fault.{Fault}
+use Rattle.racl_io.specs.declared.fault.Fault.TheVariants.{Write}
+use Rattle.racl_io.specs.declared.totals_and_truncation.Totals.{Totals}
+use Rattle.racl_io.specs.Reports.{totals_of}
+use Rattle.racl_io.specs.Sinks.{GotFront}
+use Rattle.racl_io.specs.Tellings.{Wording, told_alone}
+use Rattle.capture_stream.specs.Lives.{HaveFailed, IsLiveFault}
+use Rattle.capture_stream.specs.Savings.{Manner, Outputs}
+use Rattle.capture_shards.specs.Sharing.{IsSpread, lines_at, own_numbers, shard_wording}
+use Rattle.capture_shards.specs.Shards.{IsOwnOf, Own, own_packets}
+use Rattle.racl_runs.specs.LiveRuns.{AreFirstVerdicts, HasHead, IsEarlyFault, IsToldBehind, TellsAsAsked}
+use Rattle.racl_runs.specs.Runs.{layout_for}
+use Rattle.racl_runs.specs.ShardSaves.{HaveSavedOwn, SavesOwn}
+use Rattle.racl_report.specs.declared.saved_packets.Saves.{Saves}
+
+-- these packets are the shard's, over tables of the size that the words ask for
+abbrev pub AreOwn : Options → ShardFacts → Own → Type 0
+AreOwn options shard own = IsOwnOf (layout_for options.tables) shard.count shard.number own
+
+-- what is told of one's own packets, with their numbers among all
+abbrev pub own_lines : Wording → Own → List PacketFacts → List Verdict → List ℕ
+own_lines wording own packets verdicts = lines_at wording (own_numbers own 1 packets) (own_packets own 1 packets) verdicts
+
+-- The workers gave these verdicts on one's own packets, as in a run on a capture of these alone; this stands behind their totals,
+-- and all that is told are the lines of these packets, and what stands behind.
+pub record IsOwnReport (options : Options) (text : List ℕ) (wording : Wording) (policy : PolicyFacts) (own : Own) (packets : List PacketFacts) (truncated : Bool)
+    (totals : Totals) (report : List ℕ) : Type 0 where
+  pub verdicts : List Verdict
+  pub behind : List ℕ
+  pub told : IsToldBehind options text policy (own_packets own 1 packets) verdicts behind
+  pub counted : totals ≡ totals_of verdicts (told_alone (length (own_packets own 1 packets)) truncated)
+  pub all : report ≡ own_lines wording own packets verdicts ++ (wording.end totals ++ behind)
+
+-- all of a capture behind its header was read, and this is the report on one's own packets
+pub record IsOwnReportBehind (options : Options) (text : List ℕ) (wording : Wording) (policy : PolicyFacts) (own : Own) (order : Order)
+    (before after : Option (List ℕ)) (totals : Totals) (report : List ℕ) : Type 0 where
+  pub read : List ℕ
+  pub consumed : Consumes before after read
+  pub ended : IsAtEnd after
+  pub packets : List RecordFacts
+  pub rest : List ℕ
+  pub records : AreRecords order read packets rest
+  pub truncated : Bool
+  pub end : IsEnd order rest (end_of truncated)
+  pub is : IsOwnReport options text wording policy own (packets_at 0 packets) truncated totals report
+
+-- a write failed behind a front of it
+pub record HasCutOwn (options : Options) (text : List ℕ) (wording : Wording) (policy : PolicyFacts) (own : Own) (order : Order)
+    (before after old new : Option (List ℕ)) (fault : Fault) : Type 0 where
+  pub failed : fault ≡ Write
+  pub totals : Totals
+  pub report : List ℕ
+  pub is : IsOwnReportBehind options text wording policy own order before after totals report
+  pub front : GotFront old new report
+
+-- or it was written, and what saves packets was given all records
+pub record HasToldOwn {K : Type 0} (options : Options) (text : List ℕ) (manner : Manner K) (policy : PolicyFacts) (own : Own) (order : Order)
+    (before after : Option (List ℕ)) (old new : Outputs K) (totals : Totals) : Type 0 where
+  pub report : List ℕ
+  pub is : IsOwnReportBehind options text manner.wording policy own order before after totals report
+  pub written : Appends old.report new.report report
+  pub whole : List ℕ
+  pub spelt : is.read ≡ whole ++ is.rest
+  pub verdicts : List Verdict
+  pub spread : IsSpread own 1 (packets_at 0 is.packets) is.is.verdicts verdicts
+  pub saved : manner.saved old.saver order whole verdicts new.saver
+
+-- What workers handed over of one's own packets, who go on, put at the places of these.
+pub record AreFirstOwn (T : Type 0) (options : Options) (own : Own) (policy : PolicyFacts) (packets : List PacketFacts) (verdicts : List Verdict) : Type 0 where
+  pub said : List Verdict
+  pub first : AreFirstVerdicts T options policy (own_packets own 1 packets) said
+  pub spread : IsSpread own 1 packets said verdicts
+
+-- one's own packets are told in these words
+abbrev pub own_manner : {K : Type 0} → Own → Manner K → Manner K
+own_manner own manner = record { wording = shard_wording own manner.wording; saved = manner.saved }
+
+-- why not all of them were told, before the totals
+abbrev pub IsOwnFault : {K : Type 0} → Type 0 → Options → Manner K → PolicyFacts → Own → Order → Option (List ℕ) → Option (List ℕ) → Outputs K → Outputs K
+    → Fault → Type 0
+IsOwnFault T options manner policy own order before after old new fault =
+    IsLiveFault (AreFirstOwn T options own) (own_manner own manner) policy order before after old new fault
+
+abbrev pub TellsOwn : {K : Type 0} → Type 0 → Options → List ℕ → Manner K → PolicyFacts → Own → Order → Option (List ℕ) → Option (List ℕ) → Outputs K → Outputs K
+    → Result Totals Fault → Type 0
+TellsOwn T options text manner policy own order before after old new result =
+    MatchResult result (HasToldOwn options text manner policy own order before after old new)
+    (λ fault. IsOwnFault T options manner policy own order before after old new fault
+    ⊎ HasCutOwn options text manner.wording policy own order before after old.report new.report fault)
+
+-- The source's bytes are a capture, and this is the report on its packets of the shard.
+pub record IsShardReport (options : Options) (shard : ShardFacts) (text : List ℕ) (given : Option (List ℕ)) (totals : Totals) (report : List ℕ) : Type 0 where
+  pub policy : PolicyFacts
+  pub says : IsPolicyText text policy
+  pub bytes : List ℕ
+  pub known : IfSome given (λ known. bytes ≡ known)
+  pub packets : List PacketFacts
+  pub truncated : Bool
+  pub records : IsCaptureAt 0 bytes packets (end_of truncated)
+  pub own : Own
+  pub mine : AreOwn options shard own
+  pub wording : Wording
+  pub tells : TellsAsAsked options text policy wording
+  pub is : IsOwnReport options text wording policy own packets truncated totals report
+
+-- and it was written, and the shard's packets were saved that it says are dropped, and that pass
+pub record HasRunShard {S : Type 0} (sink : S → Option (List ℕ)) (options : Options) (shard : ShardFacts) (text : List ℕ) (given : Option (List ℕ))
+    (old new : Outputs (Saves S)) (totals : Totals) : Type 0 where
+  pub report : List ℕ
+  pub is : IsShardReport options shard text given totals report
+  pub written : Appends old.report new.report report
+  pub records : List RecordFacts
+  pub saved : HaveSavedOwn sink is.own is.bytes records is.is.verdicts old.saver new.saver
+
+-- or a write failed behind a front of it, when all was read
+pub record HasCutShard (options : Options) (shard : ShardFacts) (text : List ℕ) (given after old new : Option (List ℕ)) (fault : Fault) : Type 0 where
+  pub failed : fault ≡ Write
+  pub ended : IsAtEnd after
+  pub totals : Totals
+  pub report : List ℕ
+  pub is : IsShardReport options shard text given totals report
+  pub front : GotFront old new report
+
+-- Why the report isn't whole: nothing was written, nor saved unless a write failed; or the first lines were, and so were the
+-- packets of the shard that they tell, as a capture that ends there; or a front of the report.
+abbrev pub IsShardFault : {S : Type 0} → Type 0 → (S → Option (List ℕ)) → Options → ShardFacts → List ℕ → Option (List ℕ) → Option (List ℕ) → Outputs (Saves S)
+    → Outputs (Saves S) → Fault → Type 0
+IsShardFault T sink options shard text before after old new fault =
+    (IsEarlyFault text before after fault × (new.report ≡ old.report) × (fault ≢ Write → new.saver ≡ old.saver))
+    ⊎ ((head : HasHead text before) × (wording : Wording) × TellsAsAsked options text head.policy wording × (own : Own) × AreOwn options shard own
+    × IsOwnFault T options (record { wording = wording; saved = SavesOwn sink own head.header }) head.policy own head.order head.left after old new fault)
+    ⊎ HasCutShard options shard text before after old.report new.report fault
+
+-- where a write's fault is answered a report's device or what saves packets failed once, and else neither did
+abbrev pub HasFailedOnce : Result Totals Fault → ℕ → ℕ → ℕ → ℕ → Type 0
+HasFailedOnce result written writing saved saving =
+    MatchResult result (λ totals. (writing ≡ written) × (saving ≡ saved)) (HaveFailed written writing saved saving)

@@ -1,0 +1,27 @@
+-- The end of a run over a capture that was told while it came.
+use Rattle.std.specs.Prelude.{◌≡◌, List}
+use Rattle.packet_view.specs.Captures.{PacketFacts}
+use Rattle.acl_policy.specs.Policies.{IsPolicyText, policy_facts}
+use Rattle.session_state.specs.declared.verdict.Verdict.{Verdict}
+use Rattle.racl_views.specs.declared.hit_counts.HitCounts.{HitCounts}
+use Rattle.racl_runs.specs.Crews.{AreAsAsked, HaveEndedCounting, Orders, cuts_four, orders_for}
+use Rattle.racl_runs.specs.LiveRuns.{ages_in}
+use Rattle.racl_runs.specs.declared.live_run.LiveHead.{LiveHead}
+use Rattle.racl_runs.specs.declared.live_run.LiveWay.{LiveWay}
+use Rattle.racl_runs.specs.declared.sized_tables_and_workers.SizedCallers.{SizedCallers}
+use Rattle.racl_runs.specs.declared.sized_tables_and_workers.SizedTables.{SizedTables}
+
+-- what a live run goes by, without its capture
+abbrev pub way_in : LiveHead → LiveWay
+way_in head = record { options = head.options; text = head.text; filter = head.filter }
+
+-- what stands behind the totals may be told: the workers over these tables have ended, whose verdicts and counts these
+-- are
+pub record MayTellBehind (way : LiveWay) (tables : SizedTables) (packets : List PacketFacts) (said : List Verdict) (counts : HitCounts)
+    (callers : SizedCallers) : Type 0 where
+  pub says : IsPolicyText way.text.now (policy_facts way.filter.now.policy.now)
+  pub times : way.filter.now.times ≡ way.options.now.times
+  pub asked : AreAsAsked way.options.now.tables (ages_in way.options.now) tables
+  pub orders : Orders
+  pub given : orders ≡ orders_for tables way.filter.now way.options.now.workers (cuts_four tables)
+  pub ended : HaveEndedCounting orders way.options.now.hits packets said counts callers

@@ -1,0 +1,193 @@
+//! One run over captures of several interfaces, which are told while they come.
+ghost use Rattle.std.specs.Prelude.{◌≡◌, ◌-◌, ◌<◌, ◌^◌, ◌++◌, IfErr, IfOk, MatchResult, None};
+ghost use Rattle.acl_policy.specs.Policies.{IsPolicyText, policy_facts};
+ghost use Rattle.racl_io.specs.Tellings.{HasToldText, Wording, with_write};
+ghost use Rattle.racl_io.specs.declared.fault.Fault.TheVariants.{Read};
+ghost use Rattle.racl_report.specs.CapturesEnds.{captures_end};
+ghost use Rattle.capture_stream.specs.Arrivals.{HaveAllEnded};
+ghost use Rattle.capture_stream.specs.Lives.{with_read};
+ghost use Rattle.racl_runs.specs.LiveInterfaceRuns.{HasRunComing, IsComingRunFault, TellsComing, TellsNamed};
+
+use crate::counted_judging::Counted;
+use crate::live_run::{EXPECTED, LiveAsked, LiveWay, ages_early, told_behind_live};
+use crate::sized_tables_and_workers::{Manner, SizedWorkers, create_sized};
+use crate::workers_as_judges::HandingCrew;
+use acl_policy::read_policy;
+use capture_stream::{Arrivals, FaultAt, ToldArrivals, tell_arrivals};
+use flow_workers::Filter;
+use racl_io::{Captured, Fault, NamedLines, Sink, Teller, Totals};
+use racl_options::Lines;
+use racl_report::{Behind, write_behind, write_captures_end};
+use racl_views::{ExplainedLines, HitCounts, ObjectLines};
+use std::alloc::Global;
+use std::sync::Wait;
+use std::thread::Threads;
+
+// A fault that is of no capture.
+fn placeless(fault: Fault) -> FaultAt
+    ensures { (result.fault ≡ fault) × (result.interface ≡ None) }
+{
+    FaultAt {
+        fault,
+        interface: None,
+    }
+}
+
+// Of captures that have ended what stands behind the lines of their packets is told.
+fn tell_end_of_captures<W: Sink>(
+    alloc: Global,
+    writer: &mut W,
+    lines: Lines,
+    cuts: &[Captured],
+    totals: &Totals,
+    behind: &Behind,
+) -> Result<(), Fault>
+    requires { W.failures writer.old < 2 ^ 64 - 1 }
+    ensures { HasToldText W.bytes W.failures writer.old writer.new (captures_end lines cuts.now totals.now ++ (behind.now.hits.items ++ behind.now.sessions.items)) result }
+{
+    match write_captures_end(alloc, writer, lines, cuts, totals) {
+        Ok(()) => write_behind(writer, behind),
+        Err(fault) => Err(fault),
+    }
+}
+
+// In a live run on several interfaces workers judge the packets of all captures, and they are told, while they come. The tables cut
+// blocks, as sessions that have ended are removed.
+fn tell_captures<L: Teller, A: Arrivals, W: Sink, T: Threads + Wait + Sync>(
+    rt: &T,
+    alloc: Global,
+    way: LiveWay<'_, '_>,
+    arrivals: &mut A,
+    writer: &mut W,
+    teller: &mut L,
+) -> Result<Totals, FaultAt>
+    requires says { IsPolicyText way.text.now (policy_facts way.filter.now.policy.now) }
+    requires sound { (way.filter.now.times ≡ way.options.now.times) × (A.failures arrivals.old < 2 ^ 64 - 1) × (W.failures writer.old < 2 ^ 64 - 1) }
+    ensures told { TellsComing T way.entry.options.now way.entry.text.now (L.wording teller.old) (policy_facts way.entry.filter.now.policy.now)
+        (A.parts arrivals.old) (A.parts arrivals.new) (W.bytes writer.old) (W.bytes writer.new) result }
+    ensures left { IfOk result (λ _. HaveAllEnded (A.left arrivals.new)) }
+    ensures whose { IfErr result (λ found. found.fault ≡ Read → found.interface ≡ A.unread arrivals.new) }
+    ensures read { MatchResult result (λ _. A.failures arrivals.new ≡ A.failures arrivals.old) (λ found. A.failures arrivals.new ≡ with_read (A.failures arrivals.old) found.fault) }
+    ensures write { MatchResult result (λ _. W.failures writer.new ≡ W.failures writer.old) (λ found. W.failures writer.new ≡ with_write (W.failures writer.old) found.fault) }
+{
+    let ages = ages_early(way.options);
+    let Ok((tables, callers)) = create_sized(alloc, way.options.tables, ages) else {
+        return Err(placeless(Fault::Memory));
+    };
+    let manner = Manner {
+        filter: way.filter,
+        workers: way.options.workers,
+    };
+    let Ok(workers) = SizedWorkers::new(rt, alloc, manner, &tables, callers) else {
+        return Err(placeless(Fault::Memory));
+    };
+    let counts = HitCounts::new(alloc);
+    let judges = Counted {
+        crew: HandingCrew { alloc, workers },
+        policy: way.filter.policy,
+        asked: way.options.hits,
+        counts,
+    };
+    let told = match tell_arrivals(alloc, arrivals, writer, teller, judges) {
+        Ok(told) => told,
+        Err(found) => return Err(found),
+    };
+    let ToldArrivals {
+        judges,
+        totals,
+        cuts,
+    } = told;
+    let Ok((counts, callers)) = judges.end(alloc) else {
+        return Err(placeless(Fault::Memory));
+    };
+    let Ok(behind) = told_behind_live(alloc, way, tables, &counts, callers) else {
+        return Err(placeless(Fault::Memory));
+    };
+    match tell_end_of_captures(alloc, writer, way.options.lines, &cuts, &totals, &behind) {
+        Ok(()) => Ok(totals),
+        Err(fault) => Err(placeless(fault)),
+    }
+}
+
+// In a live run on several interfaces packets are told in the form that is asked for.
+fn tell_captures_as_asked<A: Arrivals, W: Sink, T: Threads + Wait + Sync>(
+    rt: &T,
+    alloc: Global,
+    way: LiveWay<'_, '_>,
+    arrivals: &mut A,
+    writer: &mut W,
+) -> Result<Totals, FaultAt>
+    requires says { IsPolicyText way.text.now (policy_facts way.filter.now.policy.now) }
+    requires sound { (way.filter.now.times ≡ way.options.now.times) × (A.failures arrivals.old < 2 ^ 64 - 1) × (W.failures writer.old < 2 ^ 64 - 1) }
+    ensures told { let options = way.entry.options.now in let text = way.entry.text.now in let policy = policy_facts way.entry.filter.now.policy.now in (wording : Wording) × TellsNamed options text policy wording
+        × TellsComing T options text wording policy (A.parts arrivals.old) (A.parts arrivals.new) (W.bytes writer.old) (W.bytes writer.new) result }
+    ensures left { IfOk result (λ _. HaveAllEnded (A.left arrivals.new)) }
+    ensures whose { IfErr result (λ found. found.fault ≡ Read → found.interface ≡ A.unread arrivals.new) }
+    ensures read { MatchResult result (λ _. A.failures arrivals.new ≡ A.failures arrivals.old) (λ found. A.failures arrivals.new ≡ with_read (A.failures arrivals.old) found.fault) }
+    ensures write { MatchResult result (λ _. W.failures writer.new ≡ W.failures writer.old) (λ found. W.failures writer.new ≡ with_write (W.failures writer.old) found.fault) }
+{
+    let shown = way.options.shown;
+    let policy = way.filter.policy;
+    match way.options.lines {
+        Lines::Plain => match NamedLines::new(alloc, shown) {
+            Ok(mut lines) => tell_captures(rt, alloc, way, arrivals, writer, &mut lines),
+            Err(_) => Err(placeless(Fault::Memory)),
+        },
+        Lines::Explained => match ExplainedLines::naming(alloc, shown, policy, way.text) {
+            Ok(mut lines) => tell_captures(rt, alloc, way, arrivals, writer, &mut lines),
+            Err(_) => Err(placeless(Fault::Memory)),
+        },
+        Lines::Json => match ObjectLines::new(alloc, shown, policy, way.text) {
+            Ok(mut lines) => tell_captures(rt, alloc, way, arrivals, writer, &mut lines),
+            Err(_) => Err(placeless(Fault::Memory)),
+        },
+    }
+}
+
+/// Filters captures of several interfaces by a policy with this text while they come, and writes the report that the options ask
+/// for. Packets are judged and told in the order in which their records become whole, numbered over all captures, each with its
+/// interface; after each part of a capture what is told of the packets that it made whole. When all captures have ended come the
+/// captures that end within a record, in the order of their ends, the totals, and the hits and sessions that are asked for. As many
+/// workers as are asked for judge, who keep no verdict, but count, and remove sessions that have ended, so that captures may be of
+/// any length. A fault says of which interface's capture it is, where it is of one, and leaves what was written; but for Write no
+/// totals stand behind it.
+pub fn run_live_interfaces<A: Arrivals, W: Sink, T: Threads + Wait + Sync>(
+    rt: &T,
+    alloc: Global,
+    asked: LiveAsked<'_>,
+    arrivals: &mut A,
+    writer: &mut W,
+) -> Result<Totals, FaultAt>
+    requires arrivals { A.failures arrivals.old < 2 ^ 64 - 1 }
+    requires writer { W.failures writer.old < 2 ^ 64 - 1 }
+    ensures told { MatchResult result (HasRunComing asked.entry.options.now asked.entry.text.now (A.parts arrivals.old) (A.parts arrivals.new) (W.bytes writer.old) (W.bytes writer.new))
+        (IsComingRunFault T asked.entry.options.now asked.entry.text.now (A.parts arrivals.old) (A.parts arrivals.new) (W.bytes writer.old) (W.bytes writer.new)) }
+    ensures left { IfOk result (λ _. HaveAllEnded (A.left arrivals.new)) }
+    ensures whose { IfErr result (λ found. found.fault ≡ Read → found.interface ≡ A.unread arrivals.new) }
+
+    // A device's fault is answered where it failed, and it failed once.
+    ensures read { MatchResult result (λ _. A.failures arrivals.new ≡ A.failures arrivals.old) (λ found. A.failures arrivals.new ≡ with_read (A.failures arrivals.old) found.fault) }
+    ensures write { MatchResult result (λ _. W.failures writer.new ≡ W.failures writer.old) (λ found. W.failures writer.new ≡ with_write (W.failures writer.old) found.fault) }
+{
+    let LiveAsked { options, text } = asked;
+    let policy = match read_policy(alloc, text) {
+        Ok(policy) => policy,
+        Err(cause) => return Err(placeless(Fault::from(cause))),
+    };
+    let filter = Filter {
+        policy,
+        times: options.times,
+    };
+    let Ok(prepared) = filter.prepare(alloc, EXPECTED) else {
+        return Err(placeless(Fault::Memory));
+    };
+    let Ok(ready) = filter.ready_with(alloc, &prepared) else {
+        return Err(placeless(Fault::Memory));
+    };
+    let way = LiveWay {
+        options,
+        text,
+        filter: &ready,
+    };
+    tell_captures_as_asked(rt, alloc, way, arrivals, writer)
+}

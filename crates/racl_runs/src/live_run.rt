@@ -1,0 +1,274 @@
+//! One run over a capture that is told while it comes.
+ghost use Rattle.std.specs.Prelude.{[], ◌≡◌, ◌-◌, ◌<◌, ◌^◌, ◌++◌, if◌then◌else◌, IfOk, IfSome, List, MatchResult, None, Some, nat_lt};
+ghost use Rattle.packet_view.specs.Captures.{PacketFacts};
+ghost use Rattle.acl_policy.specs.Policies.{IsPolicyText, policy_facts};
+ghost use Rattle.session_state.specs.declared.verdict.Verdict.{Verdict};
+ghost use Rattle.racl_io.specs.Tellings.{HasToldText, Wording};
+ghost use Rattle.capture_stream.specs.Lives.{HaveFailed, with_read};
+ghost use Rattle.capture_stream.specs.Savings.{Outputs, manner_of, outputs};
+ghost use Rattle.racl_report.specs.declared.saved_packets.Saves.{Saves};
+ghost use Rattle.racl_runs.specs.LiveRuns.{HasRunLive, IsLiveRunFault, IsToldBehind, TellsAsAsked, TellsBehind, ages_in};
+ghost use Rattle.racl_runs.specs.LiveSaves.{failures_in};
+ghost use Rattle.racl_runs.specs.inner.LiveEnds.{MayTellBehind};
+
+use crate::capture_header_reading::keep_header;
+use crate::counted_judging::Counted;
+use crate::live_saves::LiveSaves;
+use crate::sized_tables_and_workers::{
+    MANY_PACKETS, Manner, SizedCallers, SizedTables, SizedWorkers, create_sized,
+};
+use crate::stored_sessions::{keeps_stored, stored_of};
+use crate::workers_as_judges::HandingCrew;
+use acl_policy::read_policy;
+use capture_stream::{Headed, Saver, ToldCapture, tell_live};
+use flow_filter::InterfaceFilters;
+use flow_workers::Filter;
+use packet_view::Order;
+use racl_io::{Fault, PlainLines, Sink, Source, Teller, Totals};
+use racl_options::{Lines, Options};
+use racl_report::{Behind, behind_totals, write_behind};
+use racl_views::{ExplainedLines, HitCounts, ObjectLines};
+use std::alloc::{AllocError, Global};
+use std::sync::Wait;
+use std::thread::Threads;
+
+/// For how many packets rules of a live run are prepared.
+pub const EXPECTED: usize = 16_777_216;
+
+/// What a live run is asked for: its options, and its policy's text.
+#[derive(Clone, Copy)]
+pub struct LiveAsked<'t> {
+    pub options: &'t Options,
+    pub text: &'t [u8],
+}
+
+/// What packets are judged by while they come, and told: options, a policy's text, and its rules, which are ready.
+#[derive(Clone, Copy)]
+pub struct LiveWay<'t, 'f> {
+    pub options: &'t Options,
+    pub text: &'t [u8],
+    pub filter: &'t InterfaceFilters<'f>,
+}
+
+/// What a live run on one capture goes by: its way, the order of the capture's numbers, and where it gets memory.
+#[derive(Clone, Copy)]
+pub struct LiveHead<'t, 'f> {
+    pub alloc: Global,
+    pub options: &'t Options,
+    pub text: &'t [u8],
+    pub filter: &'t InterfaceFilters<'f>,
+    pub order: Order,
+}
+
+/// What stands behind the totals of a live run whose workers have ended: with these counts, and these tables, which end.
+pub fn told_behind_live(
+    alloc: Global,
+    way: LiveWay<'_, '_>,
+    tables: SizedTables,
+    counts: &HitCounts,
+    callers: SizedCallers,
+) -> Result<Behind, AllocError>
+    requires { (packets : List PacketFacts) × (said : List Verdict) × MayTellBehind way tables packets said counts.now callers }
+    ensures { IfOk result (λ behind. (packets : List PacketFacts) (said : List Verdict) → MayTellBehind way.entry tables packets said counts.now callers
+        → IsToldBehind way.entry.options.now way.entry.text.now (policy_facts way.entry.filter.now.policy.now) packets said (behind.hits.items ++ behind.sessions.items)) }
+{
+    let stored = stored_of(alloc, keeps_stored(way.options), tables, callers)?;
+    behind_totals(alloc, way.options, way.text, counts, &stored)
+}
+
+/// Of a live run the totals are told, and what stands behind them.
+pub fn tell_end_behind<L: Teller, W: Sink>(
+    writer: &mut W,
+    teller: &mut L,
+    totals: &Totals,
+    behind: &Behind,
+) -> Result<(), Fault>
+    requires { W.failures writer.old < 2 ^ 64 - 1 }
+    ensures { HasToldText W.bytes W.failures writer.old writer.new ((L.wording teller.old).end totals.now ++ (behind.now.hits.items ++ behind.now.sessions.items)) result }
+{
+    match teller.tell_end(writer, totals) {
+        Ok(()) => write_behind(writer, behind),
+        Err(fault) => Err(fault),
+    }
+}
+
+/// Whether sessions that have ended are removed while packets come: in a live run, as it may never end, and where that is asked for.
+pub fn ages_early(options: &Options) -> bool
+    ensures { result ≡ ages_in options.now }
+{
+    options.live || options.ages
+}
+
+/// From how many packets of a read on threads pay for so many workers: never for one.
+pub fn many_for(workers: usize) -> Option<usize>
+    ensures { result ≡ if nat_lt 1 workers then Some 49152 else None }
+{
+    if workers > 1 {
+        Some(MANY_PACKETS)
+    } else {
+        None
+    }
+}
+
+// In a live run workers judge the packets of the capture behind its header, and they are told and saved, while they come. The
+// tables cut blocks where sessions that have ended are removed.
+fn tell_capture<L: Teller, K: Saver, R: Source, W: Sink, T: Threads + Wait + Sync>(
+    rt: &T,
+    head: LiveHead<'_, '_>,
+    reader: &mut R,
+    writer: &mut W,
+    teller: &mut L,
+    saver: &mut K,
+) -> Result<Totals, Fault>
+    requires says { IsPolicyText head.text.now (policy_facts head.filter.now.policy.now) }
+    requires sound { (head.filter.now.times ≡ head.options.now.times) × (R.failures reader.old < 2 ^ 64 - 1) × (W.failures writer.old < 2 ^ 64 - 1) }
+    requires saves { K.saved saver.old head.order [] [] saver.old }
+    ensures told { TellsBehind T head.entry.options.now head.entry.text.now (manner_of (L.wording teller.old) K.saved) (policy_facts head.entry.filter.now.policy.now) head.entry.order
+        (R.bytes reader.old) (R.bytes reader.new) (outputs (W.bytes writer.old) saver.old) (outputs (W.bytes writer.new) saver.new) result }
+    ensures read { MatchResult result (λ _. R.failures reader.new ≡ R.failures reader.old) (λ fault. R.failures reader.new ≡ with_read (R.failures reader.old) fault) }
+    ensures write { MatchResult result (λ _. (W.failures writer.new ≡ W.failures writer.old) × (K.failures saver.new ≡ K.failures saver.old))
+        (λ fault. HaveFailed (W.failures writer.old) (W.failures writer.new) (K.failures saver.old) (K.failures saver.new) fault) }
+{
+    let alloc = head.alloc;
+    let ages = ages_early(head.options);
+    let Ok((tables, callers)) = create_sized(alloc, head.options.tables, ages) else {
+        return Err(Fault::Memory);
+    };
+    let manner = Manner {
+        filter: head.filter,
+        workers: head.options.workers,
+    };
+    let Ok(workers) = SizedWorkers::new(rt, alloc, manner, &tables, callers) else {
+        return Err(Fault::Memory);
+    };
+    let counts = HitCounts::new(alloc);
+    let judges = Counted {
+        crew: HandingCrew { alloc, workers },
+        policy: head.filter.policy,
+        asked: head.options.hits,
+        counts,
+    };
+    let headed = Headed {
+        judges,
+        order: head.order,
+        many: many_for(head.options.workers),
+    };
+    let told = match tell_live(alloc, reader, writer, teller, saver, headed) {
+        Ok(told) => told,
+        Err(fault) => return Err(fault),
+    };
+    let ToldCapture { judges, totals } = told;
+    let Ok((counts, callers)) = judges.end(alloc) else {
+        return Err(Fault::Memory);
+    };
+    let way = LiveWay {
+        options: head.options,
+        text: head.text,
+        filter: head.filter,
+    };
+    let Ok(behind) = told_behind_live(alloc, way, tables, &counts, callers) else {
+        return Err(Fault::Memory);
+    };
+    match tell_end_behind(writer, teller, &totals, &behind) {
+        Ok(()) => Ok(totals),
+        Err(fault) => Err(fault),
+    }
+}
+
+// In a live run packets are told in the form that is asked for, and saved.
+fn tell_as_asked<K: Saver, R: Source, W: Sink, T: Threads + Wait + Sync>(
+    rt: &T,
+    head: LiveHead<'_, '_>,
+    reader: &mut R,
+    writer: &mut W,
+    saver: &mut K,
+) -> Result<Totals, Fault>
+    requires says { IsPolicyText head.text.now (policy_facts head.filter.now.policy.now) }
+    requires times { head.filter.now.times ≡ head.options.now.times }
+    requires sound { (R.failures reader.old < 2 ^ 64 - 1) × (W.failures writer.old < 2 ^ 64 - 1) }
+    requires saves { K.saved saver.old head.order [] [] saver.old }
+    ensures told { let options = head.entry.options.now in let text = head.entry.text.now in let policy = policy_facts head.entry.filter.now.policy.now in (wording : Wording) × TellsAsAsked options text policy wording
+        × TellsBehind T options text (manner_of wording K.saved) policy head.entry.order (R.bytes reader.old) (R.bytes reader.new) (outputs (W.bytes writer.old) saver.old) (outputs (W.bytes writer.new) saver.new) result }
+    ensures read { MatchResult result (λ _. R.failures reader.new ≡ R.failures reader.old) (λ fault. R.failures reader.new ≡ with_read (R.failures reader.old) fault) }
+    ensures write { MatchResult result (λ _. (W.failures writer.new ≡ W.failures writer.old) × (K.failures saver.new ≡ K.failures saver.old))
+        (λ fault. HaveFailed (W.failures writer.old) (W.failures writer.new) (K.failures saver.old) (K.failures saver.new) fault) }
+{
+    let alloc = head.alloc;
+    let shown = head.options.shown;
+    let policy = head.filter.policy;
+    let text = head.text;
+    match head.options.lines {
+        Lines::Plain => match PlainLines::new(alloc, shown) {
+            Ok(mut lines) => tell_capture(rt, head, reader, writer, &mut lines, saver),
+            Err(_) => Err(Fault::Memory),
+        },
+        Lines::Explained => match ExplainedLines::new(alloc, shown, policy, text) {
+            Ok(mut lines) => tell_capture(rt, head, reader, writer, &mut lines, saver),
+            Err(_) => Err(Fault::Memory),
+        },
+        Lines::Json => match ObjectLines::new(alloc, shown, policy, text) {
+            Ok(mut lines) => tell_capture(rt, head, reader, writer, &mut lines, saver),
+            Err(_) => Err(Fault::Memory),
+        },
+    }
+}
+
+/// Filters a capture by a policy with this text while it comes, and writes the report that the options ask for: after each read
+/// what is told of all packets whose records were read whole, and at its end what stands behind them: the totals, and the hits
+/// and sessions that are asked for. Where files are given for packets that are dropped or pass, each gets them as a capture,
+/// after each read too. As many workers as are asked for judge, who keep no verdict, but count, and remove sessions that have
+/// ended, so that a capture may be of any length. A fault leaves what was written and saved; but for Write neither totals nor hits stand behind
+/// it.
+pub fn run_live<R: Source, W: Sink, S: Sink, T: Threads + Wait + Sync>(
+    rt: &T,
+    alloc: Global,
+    asked: LiveAsked<'_>,
+    reader: &mut R,
+    writer: &mut W,
+    saves: &mut LiveSaves<S>,
+) -> Result<Totals, Fault>
+    requires reader { R.failures reader.old < 2 ^ 64 - 1 }
+    requires writer { W.failures writer.old < 2 ^ 64 - 1 }
+    requires files { IfSome saves.old.files.drops (λ file. S.failures file < 2 ^ 64 - 1) × IfSome saves.old.files.passes (λ file. S.failures file < 2 ^ 64 - 1) }
+    ensures told { let old : Outputs (Saves S) = record { report = W.bytes writer.old; saver = saves.old.files } in let new : Outputs (Saves S) = record { report = W.bytes writer.new; saver = saves.new.files } in
+        MatchResult result (HasRunLive S.bytes asked.entry.options.now asked.entry.text.now (R.bytes reader.old) old new)
+        (IsLiveRunFault T S.bytes asked.entry.options.now asked.entry.text.now (R.bytes reader.old) (R.bytes reader.new) old new) }
+
+    // A device's fault is answered where it failed, and it failed once.
+    ensures read { MatchResult result (λ _. R.failures reader.new ≡ R.failures reader.old) (λ fault. R.failures reader.new ≡ with_read (R.failures reader.old) fault) }
+    ensures write { MatchResult result (λ _. (W.failures writer.new ≡ W.failures writer.old) × (failures_in S.failures saves.new.files ≡ failures_in S.failures saves.old.files))
+        (λ fault. HaveFailed (W.failures writer.old) (W.failures writer.new) (failures_in S.failures saves.old.files) (failures_in S.failures saves.new.files) fault) }
+{
+    let LiveAsked { options, text } = asked;
+    let policy = match read_policy(alloc, text) {
+        Ok(policy) => policy,
+        Err(cause) => return Err(Fault::from(cause)),
+    };
+    let mut header = Vec::new(alloc);
+    let order = match keep_header(reader, &mut header) {
+        Ok(order) => order,
+        Err(fault) => return Err(fault),
+    };
+    let filter = Filter {
+        policy,
+        times: options.times,
+    };
+    let Ok(prepared) = filter.prepare(alloc, EXPECTED) else {
+        return Err(Fault::Memory);
+    };
+    let Ok(ready) = filter.ready_with(alloc, &prepared) else {
+        return Err(Fault::Memory);
+    };
+    match saves.begin(header.as_slice()) {
+        Ok(()) => {}
+        Err(fault) => return Err(fault),
+    }
+    let head = LiveHead {
+        alloc,
+        options,
+        text,
+        filter: &ready,
+        order,
+    };
+    tell_as_asked(rt, head, reader, writer, saves)
+}

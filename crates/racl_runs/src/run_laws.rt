@@ -1,0 +1,33 @@
+//! What the definitions of an input and its report say of all bytes at once.
+ghost use Rattle.std.specs.Prelude.{◌≡◌, ◌⊎◌, false, true, ℕ, List, Option};
+ghost use Rattle.packet_view.specs.Bytes.{AreBytes};
+ghost use Rattle.session_state.specs.declared.timeouts.Timeouts.{Timeouts};
+ghost use Rattle.flow_dealing.specs.WorkerRecords.{HavePages};
+ghost use Rattle.racl_options.specs.declared.settings.Options.{Options};
+ghost use Rattle.racl_options.specs.declared.settings.TableSize.{TableSize};
+ghost use Rattle.racl_io.specs.declared.fault.Fault.{Fault};
+ghost use Rattle.racl_io.specs.declared.totals_and_truncation.Totals.{Totals};
+ghost use Rattle.racl_io.specs.Faults.{IsInputFault};
+ghost use Rattle.racl_runs.specs.Runs.{HasOutcome, HasRun, keeps_stored, layout_for};
+ghost use Rattle.racl_report.specs.RunReports.{Outcome};
+ghost use Rattle.racl_runs.specs.StoredRuns.{AreLeftByOneThread};
+
+/// All bytes are an input whose run has one outcome, that of the one-thread filter, or have one fault, and never both.
+pub fn each_input_has_one_outcome()
+    ensures some { (size : TableSize) (times : Timeouts) (bytes : List ℕ) → ((outcome : Outcome) × HasOutcome size times bytes outcome)
+        ⊎ ((fault : Fault) × IsInputFault bytes fault) }
+    ensures one { (size : TableSize) (times : Timeouts) (bytes : List ℕ) (outcome other : Outcome) → AreBytes bytes
+        → HasOutcome size times bytes outcome → HasOutcome size times bytes other → outcome ≡ other }
+    ensures fault { (bytes : List ℕ) (fault other : Fault) → AreBytes bytes
+        → IsInputFault bytes fault → IsInputFault bytes other → fault ≡ other }
+    ensures apart { (size : TableSize) (times : Timeouts) (bytes : List ℕ) (outcome : Outcome) (fault : Fault) → AreBytes bytes
+        → HasOutcome size times bytes outcome → IsInputFault bytes fault → ⊥ }
+{}
+
+/// The sessions that are told of a run that doesn't age are those that the one-thread filter leaves, where no verdict says
+/// no-pages.
+pub fn told_sessions_are_those_of_one_thread()
+    ensures { (options : Options) (given old new : Option (List ℕ)) (totals : Totals) (run : HasRun options given old new totals)
+        → options.ages ≡ false → HavePages run.outcome.verdicts → keeps_stored options ≡ true
+        → AreLeftByOneThread (layout_for options.tables) options.times run.policy run.packets run.outcome.verdicts run.stored }
+{}

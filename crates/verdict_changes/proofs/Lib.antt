@@ -1,2 +1,0 @@
-pub mod ChangeLemmas
-pub mod CompareLemmas

@@ -1,4 +1,0 @@
-pub mod ChangeReports
-pub mod Changes
-pub mod Comparing
-pub mod inner

@@ -1,3 +1,0 @@
-pub mod ChangeLines
-pub mod Comparisons
-pub mod Totals
