@@ -1,7 +1,6 @@
 //! Captures of several interfaces that are told while they come.
 ghost use Rattle.std.specs.Prelude.{◌≡◌, ◌≤◌, IfErr, IfOk, None, Some, length};
 ghost use Rattle.racl_io.specs.declared.fault.Fault.TheVariants.{Memory};
-ghost use Rattle.capture_stream.specs.declared.arrival.Arrival.{Arrival};
 
 use super::DEFAULTS;
 use super::slow_and_failing_devices::trickling;
@@ -55,17 +54,13 @@ fn part(bytes: &[u8], start: usize, end: usize) -> &[u8]
 }
 
 // For tests of live runs: a part.
-fn arrived(
-    alloc: Global,
-    bytes: &[u8],
-    turn: &(u8, usize, usize),
-) -> Result<Option<Arrival>, FaultAt>
-    ensures some { IfOk result (λ found. (arrival : Arrival) × (found ≡ Some arrival) × (length arrival.bytes.items ≤ 65536)) }
+fn arrived(alloc: Global, bytes: &[u8], turn: &(u8, usize, usize)) -> Result<Arrival, FaultAt>
+    ensures few { IfOk result (λ arrival. length arrival.bytes.items ≤ 65536) }
     ensures fault { IfErr result (λ found. (found.fault ≡ Memory) × (found.interface ≡ None)) }
 {
     let (interface, start, end) = *turn;
     match Vec::from_slice(alloc, part(bytes, start, end)) {
-        Ok(bytes) => Ok(Some(Arrival { interface, bytes })),
+        Ok(bytes) => Ok(Arrival { interface, bytes }),
         Err(_) => Err(FaultAt {
             fault: Fault::Memory,
             interface: None,
@@ -90,7 +85,10 @@ impl Arrivals for Parted<'_> {
             return Ok(None);
         };
         self.turns = rest;
-        arrived(self.alloc, self.bytes, turn)
+        match arrived(self.alloc, self.bytes, turn) {
+            Ok(arrival) => Ok(Some(arrival)),
+            Err(found) => Err(found),
+        }
     }
 }
 
@@ -125,7 +123,10 @@ impl Arrivals for Unreadable<'_> {
             });
         };
         self.turns = rest;
-        arrived(self.alloc, self.bytes, turn)
+        match arrived(self.alloc, self.bytes, turn) {
+            Ok(arrival) => Ok(Some(arrival)),
+            Err(found) => Err(found),
+        }
     }
 }
 
