@@ -12,9 +12,9 @@ run() {
 }
 
 # Standard input, and each FIFO that a word names, the program reads through a pipe that an interrupt or a termination closes: it
-# then ends as at the end of its captures, with its totals. A second one kills it.
+# then ends as at the end of its captures, with its totals. A second one kills it. What it says of such a pipe names the FIFO.
 run_live() {
-    program=$1 room= pipes= feeders= input= before=
+    program=$1 room= pipes= names= feeders= input= before=
     shift
     for word in "$@"; do
         shift
@@ -23,6 +23,12 @@ run_live() {
         before=$word
     done
     [ -n "$input$pipes" ] || exec "$program" "$@"
+    teller=
+    if [ -n "$pipes" ] && mkfifo "$room/said"; then
+        sed -u "$names" <"$room/said" >&2 &
+        teller=$!
+        exec 2>"$room/said"
+    fi
     if [ -n "$input" ]; then
         make_room && mkfifo "$room/pipe" || exec "$program" "$@"
         exec 3<&0 4<>"$room/pipe"
@@ -48,6 +54,8 @@ run_live() {
     # a wait that a signal ended is begun again
     until wait_for_live; do :; done
     kill $feeders 2>/dev/null
+    exec 2>/dev/null
+    [ -z "$teller" ] || wait "$teller"
     rm -rf "$room"
     exit "$status"
 }
@@ -73,6 +81,7 @@ find_stream() {
     elif [ -p "$file" ] && make_room; then
         pipe=$room/$((${#pipes} + 1))
         mkdir "$pipe" && mkfifo "$pipe/${file##*/}" || return
+        names="${names}s|$pipe/|$(printf %s "${file%"${file##*/}"}" | sed 's/[\\&|]/\\&/g')|g;"
         pipe=$pipe/${file##*/} pipes=$pipes.
         cat "$file" >"$pipe" </dev/null &
         feeders="$feeders $!"

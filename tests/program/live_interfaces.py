@@ -6,7 +6,7 @@ import subprocess
 import threading
 
 from support.captures import CAPTURE, MOST_KEPT, NAMES, PUT_TOGETHER, header, record, records_of, udp
-from support.cases import SECONDS, Case, each, wanted
+from support.cases import SECONDS, TOP, Case, Program, bytes_of_file, each, wanted
 
 SECTIONS = b"interface 1\n" + NAMES + b"interface 2\n" + NAMES
 LONG = record(1, b"", MOST_KEPT + 1)
@@ -175,7 +175,9 @@ class LiveInterfaces(Case):
                     os.mkfifo(name)
                     words[1], path = f"1={name}", name
                     feeder = subprocess.Popen(["sh", "-c", 'cat "$1" >"$2"', "sh", f"{self.folder}/1", name], stderr=subprocess.DEVNULL)
-                got = self.program.run(["--live", *words, self.policy], env={**self.interrupting(), "FAILED_FILE": path, "FAILED_READ": fails})
+                # (the launcher reads a FIFO in the program's place)
+                program = Program(f"{TOP}/crates/racl/out/racl") if bytes_of_file(self.program.path)[:2] == b"#!" else self.program
+                got = program.run(["--live", *words, self.policy], env={**self.interrupting(), "FAILED_FILE": path, "FAILED_READ": fails})
                 if is_pipe:
                     feeder.kill()
                     feeder.wait()
