@@ -138,6 +138,15 @@ class Live(Case):
         got = self.program.run(["--live", "--passes", "/dev/full", self.hold("policy", NAMES), "-"], CAPTURE)
         self.compare(got, wanted(stderr="racl: /dev/full: No space left on device (os error 28)\n", status=4))
 
+    def test_what_was_saved_before_a_failure_stays(self):
+        capture = header() + udp(100, False, (3, 53), (1, 1000)) * 3_000
+        folder = f"{self.folder}/saved"
+        os.mkdir(folder)
+        words = ["--live", "--summary", "--drops", f"{folder}/drops", self.hold("policy", NAMES), self.hold("capture", capture)]
+        got = self.program.run(words, size=100_000)
+        there = {name: bytes_of_file(f"{folder}/{name}") for name in os.listdir(folder)}
+        self.compare({**got, "there": there}, {**wanted(stderr=f"racl: {folder}/drops: File too large (os error 27)\n", status=4), "there": {"drops.0.part": capture[:100_000]}})
+
     def test_one_file_twice(self):
         policy, held = self.hold("policy", NAMES), self.hold("capture", CAPTURE)
         got = self.program.run(["--live", "--drops", held, policy, held])

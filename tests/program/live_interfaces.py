@@ -188,6 +188,13 @@ class LiveInterfaces(Case):
                 if len(captures) == 1:
                     self.compare({"lines": got["stdout"].count(b"\n")}, {"lines": 0 if fails == "1" else len(ONE)})
 
+    def test_no_pages(self):
+        """A live run, which ages, isn't told to age."""
+        flows = [at(100, it, True, (1, it), (2, 53)) for it in range(40_000)]
+        got = self.live([(1, header() + b"".join(flows))], ["--summary"])
+        said = re.sub(rb"no-pages: \d+;", b"no-pages: N;", got["stderr"])
+        self.compare({"said": said, "status": got["status"]}, {"said": b"racl: packets dropped as no-pages: N; --tables large has room for more sessions\n", "status": 0})
+
     def test_a_folder(self):
         got = self.program.run(["--live", *self.words_of(BOTH[:1]), "--interface", f"2={self.folder}", self.policy])
         self.compare({"status": got["status"], "said": f"racl: {self.folder}: Is a directory (os error 21)\n" in got["stderr"].decode()}, {"status": 4, "said": True})

@@ -3,6 +3,7 @@ import fnmatch
 import os
 import re
 import resource
+import signal
 import subprocess
 import tempfile
 import unittest
@@ -25,10 +26,12 @@ class Program:
     def __init__(self, path):
         self.path = os.path.abspath(path)
 
-    def run(self, words=(), data=b"", memory=None, stack=None, **streams):
-        """Runs the program and gives what it wrote, said and ended with."""
+    def run(self, words=(), data=b"", memory=None, stack=None, size=None, **streams):
+        """Runs the program and gives what it wrote, said and ended with; no file may have more than `size` bytes."""
         def limit():
-            for kind, most in ((resource.RLIMIT_AS, memory), (resource.RLIMIT_STACK, stack)):
+            # (a write past the size of a file then fails)
+            signal.signal(signal.SIGXFSZ, signal.SIG_IGN)
+            for kind, most in ((resource.RLIMIT_AS, memory), (resource.RLIMIT_STACK, stack), (resource.RLIMIT_FSIZE, size)):
                 if most:
                     resource.setrlimit(kind, (most, most))
 
@@ -36,7 +39,7 @@ class Program:
         if "stdin" not in streams:
             streams["input"] = data
         try:
-            ran = subprocess.run([self.path, *words], preexec_fn=limit if memory or stack else None, timeout=SECONDS, **streams)
+            ran = subprocess.run([self.path, *words], preexec_fn=limit if memory or stack or size else None, timeout=SECONDS, **streams)
         except subprocess.TimeoutExpired:
             return {"stdout": b"", "stderr": b"", "status": f"none after {SECONDS} seconds"}
         return {"stdout": ran.stdout, "stderr": ran.stderr, "status": ran.returncode}
