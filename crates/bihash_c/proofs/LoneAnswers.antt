@@ -10,7 +10,7 @@ use Rattle.bihash_steps.proofs.Numbers.{few_numbers}
 use Rattle.bihash_table.specs.Calls.{TellsLone}
 use Rattle.bihash_table.specs.Closing.{LeavesStrangers, StaysWhole}
 use Rattle.bihash_c.specs.CallersWithTable.{IsEndTold}
-use Rattle.bihash_c.specs.declared.end_fault.EndFault.TheVariants.{Strangers, Contended}
+use Rattle.bihash_c.specs.declared.end_of_table.EndFault.TheVariants.{Strangers, Contended}
 
 module _ (z : Sizes) (s t : CallerState) (answer : Bool) (h : TellsLone z s t answer) where
   abbrev count : ℕ

@@ -7,8 +7,8 @@ use Rattle.bihash_steps.specs.declared.split_fault.SplitFault.TheVariants as Spl
 use Rattle.bihash_table.specs.declared.contended.Contended.{Contended}
 use Rattle.bihash_c.specs.declared.answer_numbers.Answer.{Answer}
 use Rattle.bihash_c.specs.declared.answer_numbers.Stamp.{Stamp}
-use Rattle.bihash_c.specs.declared.end_fault.EndFault as End
-use Rattle.bihash_c.specs.declared.end_fault.EndFault.TheVariants as EndFaults
+use Rattle.bihash_c.specs.declared.end_of_table.EndFault as End
+use Rattle.bihash_c.specs.declared.end_of_table.EndFault.TheVariants as EndFaults
 
 -- an answer that carries no value
 abbrev pub bare : ℕ → Answer

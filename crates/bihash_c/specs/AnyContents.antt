@@ -9,14 +9,14 @@ use Rattle.bihash_c.specs.Kinds.{shape_of, sizes_in}
 use Rattle.bihash_c.specs.Options.{KindTold}
 use Rattle.bihash_c.specs.Pairs.{IsGiven, of_five, of_two}
 use Rattle.bihash_c.specs.declared.answer_numbers.Stamp.{Stamp}
-use Rattle.bihash_c.specs.declared.any_content.AnyContent.{AnyContent}
-use Rattle.bihash_c.specs.declared.any_content.AnyContent.TheVariants.{Two, LargeTwo, Five, LargeFive}
-use Rattle.bihash_c.specs.declared.handle_content.Content.{Content}
-use Rattle.bihash_c.specs.declared.handle_content.Content.TheVariants.{Empty}
+use Rattle.bihash_c.specs.declared.any_content_callers.AnyContent.{AnyContent}
+use Rattle.bihash_c.specs.declared.any_content_callers.AnyContent.TheVariants.{Two, LargeTwo, Five, LargeFive}
+use Rattle.bihash_c.specs.declared.handle_content_callers.Content.{Content}
+use Rattle.bihash_c.specs.declared.handle_content_callers.Content.TheVariants.{Empty}
 use Rattle.bihash_c.specs.declared.options.Options.{Options}
 use Rattle.bihash_c.specs.declared.pair.Pair.{Pair}
-use Rattle.bihash_c.specs.declared.table_kind.Kind.{Kind}
-use Rattle.bihash_c.specs.declared.table_kind.Kind.TheVariants as kinds
+use Rattle.bihash_c.specs.declared.options.Kind.{Kind}
+use Rattle.bihash_c.specs.declared.options.Kind.TheVariants as kinds
 
 -- nothing is there
 abbrev pub nothing : AnyContent

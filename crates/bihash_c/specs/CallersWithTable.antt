@@ -13,8 +13,8 @@ use Rattle.bihash_rule.specs.declared.view.View.{View}
 use Rattle.bihash_table.specs.Ageing.{TellsExpireTry}
 use Rattle.bihash_table.specs.Closing.{ArePairsOf, LeavesStrangers, StaysWhole, WasWhole}
 use Rattle.bihash_table.specs.declared.contended.Contended as Refused
-use Rattle.bihash_c.specs.declared.end_fault.EndFault.{EndFault}
-use Rattle.bihash_c.specs.declared.end_fault.EndFault.TheVariants.{Strangers, Contended, Memory}
+use Rattle.bihash_c.specs.declared.end_of_table.EndFault.{EndFault}
+use Rattle.bihash_c.specs.declared.end_of_table.EndFault.TheVariants.{Strangers, Contended, Memory}
 
 -- One try of a look at bucket b for an expired pair. Where the table has no such bucket none is found, and nothing was
 -- done.

@@ -15,9 +15,9 @@ use Rattle.bihash_c.specs.Answers.{answer_of, end_number, expire_answer_of, sear
 use Rattle.bihash_c.specs.CallersWithTable.{IsClosed, IsEndTold, IsRenewedFrom, IsSplit, IsSplitRefused, LooksAt}
 use Rattle.bihash_c.specs.declared.answer_numbers.Answer.{Answer}
 use Rattle.bihash_c.specs.declared.answer_numbers.Stamp.{Stamp}
-use Rattle.bihash_c.specs.declared.end_fault.EndFault.{EndFault}
-use Rattle.bihash_c.specs.declared.handle_content.Content.{Content}
-use Rattle.bihash_c.specs.declared.handle_content.Content.TheVariants.{Empty, Caller, Pairs}
+use Rattle.bihash_c.specs.declared.end_of_table.EndFault.{EndFault}
+use Rattle.bihash_c.specs.declared.handle_content_callers.Content.{Content}
+use Rattle.bihash_c.specs.declared.handle_content_callers.Content.TheVariants.{Empty, Caller, Pairs}
 
 -- there is a caller
 abbrev pub HasCaller : {A K : Type 0} → Content A K → Type 0

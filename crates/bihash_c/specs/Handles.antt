@@ -6,9 +6,9 @@ use Rattle.std.specs.Box.Ownership.{box_owns}
 use Rattle.std.specs.Global.{Global}
 use Rattle.std_heap.specs.contracts.GlobalAllocator.TheImpl.{ghosts}
 use Rattle.bihash_c.specs.AnyContents.{nothing}
-use Rattle.bihash_c.specs.declared.any_content.AnyContent.{AnyContent}
-use Rattle.bihash_c.specs.declared.place.Place.{Place}
-use Rattle.bihash_c.specs.contracts.place.Place.{the_row}
+use Rattle.bihash_c.specs.declared.any_content_callers.AnyContent.{AnyContent}
+use Rattle.bihash_c.specs.declared.handle.Place.{Place}
+use Rattle.bihash_c.specs.contracts.handle.Place.{the_row}
 
 abbrev pub handle_owns : Global → Ptr → Option the_row.Denot → Fml
 handle_owns alloc p None = ftrue

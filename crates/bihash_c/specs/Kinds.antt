@@ -10,9 +10,9 @@ use Rattle.bihash_words.specs.contracts.large_flow_shapes.LargeV4Shape.TheImpl a
 use Rattle.bihash_words.specs.contracts.large_flow_shapes.LargeV6Shape.TheImpl as large_v6
 use Rattle.bihash_words.specs.declared.large_flow_shapes.LargeV4.{LargeV4}
 use Rattle.bihash_words.specs.declared.large_flow_shapes.LargeV6.{LargeV6}
-use Rattle.bihash_c.specs.declared.key.Key.{Key}
-use Rattle.bihash_c.specs.declared.table_kind.Kind.{Kind}
-use Rattle.bihash_c.specs.declared.table_kind.Kind.TheVariants.{Two, LargeTwo, Five, LargeFive}
+use Rattle.bihash_c.specs.declared.pair.Key.{Key}
+use Rattle.bihash_c.specs.declared.options.Kind.{Kind}
+use Rattle.bihash_c.specs.declared.options.Kind.TheVariants.{Two, LargeTwo, Five, LargeFive}
 
 -- the type of a kind's shape
 abbrev pub Shaped : Kind → Type 0

@@ -2,10 +2,10 @@
 use Rattle.std.specs.Prelude.{◌≡◌, ◌≢◌, ◌⊎◌, ℕ, Option, None, Some}
 use Rattle.bihash_words.specs.Sizes.{bucket_of}
 use Rattle.bihash_c.specs.Kinds.{sizes_in, words_in}
-use Rattle.bihash_c.specs.declared.key.Key.{Key}
+use Rattle.bihash_c.specs.declared.pair.Key.{Key}
 use Rattle.bihash_c.specs.declared.options.Options.{Options}
-use Rattle.bihash_c.specs.declared.table_kind.Kind.{Kind}
-use Rattle.bihash_c.specs.declared.table_kind.Kind.TheVariants.{Two, LargeTwo, Five, LargeFive}
+use Rattle.bihash_c.specs.declared.options.Kind.{Kind}
+use Rattle.bihash_c.specs.declared.options.Kind.TheVariants.{Two, LargeTwo, Five, LargeFive}
 
 abbrev pub words_number : Kind → ℕ
 words_number Two = 2

@@ -2,7 +2,7 @@
 ghost use Rattle.std.specs.Prelude.{◌≡◌};
 ghost use Rattle.bihash_c.specs.Answers.{answer_of, end_number, expire_answer_of, search_answer_of, split_number, stamp_told, value_told};
 
-use crate::end_fault::EndFault;
+use crate::end_of_table::EndFault;
 use bihash_table::{Contended, SplitFault};
 use bihash_words::Reply;
 

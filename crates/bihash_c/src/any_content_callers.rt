@@ -6,11 +6,21 @@ ghost use Rattle.bihash_c.specs.AnyContents.{AreOfOneTable, Calls, HasCaller, Is
 ghost use Rattle.bihash_c.specs.Kinds.{sizes_in};
 
 use crate::answer_numbers::{DONE, Stamp};
-use crate::any_content::AnyContent;
-use crate::handle_content::Content;
-use crate::table_kind::Kind;
-use bihash_words::{flow_shapes_are_sound, large_shapes_are_sound};
+use crate::handle_content_callers::Content;
+use crate::options::Kind;
+use bihash_words::{
+    LargeV4, LargeV6, ShapeV4, ShapeV6, flow_shapes_are_sound, large_shapes_are_sound,
+};
 use std::alloc::Global;
+
+/// What is behind a handle of a table of any kind.
+#[derive(Drop)]
+pub enum AnyContent {
+    Two(Content<ShapeV4>),
+    LargeTwo(Content<LargeV4>),
+    Five(Content<ShapeV6>),
+    LargeFive(Content<LargeV6>),
+}
 
 impl AnyContent {
     /// Caller 1 of a new table of this kind. `None`: memory was refused.

@@ -5,8 +5,8 @@ ghost use Rattle.bihash_c.specs.Contents.{ExpireTold, RecycleTold, SearchTold, U
 ghost use Rattle.bihash_c.specs.Kinds.{shape_of, sizes_in, words_in};
 
 use crate::answer_numbers::Answer;
-use crate::any_content::AnyContent;
-use crate::key::Key;
+use crate::any_content_callers::AnyContent;
+use crate::pair::Key;
 use bihash_words::{Expiry, Patch};
 
 impl AnyContent {

@@ -1,7 +1,7 @@
 //! The ends of a table that is behind a handle, whichever kind it has.
 ghost use Rattle.bihash_c.specs.AnyContents.{CloseTold, CountTold, HasCaller, HasPairs, PairTold, RenewTold};
 
-use crate::any_content::AnyContent;
+use crate::any_content_callers::AnyContent;
 use crate::pair::{Pair, of_five, of_two};
 use std::alloc::Global;
 

@@ -6,10 +6,9 @@ ghost use Rattle.bihash_c.specs.Handles.{content_in};
 ghost use Rattle.bihash_c.specs.Kinds.{sizes_in};
 
 use crate::answer_numbers::{BAD_OPTIONS, DONE, MEMORY, Stamp};
-use crate::any_content::AnyContent;
-use crate::handle::Handle;
+use crate::any_content_callers::AnyContent;
+use crate::handle::{Handle, Place};
 use crate::options::{Options, kind_of};
-use crate::place::Place;
 use std::alloc::Global;
 
 /// A new table of the kind that is meant, with its first caller.

@@ -1,5 +1,5 @@
 //! What C calls on the keys and buckets of a table: one try each.
-ghost use Rattle.std.specs.Prelude.{◌≢◌};
+ghost use Rattle.std.specs.Prelude.{◌≢◌, ◌≡◌, ◌<◌, ◌^◌};
 ghost use Rattle.bihash_words.specs.Patches.{free_mark, set_if_absent, set_if_present};
 ghost use Rattle.bihash_words.specs.declared.patch.Change.TheVariants.{Remove, Set};
 ghost use Rattle.bihash_c.specs.AnyContents.{Calls, HasCaller};
@@ -11,11 +11,29 @@ ghost use Rattle.bihash_c.specs.Replacements.{set_if_is};
 
 use crate::answer_numbers::Answer;
 use crate::handle::Handle;
-use crate::key::Key;
-use crate::mask_expiry::MaskExpiry;
+use crate::pair::Key;
 use crate::replace_if::ReplaceIf;
-use bihash_words::{Add, AddIfAbsent, Delete, Patch, Touch};
+use bihash_words::{Add, AddIfAbsent, Delete, Expiry, Patch, Touch};
 use std::alloc::Global;
+
+/// Those values whose bits that `mask` has are, as a number, below `least`.
+#[repr(C)]
+#[derive(Clone, Copy)]
+pub struct MaskExpiry {
+    pub mask: u64,
+    pub least: u64,
+}
+
+impl Expiry for MaskExpiry {
+    ghost is_expired = { λ expiry value. is_below expiry.mask expiry.least value };
+
+    fn expired(&self, value: u64) -> bool
+        ensures told { result ≡ is_below self.now.mask self.now.least value }
+        ensures word { value < 2 ^ 64 }
+    {
+        value & self.mask < self.least
+    }
+}
 
 /// The value of the key.
 #[unsafe(no_mangle)]

@@ -4,9 +4,8 @@ ghost use Rattle.bihash_words.specs.Sizes.{bucket_of};
 ghost use Rattle.bihash_c.specs.Kinds.{sizes_in, words_in};
 ghost use Rattle.bihash_c.specs.Options.{BucketTold};
 
-use crate::key::Key;
-use crate::options::{Options, kind_of};
-use crate::table_kind::Kind;
+use crate::options::{Kind, Options, kind_of};
+use crate::pair::Key;
 use bihash_words::{
     LargeV4, LargeV6, ShapeV4, ShapeV6, bucket_of, flow_shapes_are_sound, large_shapes_are_sound,
 };

@@ -4,8 +4,7 @@ ghost use Rattle.bihash_words.specs.Sizes.{sizes_of};
 ghost use Rattle.bihash_c.specs.CallersWithTable.{IsClosed, IsEndTold, IsRenewedFrom};
 
 use crate::caller_with_table::CallerWithTable;
-use crate::end_fault::EndFault;
-use crate::end_of_table::{end_of_close, end_of_renewal};
+use crate::end_of_table::{EndFault, end_of_close, end_of_renewal};
 use crate::table_share::TableShare;
 use bihash_words::Shape;
 use std::alloc::Global;

@@ -7,10 +7,20 @@ ghost use Rattle.bihash_c.specs.Contents.{AreOfOneTable, Calls, HasCaller, IsFir
 
 use crate::answer_numbers::{DONE, Stamp, split_refusal, stamp_answer};
 use crate::caller_with_table::CallerWithTable;
-use crate::handle_content::Content;
 use bihash_words::Shape;
 use std::alloc::Global;
 use std::mem;
+
+/// What is behind a handle.
+#[derive(Drop)]
+pub enum Content<S: Shape> {
+    /// Nothing.
+    Empty,
+    /// A caller with its table.
+    Caller(CallerWithTable<S>),
+    /// The pairs of a table that was closed.
+    Pairs(Vec<(S::Key, u64)>),
+}
 
 impl<S: Shape> Content<S> {
     /// Caller 1 of a new table. `None`: memory was refused.

@@ -3,7 +3,7 @@ ghost use Rattle.bihash_words.specs.Sizes.{sizes_of};
 ghost use Rattle.bihash_c.specs.Contents.{Calls, ExpireTold, HasCaller, RecycleTold, SearchTold, UpdateTold};
 
 use crate::answer_numbers::{Answer, expire_answer, reply_answer, search_answer};
-use crate::handle_content::Content;
+use crate::handle_content_callers::Content;
 use bihash_words::{Expiry, Patch, Shape};
 
 impl<S: Shape> Content<S> {

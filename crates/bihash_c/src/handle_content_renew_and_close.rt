@@ -3,12 +3,12 @@ ghost use Rattle.std.specs.Prelude.{◌≡◌};
 ghost use Rattle.bihash_words.specs.Sizes.{sizes_of};
 ghost use Rattle.bihash_c.specs.Answers.{end_number};
 ghost use Rattle.bihash_c.specs.Contents.{CloseTold, CountTold, HasCaller, HasPairs, PairTold, RenewTold};
-ghost use Rattle.bihash_c.specs.declared.handle_content.Content.TheVariants.{Caller};
+ghost use Rattle.bihash_c.specs.declared.handle_content_callers.Content.TheVariants.{Caller};
 
 use crate::answer_numbers::{DONE, end_refusal};
 use crate::caller_with_table::CallerWithTable;
-use crate::end_fault::EndFault;
-use crate::handle_content::Content;
+use crate::end_of_table::EndFault;
+use crate::handle_content_callers::Content;
 use bihash_words::Shape;
 use std::alloc::Global;
 use std::mem;

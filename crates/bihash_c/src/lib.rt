@@ -2,7 +2,6 @@
 #![tactic(auto)]
 
 mod answer_numbers;
-mod any_content;
 mod any_content_callers;
 mod any_content_keys;
 mod any_content_renew_and_close;
@@ -15,32 +14,23 @@ mod caller_with_table;
 mod caller_with_table_callers;
 mod caller_with_table_keys;
 mod caller_with_table_renew_and_close;
-mod end_fault;
 mod end_of_table;
 mod handle;
-mod handle_content;
 mod handle_content_callers;
 mod handle_content_keys;
 mod handle_content_renew_and_close;
-mod handle_is_send;
-mod key;
 mod look_ahead;
-mod mask_expiry;
 mod options;
 mod pair;
-mod place;
 mod replace_if;
-mod table_kind;
 mod table_share;
 
 pub use answer_numbers::{
     ABSENT, ADDED, Answer, BAD_OPTIONS, CONTENDED, DONE, FOUND, FULL, MEMORY, NO_PAGES, NUMBERS,
     REPLACED, STRANGERS, Stamp, WORN, WORN_FOUND,
 };
+pub use bihash_keys::MaskExpiry;
 pub use bucket_of_key::NO_BUCKET;
-pub use handle::Handle;
-pub use handle_is_send::handle_crosses;
-pub use key::Key;
-pub use mask_expiry::MaskExpiry;
+pub use handle::{Handle, handle_crosses};
 pub use options::{LARGE, Options, STANDARD};
-pub use pair::Pair;
+pub use pair::{Key, Pair};

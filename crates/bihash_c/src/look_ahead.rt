@@ -4,9 +4,9 @@ ghost use Rattle.std.specs.Prelude.{◌≡◌};
 ghost use Rattle.bihash_c.specs.AnyContents.{HasCaller};
 ghost use Rattle.bihash_c.specs.Handles.{content_in};
 
-use crate::any_content::AnyContent;
+use crate::any_content_callers::AnyContent;
 use crate::handle::Handle;
-use crate::key::Key;
+use crate::pair::Key;
 use bihash_words::{Shape, ShapeV4, ShapeV6};
 use std::alloc::Global;
 

@@ -1,8 +1,6 @@
 //! What C asks for when a table is made, or a bucket is asked for.
 ghost use Rattle.bihash_c.specs.Options.{KindTold};
 
-use crate::table_kind::Kind;
-
 /// A table of the usual size.
 pub const STANDARD: u32 = 0;
 
@@ -19,6 +17,19 @@ pub struct Options {
     pub words: u32,
     /// Its size, STANDARD or LARGE.
     pub tables: u32,
+}
+
+/// How many words the keys of a table have, and its size.
+#[derive(Clone, Copy, Debug, PartialEq, Eq)]
+pub enum Kind {
+    /// Keys of two words.
+    Two,
+    /// Keys of two words, in a large table.
+    LargeTwo,
+    /// Keys of five words.
+    Five,
+    /// Keys of five words, in a large table.
+    LargeFive,
 }
 
 /// The kind of table that is meant. `None`: another size, another number of words or other tables.

@@ -1,9 +1,27 @@
-//! A pair of a table that was closed, for C.
-ghost use Rattle.std.specs.Prelude.{◌≡◌};
+//! A key, and a pair of a table that was closed, for C.
+ghost use Rattle.std.specs.Prelude.{◌≡◌, take};
 ghost use Rattle.bihash_c.specs.Pairs.{IsGiven};
 ghost use Rattle.bihash_c.specs.Pairs as pairs;
 
-use crate::key::Key;
+/// The words of a key. A table whose keys have two words sees the first two alone.
+#[repr(C)]
+#[derive(Clone, Copy)]
+pub struct Key {
+    pub words: [u64; 5],
+}
+
+impl Key {
+    /// The words that a table sees whose keys have two.
+    #[inline(always)]
+    pub fn two(&self) -> &[u64; 2]
+        ensures { result.now ≡ take 2 self.now.words }
+    {
+        let Some((two, _)) = self.words.split_first_chunk() else {
+            unreachable!();
+        };
+        two
+    }
+}
 
 /// A key, and its value.
 #[repr(C)]

@@ -1,5 +1,5 @@
 -- Verdicts on one's own packets, put at the places of these.
-use Rattle.std.proofs.Common.{◌≡◌, ◌∙◌, ◌+◌, ℕ, suc, Bool, true, false, cond, List, [], ◌∷◌, length, ap, arith, refl, sym}
+use Rattle.std.proofs.Common.{◌≡◌, ◌∙◌, ◌+◌, ℕ, suc, Bool, true, false, cond, List, [], ◌∷◌, None, length, ap, arith, refl, sym}
 use Rattle.std.proofs.lemmas.List.Sums.{sum_by-cons}
 use Rattle.packet_view.specs.Captures.{PacketFacts}
 use Rattle.session_state.specs.Passes.{passes}
@@ -9,6 +9,7 @@ use Rattle.racl_io.specs.Reports.{lacks_pages}
 use Rattle.std.specs.Prelude.{count_by}
 use Rattle.capture_shards.specs.Shards.{Own, own_in, own_packets}
 use Rattle.capture_shards.specs.Sharing.{IsSpread}
+use Rattle.capture_shards.specs.inner.OwnTests.{own_among}
 use Rattle.capture_shards.specs.inner.Spreads.{left_for, marks_in, spread, verdict_for}
 
 pub length_spread : (marks : List Bool) (said : List Verdict) → length (spread marks said) ≡ length marks
@@ -63,3 +64,18 @@ is_spread own n ps said each = record {
   passing = spread_counts passes refl own n ps said each;
   lacking = spread_counts lacks_pages refl own n ps said each;
 }
+
+-- ---- All packets are one's own
+
+-- there is the same for them
+pub all_in : {X : Type 0} (n : ℕ) (ps : List PacketFacts) (xs : List X) → length xs ≡ length ps → own_in (own_among None) n ps xs ≡ xs
+all_in n [] [] each = refl
+all_in n [] (x ∷ xs) each = absurd (omega (arith, each))
+all_in n (p ∷ ps) [] each = absurd (omega (arith, each))
+all_in n (p ∷ ps) (x ∷ xs) each = ap (λ rest. x ∷ rest) (all_in (n + 1) ps xs (omega (arith, each)))
+
+pub all_spread : (n : ℕ) (ps : List PacketFacts) (said : List Verdict) → length said ≡ length ps → spread (marks_in (own_among None) n ps) said ≡ said
+all_spread n [] [] each = refl
+all_spread n [] (v ∷ said) each = absurd (omega (arith, each))
+all_spread n (p ∷ ps) [] each = absurd (omega (arith, each))
+all_spread n (p ∷ ps) (v ∷ said) each = ap (λ rest. v ∷ rest) (all_spread (n + 1) ps said (omega (arith, each)))

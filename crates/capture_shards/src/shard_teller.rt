@@ -7,12 +7,12 @@ use racl_io::{Device, Fault, Sink, Teller, Totals, write_all};
 use session_state::Verdict;
 use std::alloc::Global;
 
-/// What tells the packets of a shard, with their numbers among all packets.
+/// What tells the packets of a shard, with their numbers among all packets; or all packets, where there is no shard.
 #[derive(Drop)]
 pub struct ShardTeller<L> {
     /// What tells each of them.
     pub inner: L,
-    pub shard: Shard,
+    pub shard: Option<Shard>,
     pub alloc: Global,
 }
 
@@ -28,13 +28,14 @@ impl<L: Teller> ShardTeller<L> {
     // What is told of the shard's packets among these, and how many of all pass.
     fn text_of(
         &mut self,
+        shard: Shard,
         others: usize,
         packets: Packets<'_>,
         verdicts: &[Verdict],
     ) -> Result<(Vec<u8>, u64), Fault>
         requires each { length verdicts.now ≡ length (remaining packets) }
         requires fits { others + length verdicts.now < 2 ^ 64 - 1 }
-        ensures text { IfOk result (λ r. r.0.items ≡ lines_in (shard_wording (own_of self.old.shard) (L.wording self.old.inner)) (others + 1) (remaining packets.entry) verdicts.now) }
+        ensures text { IfOk result (λ r. r.0.items ≡ lines_in (shard_wording (own_of shard) (L.wording self.old.inner)) (others + 1) (remaining packets.entry) verdicts.now) }
         ensures passed { IfOk result (λ r. r.1 ≡ Reports.passed verdicts.now) }
         ensures same { (L.wording self.new.inner ≡ L.wording self.old.inner) × (self.new.shard ≡ self.old.shard) }
         ensures memory { IfErr result (λ fault. fault ≡ Memory) }
@@ -48,7 +49,7 @@ impl<L: Teller> ShardTeller<L> {
             let Some(packet) = packets.next() else {
                 break;
             };
-            if is_own(&self.shard, number as u64 + 1, &packet) {
+            if is_own(&shard, number as u64 + 1, &packet) {
                 match self
                     .inner
                     .tell(&mut text, number, Packets::Slice(&[packet]), &[*verdict])
@@ -70,9 +71,9 @@ impl<L: Teller> ShardTeller<L> {
 
 impl<L: Teller> Teller for ShardTeller<L> {
     ghost use Rattle.capture_shards.specs.Sharing.{shard_wording};
-    ghost use Rattle.capture_shards.specs.inner.OwnTests.{own_of};
+    ghost use Rattle.capture_shards.specs.inner.OwnTests.{own_among};
 
-    ghost wording = { λ teller. shard_wording (own_of teller.shard) (L.wording teller.inner) };
+    ghost wording = { λ teller. shard_wording (own_among teller.shard) (L.wording teller.inner) };
 
     // What is told of the shard's packets is written at once.
     fn tell<W: Sink>(
@@ -82,7 +83,10 @@ impl<L: Teller> Teller for ShardTeller<L> {
         packets: Packets<'_>,
         verdicts: &[Verdict],
     ) -> Result<u64, Fault> {
-        let (text, passed) = self.text_of(others, packets, verdicts)?;
+        let Some(shard) = self.shard else {
+            return self.inner.tell(writer, others, packets, verdicts);
+        };
+        let (text, passed) = self.text_of(shard, others, packets, verdicts)?;
         match write_all(writer, &text) {
             Ok(()) => Ok(passed),
             Err(fault) => Err(fault),

@@ -17,8 +17,8 @@ use Rattle.capture_stream.specs.Arrivals.{AreAllGiven, AreWhole, Gives, IsNotGiv
 use Rattle.capture_stream.specs.ComingCaptures.{HasToldCaptures, HasToldTurns, IsFaultOfComing}
 use Rattle.capture_stream.specs.Lives.{most_live, with_read}
 use Rattle.capture_stream.specs.Turns.{AreTurns, AreTurnsToLong, Turn, cuts_of, packets_of, parts_of}
-use Rattle.capture_stream.specs.declared.arrival.Arrival.{Arrival}
-use Rattle.capture_stream.specs.declared.arrival.FaultAt.{FaultAt}
+use Rattle.capture_stream.specs.declared.arrivals.Arrival.{Arrival}
+use Rattle.capture_stream.specs.declared.arrivals.FaultAt.{FaultAt}
 use Rattle.capture_stream.specs.declared.arrivals_telling.Coming.{Coming}
 use Rattle.capture_stream.specs.declared.arrivals_telling.ToldArrivals.{ToldArrivals}
 use Rattle.capture_stream.specs.inner.Comings.{AreTold, IsComing, IsPartFault, turn_of}

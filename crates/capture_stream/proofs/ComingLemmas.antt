@@ -19,7 +19,7 @@ use Rattle.racl_io.proofs.TellingLemmas.{front_on}
 use Rattle.capture_stream.specs.Histories.{AreRight, Follows}
 use Rattle.capture_stream.specs.Lives.{AreCounted, most_live}
 use Rattle.capture_stream.specs.Turns.{AreTurns, AreTurnsToLong, HaveCome, HaveComeToLong, IsLongTurn, IsTurn, Turn, bytes_at, cuts_of, own_of, packets_of, records_at}
-use Rattle.capture_stream.specs.declared.arrival.Arrival.{Arrival}
+use Rattle.capture_stream.specs.declared.arrivals.Arrival.{Arrival}
 use Rattle.capture_stream.specs.declared.lane.Lane.{Lane}
 use Rattle.capture_stream.specs.declared.live_telling.Live.{Live}
 use Rattle.capture_stream.specs.declared.arrivals_telling.Coming.{Coming}

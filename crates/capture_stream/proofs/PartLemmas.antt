@@ -12,7 +12,7 @@ use Rattle.racl_io.specs.Buffers.{held_by}
 use Rattle.racl_io.specs.Sinks.{GotFront}
 use Rattle.racl_io.specs.Tellings.{Wording, lines_in}
 use Rattle.capture_stream.specs.Histories.{AreRight, Follows}
-use Rattle.capture_stream.specs.declared.arrival.Arrival.{Arrival}
+use Rattle.capture_stream.specs.declared.arrivals.Arrival.{Arrival}
 use Rattle.capture_stream.specs.declared.lane.Lane.{Lane}
 use Rattle.capture_stream.specs.declared.live_telling.Live.{Live}
 use Rattle.capture_stream.specs.declared.arrivals_telling.Waiting.{Waiting}

@@ -2,8 +2,8 @@
 use Rattle.std.specs.Prelude.{◌≡◌, ◌≢◌, ◌+◌, ◌<◌, ◌≤◌, ◌⊎◌, ◌++◌, ℕ, List, [], ◌∷◌, Option, None, Some, length, map, nat_eq, ⊤}
 use Rattle.std.specs.List.{All, filter}
 use Rattle.racl_io.specs.declared.fault.Fault.TheVariants.{Memory, Read}
-use Rattle.capture_stream.specs.declared.arrival.Arrival.{Arrival}
-use Rattle.capture_stream.specs.declared.arrival.FaultAt.{FaultAt}
+use Rattle.capture_stream.specs.declared.arrivals.Arrival.{Arrival}
+use Rattle.capture_stream.specs.declared.arrivals.FaultAt.{FaultAt}
 
 -- some bytes of the capture of this interface, or none at its end
 pub record Part : Type 0 where

@@ -12,7 +12,7 @@ use Rattle.racl_io.specs.Tellings.{Wording, lines_in}
 use Rattle.capture_stream.specs.Arrivals.{AreAllGiven, Gives, IsNamed, IsWhole, Part}
 use Rattle.capture_stream.specs.Lives.{most_live}
 use Rattle.capture_stream.specs.Turns.{AreTurns, AreTurnsToLong, Turn, bytes_at, cuts_of, packets_of, parts_of, records_at}
-use Rattle.capture_stream.specs.declared.arrival.FaultAt.{FaultAt}
+use Rattle.capture_stream.specs.declared.arrivals.FaultAt.{FaultAt}
 use Rattle.capture_stream.specs.declared.arrivals_telling.ToldArrivals.{ToldArrivals}
 
 -- Parts came, and behind them these; and what is told of the packets that the first ones made whole was written, and no more.

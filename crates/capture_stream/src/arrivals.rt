@@ -4,7 +4,22 @@ ghost use Rattle.racl_io.specs.declared.fault.Fault.TheVariants.{Read};
 ghost use Rattle.capture_stream.specs.Arrivals.{AreWhole, HasGiven, HaveEnded, IsNotGiven, Part};
 ghost use Rattle.capture_stream.specs.Lives.{with_read};
 
-use crate::arrival::{Arrival, FaultAt};
+use racl_io::Fault;
+
+/// Some bytes of one of several captures, or none at its end.
+#[derive(Drop)]
+pub struct Arrival {
+    /// The number of the interface where the capture's packets were seen.
+    pub interface: u8,
+    pub bytes: Vec<u8>,
+}
+
+/// A fault, and the interface whose part had come, or whose capture couldn't be read; None where there is none.
+#[derive(Clone, Copy, Debug, PartialEq, Eq)]
+pub struct FaultAt {
+    pub fault: Fault,
+    pub interface: Option<u8>,
+}
 
 /// What gives the bytes of several captures, each taken at another interface, in parts as they come, and each one's end.
 pub trait Arrivals {

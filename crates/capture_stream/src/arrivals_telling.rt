@@ -15,13 +15,12 @@ ghost use Rattle.capture_stream.specs.inner.Comings.{HasTakenEnd, HasTakenPart, 
 ghost use Rattle.capture_stream.specs.inner.Lanes.{AreLanes, HasWaiting, IsHeadFault, IsLane, IsShort};
 ghost use Rattle.capture_stream.specs.inner.Tellings.{totals_with};
 
-use crate::arrival::{Arrival, FaultAt};
-use crate::arrivals::Arrivals;
+use crate::arrivals::{Arrival, Arrivals, FaultAt};
 use crate::engine::{Engine, is_cut};
 use crate::judge::Judge;
 use crate::lane::Lane;
 use crate::live_telling::{Live, MOST_LIVE, ToldCapture, tell_waiting, told_at};
-use crate::unsaved_packets::Unsaved;
+use crate::saver::Unsaved;
 use crate::windows_of_records::find_records;
 use packet_view::{Order, capture_header};
 use racl_io::{Captured, Fault, ReadBuffer, Sink, Teller, Totals};

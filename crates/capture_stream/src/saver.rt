@@ -27,3 +27,19 @@ pub trait Saver {
         ensures steady { OnOk result (failures self.new ≡ failures self.old) }
         ensures failed { OnErr result (failures self.new ≡ failures self.old + 1) };
 }
+
+/// What saves no packet.
+#[derive(Clone, Copy, Debug, PartialEq, Eq)]
+pub struct Unsaved;
+
+impl Saver for Unsaved {
+    ghost use Rattle.std.specs.Prelude.{⊤};
+
+    ghost saved = { λ begun order records verdicts now. ⊤ };
+
+    ghost failures = { λ unsaved. 0 };
+
+    fn save(&mut self, _order: Order, _records: &[u8], _verdicts: &[Verdict]) -> Result<(), Fault> {
+        Ok(())
+    }
+}

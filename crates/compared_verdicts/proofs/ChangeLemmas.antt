@@ -10,8 +10,8 @@ use Rattle.packet_words.specs.inner.ViewedPackets.{view_at}
 use Rattle.packet_words.proofs.ViewLemmas.{at_seen}
 use Rattle.compared_verdicts.specs.Changes.{ChangeFacts, PairFacts, agree, change_facts, changed_at, changes_from}
 use Rattle.compared_verdicts.specs.ChangeReports.{AreLines, is_other, is_to_drop, is_to_pass, line_of, totals_of, with_changes}
-use Rattle.compared_verdicts.specs.declared.change.Change.{Change}
-use Rattle.compared_verdicts.specs.declared.totals.ChangeTotals.{ChangeTotals}
+use Rattle.compared_verdicts.specs.declared.change_lines.Change.{Change}
+use Rattle.compared_verdicts.specs.declared.change_totals.ChangeTotals.{ChangeTotals}
 use Rattle.compared_verdicts.specs.inner.ChangeLines.{line_by, lines_by, lines_told}
 
 -- ---- Lines

@@ -25,8 +25,8 @@ use Rattle.capture_stream.proofs.FeedLemmas.{packets_both}
 use Rattle.compared_verdicts.specs.Changes.{ChangeFacts, PairFacts, changes_from}
 use Rattle.compared_verdicts.specs.ChangeReports.{AreLines, end_of_report, totals_of, with_changes}
 use Rattle.compared_verdicts.specs.Comparing.{HasToldAll, HasToldPart, HasToldSome, HaveCompared, IsComparingFault, changes_in}
-use Rattle.compared_verdicts.specs.declared.comparison.Comparison.{Comparison}
-use Rattle.compared_verdicts.specs.declared.totals.ChangeTotals.{ChangeTotals}
+use Rattle.compared_verdicts.specs.declared.compared_capture.Comparison.{Comparison}
+use Rattle.compared_verdicts.specs.declared.change_totals.ChangeTotals.{ChangeTotals}
 use Rattle.compared_verdicts.specs.inner.ChangeLines.{lines_by}
 use Rattle.compared_verdicts.specs.inner.Comparisons.{HasComparedWaiting, HasCutWaiting, IsCompared, IsComparing, IsWaitingFault, MayCompare, changes_behind}
 use Rattle.compared_verdicts.specs.inner.Totals.{HasRoom}

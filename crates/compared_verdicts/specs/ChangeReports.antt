@@ -7,7 +7,7 @@ use Rattle.session_state.specs.Passes.{passes}
 use Rattle.racl_io.specs.Reports.{text_of, truncation_line}
 use Rattle.packet_words.specs.PacketTexts.{packet_told}
 use Rattle.compared_verdicts.specs.Changes.{ChangeFacts}
-use Rattle.compared_verdicts.specs.declared.totals.ChangeTotals.{ChangeTotals}
+use Rattle.compared_verdicts.specs.declared.change_totals.ChangeTotals.{ChangeTotals}
 
 -- the packet's number and verdicts, and what it is where its frame is this
 abbrev pub line_of : ChangeFacts → FrameFacts → List ℕ

@@ -11,8 +11,8 @@ use Rattle.acl_policy.specs.declared.rule.Action.{Action}
 use Rattle.acl_policy.specs.declared.rule.Action.TheVariants as action
 use Rattle.session_state.specs.declared.verdict.Verdict.{Verdict}
 use Rattle.packet_words.specs.VerdictKinds.{kind_of, rule_number}
-use Rattle.compared_verdicts.specs.declared.change.Change.{Change}
-use Rattle.compared_verdicts.specs.declared.change.PolicyPair.{PolicyPair}
+use Rattle.compared_verdicts.specs.declared.change_lines.Change.{Change}
+use Rattle.compared_verdicts.specs.declared.change_lines.PolicyPair.{PolicyPair}
 
 -- a policy, and the one that is to take its place, as values
 pub record PairFacts : Type 0 where

@@ -11,7 +11,7 @@ use Rattle.racl_io.specs.Sinks.{GotFront}
 use Rattle.capture_stream.specs.Lives.{most_live}
 use Rattle.compared_verdicts.specs.Changes.{ChangeFacts, PairFacts, changes_from}
 use Rattle.compared_verdicts.specs.ChangeReports.{AreLines, end_of_report, totals_of}
-use Rattle.compared_verdicts.specs.declared.totals.ChangeTotals.{ChangeTotals}
+use Rattle.compared_verdicts.specs.declared.change_totals.ChangeTotals.{ChangeTotals}
 
 -- which verdicts on packets are right by a policy
 abbrev pub Rightness : Type 1

@@ -6,13 +6,33 @@ ghost use Rattle.racl_io.specs.Sinks.{HasPutFront};
 ghost use Rattle.compared_verdicts.specs.Changes.{change_facts};
 ghost use Rattle.compared_verdicts.specs.inner.ChangeLines.{line_by, lines_told};
 
-use crate::change::Change;
 use acl_policy::Policy;
+use packet_view::Packet;
 use packet_words::{packet_as_seen, push_packet, push_verdict};
 use racl_io::{Fault, Numeral, Piece, Sink, write_all};
+use session_state::Verdict;
 
 /// How many packets have their lines in one piece. A line has at most 530 bytes.
 const LINES: usize = 480;
+
+/// A policy, and the one that is to take its place.
+#[derive(Clone, Copy)]
+pub struct PolicyPair<'p> {
+    pub before: &'p Policy,
+    pub after: &'p Policy,
+}
+
+/// A packet on which two policies say different things.
+#[derive(Clone, Copy)]
+pub struct Change<'a> {
+    /// The packet's number in its capture, from 1.
+    pub number: u64,
+    pub packet: Packet<'a>,
+    /// Its verdict by the policy so far.
+    pub before: Verdict,
+    /// Its verdict by the other one.
+    pub after: Verdict,
+}
 
 // The packet's number, and its verdicts.
 fn push_verdicts(piece: &mut Piece, change: &Change<'_>)

@@ -6,9 +6,23 @@ ghost use Rattle.compared_verdicts.specs.ChangeReports.{end_of_report, is_other,
 ghost use Rattle.compared_verdicts.specs.Changes.{change_facts};
 ghost use Rattle.compared_verdicts.specs.inner.Totals.{HasRoom};
 
-use crate::change::Change;
-use crate::totals::ChangeTotals;
+use crate::change_lines::Change;
 use racl_io::{Captured, Fault, Numeral, Piece, Sink, write_all, write_truncation};
+
+/// How many packets were compared, and how many of these are changed.
+#[derive(Clone, Copy, Debug, PartialEq, Eq)]
+pub struct ChangeTotals {
+    pub packets: u64,
+    pub changed: u64,
+    /// How many passed, and are dropped now.
+    pub to_drop: u64,
+    /// How many were dropped, and pass now.
+    pub to_pass: u64,
+    /// How many of the changed pass as before, or are dropped as before.
+    pub other: u64,
+    /// Whether the capture ends within a record.
+    pub truncated: bool,
+}
 
 /// The totals over no packet.
 pub fn no_changes() -> ChangeTotals

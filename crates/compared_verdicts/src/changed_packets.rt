@@ -3,7 +3,7 @@ ghost use Rattle.std.specs.Prelude.{◌≡◌, ◌+◌, ◌<◌, ◌^◌, IfOk, 
 ghost use Rattle.packet_view.specs.CheckedCaptures.{remaining};
 ghost use Rattle.compared_verdicts.specs.Changes.{change_facts, changes_from, pair_facts};
 
-use crate::change::{Change, PolicyPair};
+use crate::change_lines::{Change, PolicyPair};
 use crate::rule_of_verdict::agree;
 use packet_view::Packets;
 use session_state::Verdict;

@@ -6,12 +6,9 @@ ghost use Rattle.compared_verdicts.specs.Changes.{pair_facts};
 ghost use Rattle.compared_verdicts.specs.Comparing.{HasToldAll, IsComparingFault};
 ghost use Rattle.compared_verdicts.specs.inner.Comparisons.{HasComparedWaiting, IsWaitingFault, MayCompare};
 
-use crate::change::PolicyPair;
-use crate::change_lines::write_changes;
-use crate::change_totals::{count_changes, no_changes, write_end_of_report};
+use crate::change_lines::{PolicyPair, write_changes};
+use crate::change_totals::{ChangeTotals, count_changes, no_changes, write_end_of_report};
 use crate::changed_packets::changed_packets;
-use crate::comparison::Comparison;
-use crate::totals::ChangeTotals;
 use capture_stream::{Engine, Judge, is_cut};
 use packet_view::{Order, Stop};
 use racl_io::{Fault, Piece, Sink, Source};
@@ -22,6 +19,19 @@ const PART_BYTES: usize = 65_536;
 
 /// How many bytes are read in all, at most.
 const MOST_READ: usize = 4_611_686_018_427_387_904;
+
+/// A capture of which the first packets were judged by both policies, and those that are changed were told.
+#[derive(Drop)]
+pub struct Comparison<J, K> {
+    /// What judged them by the policy so far.
+    pub engine: Engine<J>,
+    /// What judged them by the policy that is to take its place.
+    pub after: K,
+    /// How many of them are changed.
+    pub totals: ChangeTotals,
+    /// How many bytes were read.
+    pub read: usize,
+}
 
 // The packets of whole records that wait are judged by both policies, and those that are changed are told.
 fn compare_waiting<J: Judge, K: Judge, W: Sink>(

@@ -1,13 +1,11 @@
 //! Verdicts beside what a file expects of them, and beside those of another policy: each difference is told.
 #![tactic(auto)]
 
-mod change;
 mod change_lines;
 mod change_totals;
 mod changed_packets;
 mod compared_at_once;
 mod compared_capture;
-mod comparison;
 mod expectation;
 mod expectation_fault;
 mod expectation_file;
@@ -15,20 +13,18 @@ mod expectation_line;
 mod met_line;
 mod numbers;
 mod rule_of_verdict;
-mod totals;
 mod unmet;
 mod unmet_lines;
 mod verdict_words;
 mod wanted_words;
 
-pub use change::{Change, PolicyPair};
-pub use change_totals::status_of_changes;
+pub use change_lines::{Change, PolicyPair};
+pub use change_totals::{ChangeTotals, status_of_changes};
 pub use compared_at_once::{is_met, write_compared};
 pub use compared_capture::tell_changes;
 pub use expectation::{Expectation, Expected, Total, Wanted};
 pub use expectation_fault::{ExpectationFault, ExpectationReason};
 pub use expectation_file::read_expectations;
 pub use met_line::{status_of_expected, write_met};
-pub use totals::ChangeTotals;
 pub use unmet::{any_open, any_unmet};
 pub use unmet_lines::UnmetLines;

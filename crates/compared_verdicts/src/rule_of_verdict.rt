@@ -6,7 +6,7 @@ ghost use Rattle.acl_policy.specs.Rules.{rule_facts};
 ghost use Rattle.compared_verdicts.specs.Changes;
 ghost use Rattle.compared_verdicts.specs.Changes.{pair_facts};
 
-use crate::change::PolicyPair;
+use crate::change_lines::PolicyPair;
 use acl_policy::{Action, Policy, Rule};
 use packet_view::{Family, Mac, Packet};
 use packet_words::{kind_of, rule_number};

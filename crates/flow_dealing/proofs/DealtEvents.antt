@@ -20,8 +20,8 @@ use Rattle.session_state.specs.declared.verdict.Verdict.{Verdict}
 use Rattle.flow_filter.specs.Ageing.{Judges, Removal, Removes, Step}
 use Rattle.flow_filter.specs.Judged.{Asked, Asks, Judged, Settled, verdict_on, verdicts_on}
 use Rattle.flow_filter.specs.OneThread.{family_of, home_of, same_family}
-use Rattle.flow_dealing.specs.declared.dealing.Dealing.{Dealing}
-use Rattle.flow_dealing.specs.declared.dealing.Dealing.TheVariants.{Round, Bucket}
+use Rattle.flow_dealing.specs.declared.worker_of_flow.Dealing.{Dealing}
+use Rattle.flow_dealing.specs.declared.worker_of_flow.Dealing.TheVariants.{Round, Bucket}
 use Rattle.flow_dealing.specs.Dealings.{Deal, flow_of_reading, flow_of_frame, worker_by_dealing, worker_of}
 use Rattle.flow_dealing.specs.Traces.{ArePlaced, AreFrames, IsItem, IsItemOf, IsTrace, Item, events_of, judged_of, numbers_from}
 use Rattle.flow_dealing.specs.WorkerRecords.{add_in, events_by}

@@ -32,8 +32,8 @@ use Rattle.flow_filter.specs.Updates.{update_of, words_of}
 use Rattle.flow_filter.specs.Judged.{AreAsked, Asked, Asks, IsAsked, IsAskedBy, Settled}
 use Rattle.flow_filter.specs.OneThread.{Home, add_event, bounds_in, family_of, home_of, same_family, same_home, sizes_in}
 use Rattle.flow_filter.proofs.HomeLemmas.{families_are_one}
-use Rattle.flow_dealing.specs.declared.dealing.Dealing.{Dealing}
-use Rattle.flow_dealing.specs.declared.dealing.Dealing.TheVariants.{Bucket}
+use Rattle.flow_dealing.specs.declared.worker_of_flow.Dealing.{Dealing}
+use Rattle.flow_dealing.specs.declared.worker_of_flow.Dealing.TheVariants.{Bucket}
 use Rattle.flow_dealing.specs.Dealings.{Deal, flow_of_reading, worker_of}
 use Rattle.flow_dealing.specs.WorkerRecords.{AreRecorded, IsByOwner, add_in, events_by}
 use Rattle.flow_dealing.proofs.DealtEvents.{events_by-judges, events_by-nil, events_by-removes, worker_few}

@@ -23,7 +23,7 @@ use Rattle.flow_filter.specs.Readings.{AreReadings, IsReading}
 use Rattle.flow_filter.specs.Updates.{Update, update_of}
 use Rattle.flow_filter.proofs.OneThreadLemmas.{some_verdicts}
 use Rattle.flow_filter.proofs.AgeingLemmas.{aged_verdicts}
-use Rattle.flow_dealing.specs.declared.dealing.Dealing.TheVariants.{Bucket}
+use Rattle.flow_dealing.specs.declared.worker_of_flow.Dealing.TheVariants.{Bucket}
 use Rattle.flow_dealing.specs.Views.{Views, view_in}
 use Rattle.flow_dealing.specs.Dealings.{Deal, flow_of_reading, worker_of}
 use Rattle.flow_dealing.specs.WorkerRecords.{AreInTimeOrder, AreJudged, AreJudgedAgeing, AreJudgedBetween, AreWithinLimit, HavePages, IsByOwner, RemoveInTime}

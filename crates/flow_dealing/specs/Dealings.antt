@@ -7,8 +7,8 @@ use Rattle.session_state.specs.Flows.{flow_of}
 use Rattle.flow_filter.specs.Readings.{Framed, Reading, Ruled}
 use Rattle.flow_filter.specs.OneThread.{Layout, family_of, home_of, sizes_in}
 use Rattle.flow_filter.specs.Updates.{words_of}
-use Rattle.flow_dealing.specs.declared.dealing.Dealing.{Dealing}
-use Rattle.flow_dealing.specs.declared.dealing.Dealing.TheVariants.{Round, Bucket}
+use Rattle.flow_dealing.specs.declared.worker_of_flow.Dealing.{Dealing}
+use Rattle.flow_dealing.specs.declared.worker_of_flow.Dealing.TheVariants.{Round, Bucket}
 
 -- the hash of a key in the table of its family
 abbrev pub hash_in : Layout → FlowKey → ℕ

@@ -5,9 +5,8 @@ ghost use Rattle.flow_filter.specs.OneThread.{layout_of};
 ghost use Rattle.flow_dealing.specs.HashedFlows.{IsHashed};
 ghost use Rattle.flow_dealing.specs.Dealt.{AreShapes, HasFlow, IsDealtTo};
 
-use crate::dealing::Dealing;
 use crate::hashed_flow::HashedFlow;
-use crate::worker_of_flow::worker_of;
+use crate::worker_of_flow::{Dealing, worker_of};
 use bihash_words::Shape;
 
 /// What packets are dealt by.

@@ -1,12 +1,16 @@
 //! Frames that needn't be plain, where and when they were seen.
+ghost use Rattle.std.specs.Prelude.{◌≡◌, ◌<◌};
+ghost use Rattle.std.specs.Option.{ForSome};
 ghost use Rattle.packet_view.specs.Captures.{packet_facts};
 ghost use Rattle.flow_filter.specs.OneThread.{IsFlowLayout, layout_of};
+ghost use Rattle.packet_view.specs.Frames.{frame_facts};
 ghost use Rattle.flow_dealing.specs.Dealt.{IsOtherOf};
+ghost use Rattle.flow_dealing.specs.Dealings;
 
-use crate::frame_flow::flow_of_frame;
 use crate::hashed_flow::HashedFlow;
 use bihash_words::Shape;
 use packet_view::{Frame, Packet, view};
+use session_state::{Flow, orient};
 
 /// What a packet is whose frame needn't be plain.
 #[derive(Clone, Copy)]
@@ -16,6 +20,18 @@ pub struct OtherSighting<'a> {
     pub frame: Frame,
     /// The packet's flow.
     pub hashed: HashedFlow,
+}
+
+/// The flow of a packet with this frame. `None`: it takes no part in sessions.
+#[inline(always)]
+pub fn flow_of_frame(frame: &Frame) -> Option<Flow>
+    ensures shown { result ≡ Dealings.flow_of_frame (frame_facts frame.now) }
+    ensures side { ForSome result (λ f. f.side < 2) }
+{
+    match frame {
+        Frame::Ip(_, tuple) => orient(tuple),
+        Frame::NotIp | Frame::Malformed | Frame::Short => None,
+    }
 }
 
 /// The sighting of a packet.

@@ -6,10 +6,19 @@ ghost use Rattle.flow_dealing.specs.Dealings;
 ghost use Rattle.flow_dealing.specs.Dealings.{hash_in};
 ghost use Rattle.flow_dealing.specs.HashedFlows.{IsHashed};
 
-use crate::dealing::Dealing;
 use crate::hashed_flow::HashedFlow;
 use bihash_words::Shape;
 use session_state::FlowKey;
+
+/// How packets are dealt to workers. Each worker judges its packets in the order of the file.
+#[derive(Clone, Copy)]
+pub enum Dealing {
+    /// In turn: the packet with number p, from 0, goes to worker p modulo the number of workers.
+    Round,
+    /// By bucket: a packet of a flow goes to worker b modulo the number of workers, where b is the bucket of its
+    /// flow's key in the table of its family; every other packet goes to worker 0.
+    Bucket,
+}
 
 // The bucket by which the packets of a flow get their worker, in the table of the flow's family.
 #[inline(always)]

@@ -9,7 +9,7 @@ ghost use Rattle.session_state.specs.declared.timeouts.Timeouts.{Timeouts};
 ghost use Rattle.session_state.specs.declared.verdict.Verdict.{Verdict};
 ghost use Rattle.flow_filter.specs.Ageing.{Removal, Step};
 ghost use Rattle.flow_filter.specs.OneThread.{AreVerdicts};
-ghost use Rattle.flow_dealing.specs.declared.dealing.Dealing.TheVariants.{Bucket};
+ghost use Rattle.flow_dealing.specs.declared.worker_of_flow.Dealing.TheVariants.{Bucket};
 ghost use Rattle.flow_dealing.specs.Views.{Views, view_in};
 ghost use Rattle.flow_dealing.specs.AgeingTraces.{AreAllDeeds, Deed, HaveDone, items_in};
 ghost use Rattle.flow_dealing.specs.Dealings.{Deal};

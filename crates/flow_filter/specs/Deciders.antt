@@ -2,8 +2,8 @@
 use Rattle.std.specs.Prelude.{ℕ, Option, Some, None}
 use Rattle.session_state.specs.Decisions.{PatchFacts, live_session}
 use Rattle.session_state.specs.Sessions.{SessionFacts}
-use Rattle.flow_filter.specs.declared.session_or_rules.Decider.{Decider}
-use Rattle.flow_filter.specs.declared.session_or_rules.Decider.TheVariants.{Rules, Session}
+use Rattle.flow_filter.specs.declared.lazy_patch.Decider.{Decider}
+use Rattle.flow_filter.specs.declared.lazy_patch.Decider.TheVariants.{Rules, Session}
 use Rattle.flow_filter.specs.Readings.{Ruling}
 
 abbrev pub decider_at : Ruling → Option SessionFacts → Decider

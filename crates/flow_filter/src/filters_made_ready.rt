@@ -6,11 +6,10 @@ ghost use Rattle.flow_filter.specs.Filters.{section_in};
 ghost use Rattle.flow_filter.specs.RuleIndexes.{ArePrepared};
 ghost use Rattle.flow_filter.specs.Rulesets.{rules_in};
 
-use crate::filter::Filter;
 use crate::interface_filters::{InterfaceFilter, InterfaceFilters};
+use crate::prepared_filter::Filter;
 use crate::rule_indexes::{RuleIndexes, index_of, rules_with_index};
-use crate::rule_search::RuleSearch;
-use crate::ruleset::Ruleset;
+use crate::ruleset::{RuleSearch, Ruleset};
 use acl_policy::Section;
 use session_state::Timeouts;
 use std::alloc::{AllocError, Global};

@@ -13,13 +13,12 @@ ghost use Rattle.flow_filter.specs.Rulesets.{rules_in};
 use crate::interface_filters::InterfaceFilter;
 use crate::packet_flow::{PacketFlow, tuple_copy};
 use crate::ruleset::Ruleset;
-use crate::session_or_rules::Decider;
 use crate::session_update::patch_of;
 use crate::verdict_by_rules::{found_for_verdict, verdict_without_session};
 use acl_policy::Action;
 use bihash_words::{Change, Patch, Reply};
 use packet_view::Tuple;
-use session_state::{PacketPatch, Verdict};
+use session_state::{PacketPatch, Session, Verdict};
 use std::cell::Cell;
 use std::marker::{Brand, PhantomData};
 
@@ -55,6 +54,13 @@ struct Decided<D: HasReading> {
     of: PhantomData<D>,
     ghost is: { ruling ≡ D.ruling },
     ghost few: { ForSome ruling (λ decided. decided.0 < most_rules) },
+}
+
+/// What decides a packet: its live session, and where it has none, what the rules say.
+#[derive(Clone, Copy)]
+pub enum Decider {
+    Session(Session),
+    Rules(Option<(usize, Action)>),
 }
 
 // A lazy patch asks its rules by this, where no session of the packet is live. Few packets of a busy flow come here,

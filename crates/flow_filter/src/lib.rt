@@ -3,16 +3,13 @@
 #![tactic(auto)]
 
 mod ageing_laws;
-mod filter;
 mod filters_made_ready;
 mod interface_filters;
 mod lazy_patch;
 mod packet_flow;
 mod prepared_filter;
 mod rule_indexes;
-mod rule_search;
 mod ruleset;
-mod session_or_rules;
 mod session_update;
 mod verdict_by_rules;
 mod verdict_laws;
@@ -22,14 +19,12 @@ pub use ageing_laws::{
     ageing_filter_says_the_same, removed_sessions_are_live_for_no_later_packet,
     removing_ended_sessions_changes_no_verdict,
 };
-pub use filter::Filter;
 pub use interface_filters::{InterfaceFilter, InterfaceFilters};
 pub use lazy_patch::{HasReading, LazyPatch};
 pub use packet_flow::{PacketFlow, tuple_copy};
-pub use prepared_filter::PreparedFilter;
+pub use prepared_filter::{Filter, PreparedFilter};
 pub use rule_indexes::RuleIndexes;
-pub use rule_search::RuleSearch;
-pub use ruleset::Ruleset;
+pub use ruleset::{RuleSearch, Ruleset};
 pub use verdict_by_rules::verdict_of_rules;
 pub use verdict_laws::{
     each_capture_has_one_list_of_verdicts, each_list_is_judged_once, each_packet_has_one_reading,

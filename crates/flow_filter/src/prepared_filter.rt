@@ -1,18 +1,25 @@
-//! A filter whose rules were prepared, which is made ready for one packet at a time.
+//! A filter, and one whose rules were prepared, which is made ready for one packet at a time.
 ghost use Rattle.std.specs.Prelude.{◌≡◌, IfOk};
 ghost use Rattle.std.specs.List.{AllZip};
 ghost use Rattle.acl_policy.specs.Policies.{policy_facts};
 ghost use Rattle.flow_filter.specs.InterfaceFilters.{IsReadyAt};
 ghost use Rattle.flow_filter.specs.RuleIndexes.{ArePrepared};
-ghost use Rattle.flow_filter.specs.declared.filter.Filter.{Filter};
+ghost use Rattle.flow_filter.specs.declared.prepared_filter.Filter.{Filter};
 
-use crate::filter::Filter;
 use crate::filters_made_ready::ready_at;
 use crate::interface_filters::InterfaceFilter;
 use crate::rule_indexes::RuleIndexes;
+use acl_policy::Policy;
 use session_state::Timeouts;
 use std::alloc::{AllocError, Global};
 use std::marker::Model;
+
+/// The rules, and how long sessions live.
+#[derive(Drop)]
+pub struct Filter {
+    pub policy: Policy,
+    pub times: Timeouts,
+}
 
 /// A filter, and the rules that it searches as they were prepared. Contracts see the filter.
 #[derive(Drop)]

@@ -5,8 +5,7 @@ ghost use Rattle.acl_policy.specs.Rules.{most_rules, rule_facts};
 ghost use Rattle.rule_index.specs.inner.Worth.{IsWorthPreparing};
 ghost use Rattle.flow_filter.specs.Rulesets.{rules_in};
 
-use crate::rule_search::RuleSearch;
-use crate::ruleset::Ruleset;
+use crate::ruleset::{RuleSearch, Ruleset};
 use acl_policy::Rule;
 use rule_index::{RuleIndex, worth_preparing};
 use std::alloc::{AllocError, Global};

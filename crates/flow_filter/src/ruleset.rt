@@ -3,9 +3,18 @@ ghost use Rattle.std.specs.Prelude.{◌≤◌, length};
 ghost use Rattle.acl_policy.specs.Rules.{most_rules};
 ghost use Rattle.flow_filter.specs.RuleSearches.{searched_rules};
 
-use crate::rule_search::RuleSearch;
-use acl_policy::{Action, first_match};
+use acl_policy::{Action, Rule, first_match};
 use packet_view::Tuple;
+use rule_index::RuleIndex;
+
+/// Rules, and how they are searched.
+#[derive(Clone, Copy)]
+pub enum RuleSearch<'a> {
+    /// One after the other.
+    Listed(&'a [Rule]),
+    /// By their index.
+    Indexed(&'a RuleIndex),
+}
 
 /// The rules of one direction, as they are searched.
 #[derive(Clone, Copy)]

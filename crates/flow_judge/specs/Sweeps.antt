@@ -10,7 +10,7 @@ use Rattle.bihash_table.specs.declared.contended.Contended.{Contended}
 use Rattle.flow_filter.specs.OneThread.{layout_of, sizes_in}
 use Rattle.flow_judge.specs.Ageing.{TellsAged}
 use Rattle.flow_judge.specs.JudgeStates.{JudgeState}
-use Rattle.flow_judge.specs.declared.swept.Swept.{Swept}
+use Rattle.flow_judge.specs.declared.judge_swept.Swept.{Swept}
 
 -- a bucket is looked at again where a session of it went, and else the next one
 abbrev pub bucket_after : Option Reply → ℕ → ℕ

@@ -7,10 +7,20 @@ ghost use Rattle.flow_filter.specs.OneThread.{layout_of, sizes_in};
 ghost use Rattle.flow_judge.specs.Sweeps.{TellsSwept, bucket_after, went_after};
 
 use crate::judge::Judge;
-use crate::swept::Swept;
 use bihash_table::{Contended, Sessions};
 use bihash_words::{Reply, Shape};
 use packet_view::Family;
+
+/// How far a sweep came.
+#[derive(Clone, Copy, Debug, PartialEq, Eq)]
+pub struct Swept {
+    /// The bucket at which the next look would be.
+    pub next: u64,
+    /// How many sessions went.
+    pub went: u64,
+    /// Whether another judge stood in the way there.
+    pub met: bool,
+}
 
 // How many buckets a table has.
 fn bucket_count<S: Shape>(table: &Sessions<S>) -> u64

@@ -15,12 +15,11 @@ mod judges_met;
 mod judges_split_and_joined;
 mod packet_bucket;
 mod rule_counts;
-mod swept;
 mod tables_share;
 
 pub use counts::Counts;
 pub use judge::Judge;
+pub use judge_swept::Swept;
 pub use judged::Judged;
 pub use packet_bucket::{FlowBucket, flow_bucket};
 pub use rule_counts::RuleCounts;
-pub use swept::Swept;

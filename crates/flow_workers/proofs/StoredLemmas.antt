@@ -14,7 +14,7 @@ use Rattle.acl_policy.specs.Policies.{PolicyFacts}
 use Rattle.session_state.specs.declared.timeouts.Timeouts.{Timeouts}
 use Rattle.flow_filter.specs.OneThread.{Home, IsHome, sizes_in}
 use Rattle.session_state.specs.declared.verdict.Verdict.{Verdict}
-use Rattle.flow_dealing.specs.declared.dealing.Dealing.TheVariants.{Bucket}
+use Rattle.flow_dealing.specs.declared.worker_of_flow.Dealing.TheVariants.{Bucket}
 use Rattle.flow_dealing.specs.Dealings.{Deal}
 use Rattle.flow_dealing.specs.Views.{view_in}
 use Rattle.flow_dealing.specs.WorkerRecords.{AreJudged}

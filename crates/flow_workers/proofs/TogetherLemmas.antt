@@ -8,8 +8,8 @@ use Rattle.bihash_words.specs.declared.shape.Shape.{Ghosts}
 use Rattle.session_state.specs.declared.flow.Flow.{Flow}
 use Rattle.flow_filter.specs.OneThread.{Layout, layout_of}
 use Rattle.flow_dealing.specs.Dealings.{flow_of_frame, worker_by_dealing}
-use Rattle.flow_dealing.specs.declared.dealing.Dealing.{Dealing}
-use Rattle.flow_dealing.specs.declared.dealing.Dealing.TheVariants.{Bucket, Round}
+use Rattle.flow_dealing.specs.declared.worker_of_flow.Dealing.{Dealing}
+use Rattle.flow_dealing.specs.declared.worker_of_flow.Dealing.TheVariants.{Bucket, Round}
 use Rattle.flow_dealing.proofs.DealtLists.{workers_push}
 use Rattle.flow_dealing.specs.Dealt.{IsDealtTo}
 use Rattle.flow_dealing.specs.declared.dealer.Dealer.{Dealer}

@@ -6,7 +6,7 @@ use Rattle.acl_policy.specs.Policies.{policy_facts}
 use Rattle.bihash_words.specs.declared.patch.Reply.{Reply}
 use Rattle.bihash_words.specs.declared.shape.Shape.{Ghosts}
 use Rattle.bihash_rule.specs.declared.view.View.{View}
-use Rattle.flow_filter.specs.declared.filter.Filter.{Filter}
+use Rattle.flow_filter.specs.declared.prepared_filter.Filter.{Filter}
 use Rattle.session_state.specs.declared.verdict.Verdict.{Verdict}
 use Rattle.flow_workers.specs.declared.session_tables.Callers.{Callers}
 use Rattle.flow_workers.specs.declared.session_tables.Tables.{Tables}

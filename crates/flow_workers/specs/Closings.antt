@@ -10,8 +10,8 @@ use Rattle.bihash_table.specs.declared.close_fault.CloseFault.{CloseFault}
 use Rattle.bihash_table.specs.declared.shared_table.Sessions.{Sessions}
 use Rattle.flow_workers.specs.declared.session_tables.Callers.{Callers}
 use Rattle.flow_workers.specs.declared.session_tables.Tables.{Tables}
-use Rattle.flow_workers.specs.declared.unclosed_tables.Unclosed.{Unclosed}
-use Rattle.flow_workers.specs.declared.unclosed_tables.Unclosed.TheVariants.{Both, Six}
+use Rattle.flow_workers.specs.declared.table_closing.Unclosed.{Unclosed}
+use Rattle.flow_workers.specs.declared.table_closing.Unclosed.TheVariants.{Both, Six}
 
 -- A table was not closed for this reason. It and its caller, which holds nothing and knows the same pairs, are as they were, but
 -- for what the caller counted and noted.

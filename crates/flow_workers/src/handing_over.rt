@@ -3,8 +3,8 @@ ghost use Rattle.flow_workers.specs.Callers.{AreIdle};
 ghost use Rattle.flow_workers.specs.inner.LettingGo.{HasLetGo};
 
 use crate::gate::Gate;
-use crate::lone_caller::wait_until_lone;
 use crate::session_tables::Tables;
+use crate::worker_callers::wait_until_lone;
 use crate::worker_share::Share;
 use crate::workers::Workers;
 use bihash_words::Shape;

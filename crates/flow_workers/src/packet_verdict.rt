@@ -7,7 +7,7 @@ ghost use Rattle.acl_policy.specs.Policies.{policy_facts};
 ghost use Rattle.bihash_table.specs.Tries.{TookByTries};
 ghost use Rattle.flow_filter.specs.Filters.{section_in};
 ghost use Rattle.flow_filter.specs.InterfaceFilters.{IsReadyAt};
-ghost use Rattle.flow_filter.specs.declared.filter.Filter.{Filter};
+ghost use Rattle.flow_filter.specs.declared.prepared_filter.Filter.{Filter};
 ghost use Rattle.flow_filter.specs.Liveness.{IsForeseen};
 ghost use Rattle.flow_filter.specs.OneThread.{layout_of};
 ghost use Rattle.flow_filter.specs.Readings.{IsSeenAt};

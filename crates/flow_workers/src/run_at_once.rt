@@ -4,7 +4,7 @@ ghost use Rattle.packet_view.specs.CheckedCaptures.{remaining};
 ghost use Rattle.packet_view.specs.declared.tuple.Family.{Family};
 ghost use Rattle.acl_policy.specs.Policies.{policy_facts};
 ghost use Rattle.flow_filter.specs.OneThread.{AreVerdicts, layout_of};
-ghost use Rattle.flow_dealing.specs.declared.dealing.Dealing.TheVariants.{Bucket};
+ghost use Rattle.flow_dealing.specs.declared.worker_of_flow.Dealing.TheVariants.{Bucket};
 ghost use Rattle.flow_dealing.specs.Places.{PassAtPlaces};
 ghost use Rattle.flow_dealing.specs.WorkerRecords.{AreFew, AreJudged, HasPagesIn, HavePages};
 ghost use Rattle.flow_workers.specs.Callers.{AreShapes};

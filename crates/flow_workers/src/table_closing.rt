@@ -6,10 +6,18 @@ ghost use Rattle.flow_workers.specs.Callers.{AreIdle};
 ghost use Rattle.flow_workers.specs.Closings.{AreLeftOpen};
 
 use crate::session_tables::{Callers, Tables};
-use crate::unclosed_tables::Unclosed;
-use bihash_table::CloseFault;
+use bihash_table::{Caller, CloseFault, Sessions};
 use bihash_words::Shape;
 use std::alloc::Global;
+
+/// What is left of tables that could not both be closed. Nothing that they held is lost.
+#[derive(Drop)]
+pub enum Unclosed<A: Shape, B: Shape> {
+    /// The table of IPv4 could not be closed: both tables, and their callers.
+    Both(Tables<A, B>, Callers<A, B>),
+    /// That of IPv6 could not: the pairs of the table of IPv4, which ended, and the table of IPv6 with its caller.
+    Six(Vec<(A::Key, u64)>, Sessions<B>, Caller<B>),
+}
 
 /// The pairs of each table, which end, sorted by the words of their keys, first word first. `Strangers`: some caller of a
 /// table wasn't joined into this one. `Memory`: memory was refused. Refused, what was not closed comes back, and the pairs of

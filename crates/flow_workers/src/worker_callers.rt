@@ -1,11 +1,10 @@
 //! Callers of workers: made before their turns, and taken together after them.
-ghost use Rattle.std.specs.Prelude.{IfOk};
+ghost use Rattle.std.specs.Prelude.{◌≡◌, IfOk};
 ghost use Rattle.bihash_words.specs.Sizes.{sizes_of};
 ghost use Rattle.bihash_steps.specs.CallerCalls.{AreIdle};
-ghost use Rattle.flow_workers.specs.inner.CallerSplits.{AreJoined, AreJoinedWhole, AreNew, IsJoinedOne, IsNewCaller, MayJoin};
+ghost use Rattle.flow_workers.specs.inner.CallerSplits.{AreJoined, AreJoinedWhole, AreNew, IsJoinedOne, IsMadeWhole, IsNewCaller, MayJoin};
 ghost use Rattle.flow_workers.specs.inner.Shares.{AreFresh};
 
-use crate::lone_caller::wait_until_lone;
 use crate::session_tables::{Callers, Tables};
 use bihash_table::{Caller, Sessions, SplitFault};
 use bihash_words::Shape;
@@ -76,6 +75,19 @@ pub fn join_all<S: Shape>(table: &Sessions<S>, mut callers: Vec<Caller<S>>) -> C
         joined = join_one(table, caller, joined);
     }
     joined
+}
+
+/// Counts the callers until this one is found to have every number.
+pub fn wait_until_lone<S: Shape, R: Wait>(rt: &R, table: &Sessions<S>, caller: &mut Caller<S>)
+    requires { caller.old.seat.row ≡ table.now.row }
+    ensures { IsMadeWhole (sizes_of S.Shape) caller.old.seat caller.new.seat }
+{
+    for _ in rt.forever() {
+        if table.is_lone(caller) {
+            return;
+        }
+    }
+    unreachable!()
 }
 
 /// The callers of all workers, in their order, as one that made each write that it knows.

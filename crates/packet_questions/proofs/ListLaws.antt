@@ -4,7 +4,7 @@ use Rattle.std.specs.Borrow.{Bor}
 use Rattle.std.proofs.lemmas.Bool.{eqb-true}
 use Rattle.acl_policy.specs.Words.{words_of}
 use Rattle.packet_questions.specs.Asks.{texts}
-use Rattle.packet_questions.specs.declared.asked_packet.AskedPacket.{AskedPacket}
+use Rattle.packet_questions.specs.declared.asked_packets.AskedPacket.{AskedPacket}
 use Rattle.std.specs.Prelude.{All}
 use Rattle.std.proofs.lemmas.List.{append-nil, append_assoc, length-append, map-append}
 use Rattle.std.proofs.lemmas.List.Elements.{All-append, All-cons, All-nil}

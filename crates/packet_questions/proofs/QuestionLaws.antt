@@ -14,7 +14,7 @@ use Rattle.acl_policy.specs.Lines.{direction_word}
 use Rattle.acl_policy.specs.inner.Reading.Lines.{direction_in}
 use Rattle.acl_policy.proofs.LineLaws.{direction_in-complete, direction_in-sound}
 use Rattle.packet_questions.specs.Questions.{IsCarried, IsPlaced, IsQuestion, IsSecond, QuestionFacts, question_facts}
-use Rattle.packet_questions.specs.declared.question.Question.{Question}
+use Rattle.packet_questions.specs.declared.question_words.Question.{Question}
 use Rattle.packet_questions.specs.inner.Reading.{carried_in, place_by, place_in, question_in, second_in, seen_in, step, timed_by}
 use Rattle.packet_questions.proofs.CarriedLaws.{carried-complete, carried-sound, not_if}
 use Rattle.packet_questions.proofs.StepLaws.{after-complete, after-other, after-sound, second-complete, second-sound, step-complete, step-sound}

@@ -25,7 +25,7 @@ use Rattle.compared_verdicts.specs.declared.expectation.Expectation.{Expectation
 use Rattle.packet_questions.specs.Forms.{form_in}
 use Rattle.packet_questions.specs.Frames.{frame_bytes, seen_facts}
 use Rattle.packet_questions.specs.Questions.{AreQuestions, IsQuestion, QuestionFacts, question_facts}
-use Rattle.packet_questions.specs.declared.asked_packet.AskedPacket.{AskedPacket}
+use Rattle.packet_questions.specs.declared.asked_packets.AskedPacket.{AskedPacket}
 use Rattle.packet_questions.specs.declared.question_fault.QuestionFault.{QuestionFault}
 use Rattle.packet_questions.specs.declared.question_fault.QuestionFault.TheVariants.{NoWayOut, Run, Wrong}
 

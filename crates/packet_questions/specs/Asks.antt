@@ -2,8 +2,8 @@
 use Rattle.std.specs.Prelude.{ℕ, Bool, true, false, List, [], ◌∷◌, None, Option, Some, codes, map, option_map, if◌then◌else◌}
 use Rattle.std.specs.Borrow.{Bor}
 use Rattle.std.specs.Str.{bytes_eq}
-use Rattle.packet_questions.specs.declared.ask_words.AskedAbout.{AskedAbout}
-use Rattle.packet_questions.specs.declared.ask_words.AskedAbout.TheVariants as code
+use Rattle.packet_questions.specs.declared.asking_words.AskedAbout.{AskedAbout}
+use Rattle.packet_questions.specs.declared.asking_words.AskedAbout.TheVariants as code
 
 -- the texts behind references
 abbrev pub texts : List (Bor (List ℕ)) → List (List ℕ)

@@ -13,7 +13,7 @@ use Rattle.acl_policy.specs.Prefixes.{IsAddress}
 use Rattle.acl_policy.specs.Readers.{IsNumberUpTo}
 use Rattle.acl_policy.specs.Traffic.{IsProtocol}
 use Rattle.acl_policy.specs.Lines.{direction_word}
-use Rattle.packet_questions.specs.declared.question.Question.{Question}
+use Rattle.packet_questions.specs.declared.question_words.Question.{Question}
 
 -- a question as a value, its tuple without what the type keeps
 pub record QuestionFacts : Type 0 where

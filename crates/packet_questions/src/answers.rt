@@ -12,8 +12,8 @@ ghost use Rattle.racl_views.specs.RunEntries.{run_facts};
 ghost use Rattle.packet_questions.specs.Answers.{AreAnswers, HasAnswered, IsAnswerFault, words_of_each};
 ghost use Rattle.packet_questions.specs.declared.question_fault.QuestionFault.TheVariants as told;
 
-use crate::ask_words::Ask;
 use crate::asked_packets::packets_of;
+use crate::asking_words::Ask;
 use crate::judged_packets::{Judged, filter_of, judged_in};
 use crate::question_fault::QuestionFault;
 use acl_policy::Policy;

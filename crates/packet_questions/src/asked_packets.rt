@@ -7,15 +7,21 @@ ghost use Rattle.acl_policy.specs.Words.{words_of};
 ghost use Rattle.packet_questions.specs.Questions.{IsQuestion};
 ghost use Rattle.packet_questions.specs.Answers.{AreAsked, IsFaultAt, IsSeenAsked, IsTextFault, asked_facts, packet_asked, words_of_each};
 
-use crate::asked_packet::AskedPacket;
 use crate::frame_bytes::question_frame;
 use crate::question_fault::QuestionFault;
 use crate::question_form::form_of;
-use crate::question_words::question_of;
+use crate::question_words::{Question, question_of};
 use flow_filter::Filter;
 use packet_view::{Mac, Packet};
 use racl_io::Fault;
 use std::alloc::{AllocError, Global};
+
+/// A packet that is asked about, and the frame that is written for it.
+#[derive(Drop)]
+pub struct AskedPacket {
+    pub question: Question,
+    pub frame: Vec<u8>,
+}
 
 // The own address of an interface.
 fn own_of(filter: &Filter, interface: u8) -> Option<Mac>

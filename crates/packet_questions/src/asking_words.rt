@@ -3,7 +3,28 @@ ghost use Rattle.std.specs.Prelude.{◌≡◌};
 ghost use Rattle.packet_questions.specs.Asks;
 ghost use Rattle.packet_questions.specs.Asks.{ask_facts, asks_of, text_in, texts};
 
-use crate::ask_words::{Ask, AskedAbout};
+/// What is asked about packets.
+#[derive(Clone, Copy)]
+pub struct Ask<'a> {
+    /// Whether lines are explained.
+    pub explained: bool,
+    /// The name of the file that says what is expected of the verdicts, where one is named.
+    pub expected: Option<&'a str>,
+    /// The name of the policy's file.
+    pub policy: &'a str,
+    /// A packet's words each.
+    pub packets: &'a [&'a str],
+}
+
+/// What the program's words ask.
+#[derive(Clone, Copy)]
+pub enum AskedAbout<'a> {
+    /// Nothing about packets.
+    Nothing,
+    /// Something about packets, but a policy or a packet is missing.
+    Unclear,
+    These(Ask<'a>),
+}
 
 // What the words ask that name a policy and packets.
 fn asked_by<'a>(explained: bool, expected: Option<&'a str>, words: &'a [&'a str]) -> AskedAbout<'a>

@@ -6,7 +6,7 @@ ghost use Rattle.packet_questions.specs.Frames.{frame_bytes, seen_facts};
 ghost use Rattle.packet_questions.specs.Questions.{question_facts};
 
 use crate::frame_parts::{ethernet_source, packet_bytes};
-use crate::question::Question;
+use crate::question_words::Question;
 use packet_view::{Frame, Mac, Tuple, view};
 use std::alloc::{AllocError, Global};
 

@@ -10,8 +10,7 @@ ghost use Rattle.racl_io.specs.declared.fault.Fault.{Fault};
 ghost use Rattle.packet_questions.specs.Asks.{texts};
 ghost use Rattle.packet_questions.specs.Answers.{AreDefaultTimes, AreVerdictsOnAsked, IsTextFault, asked_facts, words_of_each};
 
-use crate::asked_packet::AskedPacket;
-use crate::asked_packets::{asked_in, packets_of};
+use crate::asked_packets::{AskedPacket, asked_in, packets_of};
 use crate::question_fault::QuestionFault;
 use acl_policy::read_policy;
 use bihash_words::{Shape, ShapeV4, ShapeV6, flow_shapes_are_sound};

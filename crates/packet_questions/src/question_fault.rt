@@ -1,4 +1,7 @@
-//! Why packets in words aren't answered.
+//! Why packets in words aren't answered, and the status with which the program ends then.
+ghost use Rattle.std.specs.Prelude.{◌≡◌};
+ghost use Rattle.packet_questions.specs.Statuses.{status_of};
+
 use crate::question_form::Form;
 use racl_io::Fault;
 use thiserror::Error;
@@ -15,4 +18,15 @@ pub enum QuestionFault {
     /// The policy is wrong, memory ran out, or the writer failed.
     #[error("{0}")]
     Run(Fault),
+}
+
+/// The status with which the program ends after this fault.
+pub fn answer_status(fault: &QuestionFault) -> u8
+    ensures { result ≡ status_of fault.now }
+{
+    match fault {
+        QuestionFault::Wrong(_, _) | QuestionFault::NoWayOut(_, _) => 2,
+        QuestionFault::Run(Fault::Memory | Fault::Read | Fault::Write) => 4,
+        QuestionFault::Run(_) => 1,
+    }
 }

@@ -6,10 +6,18 @@ ghost use Rattle.packet_questions.specs.inner.Reading.{place_in, question_in, se
 
 use crate::carried::carried_of;
 use crate::ends::text_behind;
-use crate::question::Question;
 use crate::word_numbers::second_of;
 use acl_policy::{direction_of_word, next_word, octet_of};
-use packet_view::Direction;
+use packet_view::{Direction, Tuple};
+
+/// A packet that is asked about.
+#[derive(Clone, Copy)]
+pub struct Question {
+    /// When it is seen, in seconds.
+    pub moment: u32,
+    pub direction: Direction,
+    pub tuple: Tuple,
+}
 
 /// The interface by the words with which a text begins, and what follows them.
 #[tactic(auto, unfolding(crate::specs::inner::Reading::place_in))]

@@ -9,7 +9,7 @@ use Rattle.acl_policy.specs.declared.policy.PolicyFault.TheVariants as fault
 use Rattle.acl_policy.specs.Policies.{IsPolicyFault, IsPolicyText, IsSurplus, IsWrong, PolicyFacts, SayPolicy}
 use Rattle.acl_policy.proofs.TextLaws.{one_fault, one_policy, policy_or_fault}
 use Rattle.policy_check.specs.Complaints.{AreSorted, ComplaintFacts, IsChecked, IsComplaint, IsToldFirst, complaint_facts}
-use Rattle.policy_check.specs.declared.complaint.Complaint.{Complaint}
+use Rattle.policy_check.specs.declared.policy_checking.Complaint.{Complaint}
 use Rattle.policy_check.specs.declared.reason.Reason.{Reason}
 use Rattle.policy_check.specs.declared.reason.Reason.TheVariants.{Surplus}
 

@@ -10,7 +10,7 @@ use Rattle.acl_policy.specs.declared.policy.PolicyFault.TheVariants as fault
 use Rattle.acl_policy.specs.Lines.{Begins, IsLine, LineFacts, Own}
 use Rattle.acl_policy.specs.Policies.{IsAmong, IsLast, IsSurplus, PolicyFacts, SayPolicy, SectionFacts, numbers_of}
 use Rattle.acl_policy.specs.Words.{without_comment, words_of}
-use Rattle.policy_check.specs.declared.complaint.Complaint.{Complaint}
+use Rattle.policy_check.specs.declared.policy_checking.Complaint.{Complaint}
 use Rattle.policy_check.specs.declared.reason.Reason.{Reason}
 use Rattle.policy_check.specs.declared.reason.Reason.TheVariants.{NotUtf8, SecondMac, SecondSection, Surplus}
 use Rattle.policy_check.specs.Reasons.{IsFirst, IsFormReason}

@@ -3,7 +3,6 @@
 
 mod captures_of_other_macs;
 mod check_laws;
-mod complaint;
 mod frames_of_same_host;
 mod kinds_of_other_texts;
 mod line_finding;
@@ -25,10 +24,9 @@ mod word_readers;
 
 pub use captures_of_other_macs::{ForeignMac, foreign_mac};
 pub use check_laws::checks_agree_with_runs;
-pub use complaint::{Checked, Complaint};
 pub use frames_of_same_host::{OtherMac, other_mac};
 pub use kinds_of_other_texts::{TextKind, kind_of_other};
-pub use policy_checking::check_policy;
+pub use policy_checking::{Checked, Complaint, check_policy};
 pub use reason::Reason;
 pub use remark_kinds::{Remark, Unruled};
 pub use remarks_on_policy::{no_mac, remarks_on, unruled};

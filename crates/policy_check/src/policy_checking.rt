@@ -7,11 +7,29 @@ ghost use Rattle.acl_policy.specs.inner.Reading.Policies.{draft_facts, policy_so
 ghost use Rattle.policy_check.specs.Complaints.{AreComplaints, IsChecked, complaint_facts};
 ghost use Rattle.policy_check.specs.declared.reason.Reason.TheVariants.{NotUtf8};
 
-use crate::complaint::{Checked, Complaint};
 use crate::line_finding::explained;
 use crate::reason::Reason;
 use acl_policy::{Draft, Policy, PolicyFault, empty_draft, read_policy_line};
 use std::alloc::{AllocError, Global};
+
+/// What is the matter with a line.
+#[derive(Clone, Copy)]
+pub struct Complaint<'a> {
+    /// The number of the line, from 1.
+    pub line: u64,
+    pub reason: Reason,
+    /// The word of which the reason is said, and nothing where it is said of none.
+    pub word: &'a [u8],
+}
+
+/// What a check found.
+#[derive(Drop)]
+pub struct Checked<'a> {
+    /// The wrong lines, in their order.
+    pub complaints: Vec<Complaint<'a>>,
+    /// What the other lines say.
+    pub policy: Policy,
+}
 
 // Whether a line couldn't be added to the policy since memory ran out, which ends the check of its text.
 fn is_memory(fault: PolicyFault) -> bool

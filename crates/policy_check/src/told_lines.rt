@@ -2,9 +2,8 @@
 ghost use Rattle.std.specs.Prelude.{◌↔◌, ◌<◌, ◌^◌, IfOk, IfSome, IsTrue};
 ghost use Rattle.acl_policy.specs.Policies.{IsPolicyText, PolicyFacts};
 
-use crate::complaint::{Checked, Complaint};
 use crate::kinds_of_other_texts::kind_of_other;
-use crate::policy_checking::check_policy;
+use crate::policy_checking::{Checked, Complaint, check_policy};
 use crate::remark_kinds::Remark;
 use crate::remarks_on_policy::remarks_on;
 use acl_policy::Policy;

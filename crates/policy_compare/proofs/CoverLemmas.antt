@@ -2,8 +2,8 @@
 use Rattle.std.proofs.Common.{List, Some, None}
 use Rattle.acl_policy.specs.Rules.{RuleFacts}
 use Rattle.rule_cover.specs.Covers.{IsCover}
-use Rattle.rule_cover.specs.declared.answer.Cover.{Cover}
-use Rattle.rule_cover.specs.declared.answer.Cover.TheVariants.{Left, Taken, Unknown}
+use Rattle.rule_cover.specs.declared.uncovered_packets.Cover.{Cover}
+use Rattle.rule_cover.specs.declared.uncovered_packets.Cover.TheVariants.{Left, Taken, Unknown}
 use Rattle.policy_compare.specs.inner.Found.{IsCoverOfBoth}
 
 pub of_both : (a b : RuleFacts) (earlier : List RuleFacts) (cover : Cover) → IsCover a b earlier cover → IsCoverOfBoth (Some a) (Some b) earlier cover

@@ -10,7 +10,7 @@ use Rattle.acl_policy.specs.declared.rule.Rule.{Rule}
 use Rattle.acl_policy.proofs.OptionLemmas.{same_some}
 use Rattle.policy_check.specs.Remarks.{TakesAll}
 use Rattle.policy_compare.specs.Comparisons.{AreApart}
-use Rattle.policy_compare.specs.declared.compared_rules.Limits.{Limits}
+use Rattle.policy_compare.specs.declared.taking_rules.Limits.{Limits}
 use Rattle.policy_compare.specs.inner.Found.{MatchesIf, SidesFacts, pair_at}
 use Rattle.policy_compare.specs.inner.Limits.{AreLimits, AreLimitsOf, IsBehind, IsLimit}
 use Rattle.policy_compare.proofs.DeciderLemmas.{decided, from_front}

@@ -7,8 +7,8 @@ use Rattle.acl_policy.specs.declared.policy.PolicyFault.TheVariants as policy
 use Rattle.racl_io.specs.declared.fault.Fault.TheVariants.{Memory, Write}
 use Rattle.policy_compare.specs.Comparisons.{IsComparison}
 use Rattle.policy_compare.specs.ComparisonReports.{report_of, status_behind}
-use Rattle.policy_compare.specs.declared.compare_fault.CompareFault.{CompareFault}
-use Rattle.policy_compare.specs.declared.compare_fault.CompareFault.TheVariants.{Before, After, Run}
+use Rattle.policy_compare.specs.declared.compared_texts.CompareFault.{CompareFault}
+use Rattle.policy_compare.specs.declared.compared_texts.CompareFault.TheVariants.{Before, After, Run}
 use Rattle.policy_compare.specs.declared.difference.Comparison.{Comparison}
 
 -- Both texts say policies, and what is told of these was written.

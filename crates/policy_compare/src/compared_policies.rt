@@ -7,10 +7,10 @@ ghost use Rattle.policy_compare.specs.Comparisons.{IsComparison, IsDifference};
 ghost use Rattle.policy_compare.specs.inner.Found;
 ghost use Rattle.policy_compare.specs.inner.Found.{AddsDifferences, IsAtInterface, IsBeforeInterface, sides_facts};
 
-use crate::compared_rules::Sides;
 use crate::compared_sides::add_sides;
 use crate::difference::{Comparison, Difference};
 use crate::own_addresses::other_addresses;
+use crate::taking_rules::Sides;
 use acl_policy::{Policy, Rule};
 use packet_view::Direction;
 use std::alloc::{AllocError, Global};

@@ -7,11 +7,10 @@ ghost use Rattle.policy_compare.specs.Comparisons.{AreApart};
 ghost use Rattle.policy_compare.specs.inner.Found.{AddsDifferences, IsAtRow, IsAtSides, IsDifferenceOf, pair_at, sides_facts};
 ghost use Rattle.policy_compare.specs.inner.Limits.{AreLimits, IsBehind};
 
-use crate::compared_rules::{Limits, Sides};
 use crate::decider::{action_by, decider_at, rule_at};
 use crate::difference::{Difference, Pair};
 use crate::pair_of_rules::cover_of_both;
-use crate::taking_rules::limits_between;
+use crate::taking_rules::{Limits, Sides, limits_between};
 use acl_policy::Rule;
 use packet_view::Tuple;
 use rule_cover::Cover;

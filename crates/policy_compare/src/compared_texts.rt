@@ -1,15 +1,25 @@
-//! The report on the policies that two texts say.
+//! The report on the policies that two texts say, and why there is none.
 ghost use Rattle.std.specs.Prelude.{◌≡◌, ◌≢◌, ◌+◌, ◌-◌, ◌<◌, ◌^◌, ◌↔◌, Err, IfErr, IfOk};
 ghost use Rattle.racl_io.specs.declared.fault.Fault.{Fault};
 ghost use Rattle.policy_compare.specs.ComparedTexts.{HasCompared, IsCompareFault};
-ghost use Rattle.policy_compare.specs.declared.compare_fault.CompareFault.TheVariants as told;
+ghost use Rattle.policy_compare.specs.declared.compared_texts.CompareFault.TheVariants as told;
 
-use crate::compare_fault::CompareFault;
 use crate::compared_policies::compare_policies;
 use crate::comparison_report::{status_behind, write_comparison};
-use acl_policy::read_policy;
+use acl_policy::{PolicyFault, read_policy};
 use racl_io::{Fault, Piece, Sink};
 use std::alloc::Global;
+
+/// Why two policies aren't compared.
+#[derive(Clone, Copy, Debug, PartialEq, Eq)]
+pub enum CompareFault {
+    /// The policy so far is none.
+    Before(PolicyFault),
+    /// The one that is to take its place is none.
+    After(PolicyFault),
+    /// Memory ran out, or a write failed.
+    Run(Fault),
+}
 
 /// Writes what two policies decide differently, and answers the exit status. Nothing is written before all is found.
 pub fn compare_texts<W: Sink>(

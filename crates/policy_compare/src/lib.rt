@@ -1,9 +1,7 @@
 //! Two policies beside one another: an example of a packet for each two of their rules that let different things become of it.
 #![tactic(auto)]
 
-mod compare_fault;
 mod compared_policies;
-mod compared_rules;
 mod compared_sides;
 mod compared_texts;
 mod comparing_words;
@@ -15,8 +13,7 @@ mod own_addresses;
 mod pair_of_rules;
 mod taking_rules;
 
-pub use compare_fault::CompareFault;
 pub use compared_policies::compare_policies;
-pub use compared_texts::compare_texts;
+pub use compared_texts::{CompareFault, compare_texts};
 pub use comparing_words::compared_by;
 pub use difference::{CompareFiles, Compares, Comparison, Difference, Pair};

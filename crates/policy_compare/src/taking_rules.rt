@@ -4,11 +4,28 @@ ghost use Rattle.acl_policy.specs.Rules.{rule_facts};
 ghost use Rattle.policy_compare.specs.inner.Limits.{AreLimits, AreLimitsOf, IsLimit};
 ghost use Rattle.policy_compare.specs.inner.Found.{sides_facts};
 
-use crate::compared_rules::{Limits, Sides};
 use crate::decider::rule_at;
 use acl_policy::Rule;
+use packet_view::Direction;
 use policy_check::takes_all;
 use std::alloc::{AllocError, Global};
+
+/// The rules for packets of a direction at an interface by a policy, and by the one that is to take its place.
+#[derive(Clone, Copy)]
+pub struct Sides<'a> {
+    pub interface: u8,
+    pub direction: Direction,
+    pub before: &'a [Rule],
+    pub after: &'a [Rule],
+}
+
+/// Of each rule of the one list, and of no rule, the first place of the other whose rule takes all its packets, or that behind
+/// the last; and the other way round.
+#[derive(Drop)]
+pub struct Limits {
+    pub rows: Vec<usize>,
+    pub columns: Vec<usize>,
+}
 
 // The place of the first rule that takes all packets of this one, or of all packets; how many rules there are, where none does.
 #[tactic(auto, using(crate::proofs::LimitLemmas::limit_at_end))]

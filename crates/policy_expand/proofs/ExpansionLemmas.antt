@@ -3,9 +3,9 @@ use Rattle.std.proofs.Common.{◌≡◌, ℕ, ◌+◌, ◌<◌, List, [], ◌∷
 use Rattle.std.proofs.lemmas.List.{append-nil, append_assoc, map_more, take-append-drop, take-map}
 use Rattle.policy_expand.specs.Expansions.{AreExpanded, IsBehindExpanded, IsLineExpanded}
 use Rattle.policy_expand.specs.Sources.{SourceFacts, source_facts}
-use Rattle.policy_expand.specs.declared.source_line.SourceLine.{SourceLine}
+use Rattle.policy_expand.specs.declared.file_lines.SourceLine.{SourceLine}
 use Rattle.policy_expand.specs.Written.{LineWritten}
-use Rattle.policy_expand.specs.declared.named_set.NamedSet.{NamedSet}
+use Rattle.policy_expand.specs.declared.set_lists.NamedSet.{NamedSet}
 use Rattle.policy_expand.specs.declared.visible_word.Word.{Word}
 
 pub expanded_more : (sets : List NamedSet) (lines : List SourceFacts) (mid : List NamedSet) (written : List LineWritten) (plain : List (List (List Word)))

@@ -7,9 +7,9 @@ use Rattle.policy_expand.specs.Inclusions.{AllStand, AreOrdinary, FileFacts, IsO
 use Rattle.policy_expand.specs.Meaning.{IsOneOf}
 use Rattle.policy_expand.specs.Missing.{IsMissing}
 use Rattle.policy_expand.specs.Sources.{SourceFacts, source_facts}
-use Rattle.policy_expand.specs.declared.missing.MissingFile.{MissingFile}
-use Rattle.policy_expand.specs.declared.policy_file.PolicyFile.{PolicyFile}
-use Rattle.policy_expand.specs.declared.source_line.SourceLine.{SourceLine}
+use Rattle.policy_expand.specs.declared.missing_files.MissingFile.{MissingFile}
+use Rattle.policy_expand.specs.declared.file_lines.PolicyFile.{PolicyFile}
+use Rattle.policy_expand.specs.declared.file_lines.SourceLine.{SourceLine}
 
 -- lines stand for what two fronts of them stand for
 stand_split : (P : SourceFacts → List SourceFacts → Type 0) (front back whole : List SourceFacts) → AllStand P (front ++ back) whole

@@ -5,7 +5,7 @@ use Rattle.std.specs.Prelude.{is_some, option_map, slice_get, codes, ◌⊎◌, 
 use Rattle.policy_expand.specs.Lists.{AreListsOf, AreStoodFor, IsListOf, IsStoodFor, IsUnionOf}
 use Rattle.policy_expand.specs.Written.{list_words, word_text}
 use Rattle.policy_expand.specs.WrittenLines.{IsPlain}
-use Rattle.policy_expand.specs.declared.named_set.NamedSet.{NamedSet}
+use Rattle.policy_expand.specs.declared.set_lists.NamedSet.{NamedSet}
 use Rattle.policy_expand.specs.declared.visible_word.Word.{Word}
 use Rattle.policy_expand.specs.declared.visible_word.WordList.{WordList}
 

@@ -4,7 +4,7 @@ use Rattle.std.specs.List.{enumerate_from}
 use Rattle.std.proofs.lemmas.List.{length-map, map_push, take_more}
 use Rattle.std.proofs.lemmas.List.FromFn.{length-enumerate_from}
 use Rattle.policy_expand.specs.Sources.{SourceFacts, numbered, source_facts}
-use Rattle.policy_expand.specs.declared.source_line.SourceLine.{SourceLine}
+use Rattle.policy_expand.specs.declared.file_lines.SourceLine.{SourceLine}
 
 enumerate_more : {X : Type 0} (n : ℕ) (xs : List X) (y : X) → enumerate_from n (xs ++ y ∷ []) ≡ enumerate_from n xs ++ (n + length xs, y) ∷ []
 enumerate_more {X} n [] y = let e : n ≡ n + 0 = omega arith in ap (λ (k : ℕ). (k, y) ∷ []) e

@@ -15,7 +15,7 @@ use Rattle.policy_expand.specs.Sources.{SourceFacts}
 use Rattle.policy_expand.specs.Texts.{ended, is_printable, own_comment, place_mark, plain_text, shown, spelt}
 use Rattle.policy_expand.specs.Visible.{is_ink}
 use Rattle.policy_expand.specs.Written.{LineWritten, word_text}
-use Rattle.policy_expand.specs.declared.named_set.NamedSet.{NamedSet}
+use Rattle.policy_expand.specs.declared.set_lists.NamedSet.{NamedSet}
 use Rattle.policy_expand.specs.declared.visible_word.Word.{Word}
 
 both_true : (a b : Bool) → a && b ≡ true → (a ≡ true) × (b ≡ true)

@@ -8,7 +8,7 @@ use Rattle.policy_expand.specs.Sources.{SourceFacts}
 use Rattle.policy_expand.specs.Texts.{place_mark, plain_text}
 use Rattle.policy_expand.specs.Written.{LineWritten, word_text}
 use Rattle.policy_expand.specs.WrittenLines.{IsReadAs}
-use Rattle.policy_expand.specs.declared.named_set.NamedSet.{NamedSet}
+use Rattle.policy_expand.specs.declared.set_lists.NamedSet.{NamedSet}
 use Rattle.policy_expand.specs.declared.visible_word.Word.{Word}
 
 -- A line behind these sets is read as what is written, behind it there are those sets, and the text that is added is of

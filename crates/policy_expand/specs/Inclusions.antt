@@ -4,7 +4,7 @@ use Rattle.std.specs.List.{list_all}
 use Rattle.std.specs.Str.{bytes_eq}
 use Rattle.acl_policy.specs.Words.{without_comment, words_of}
 use Rattle.policy_expand.specs.Sources.{SourceFacts, file_lines}
-use Rattle.policy_expand.specs.declared.policy_file.PolicyFile.{PolicyFile}
+use Rattle.policy_expand.specs.declared.file_lines.PolicyFile.{PolicyFile}
 
 -- a file as a value
 pub record FileFacts : Type 0 where

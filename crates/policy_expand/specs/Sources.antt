@@ -2,7 +2,7 @@
 use Rattle.std.specs.Prelude.{ℕ, List, map}
 use Rattle.std.specs.List.{enumerate_from}
 use Rattle.std.specs.Str.Lines.{lines}
-use Rattle.policy_expand.specs.declared.source_line.SourceLine.{SourceLine}
+use Rattle.policy_expand.specs.declared.file_lines.SourceLine.{SourceLine}
 
 -- a line of a file as a value
 pub record SourceFacts : Type 0 where

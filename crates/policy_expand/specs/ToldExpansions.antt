@@ -3,8 +3,8 @@ use Rattle.std.specs.Prelude.{List}
 use Rattle.acl_policy.specs.Policies.{IsPolicyText, PolicyFacts}
 use Rattle.policy_expand.specs.Expansions.{IsExpansion}
 use Rattle.policy_expand.specs.Sources.{SourceFacts}
-use Rattle.policy_expand.specs.declared.told.Told.{Told}
-use Rattle.policy_expand.specs.declared.told.Told.TheVariants.{Faults, Plain}
+use Rattle.policy_expand.specs.declared.told_expansion.Told.{Told}
+use Rattle.policy_expand.specs.declared.told_expansion.Told.TheVariants.{Faults, Plain}
 
 -- Where a plain policy is told, it is one, and the expansion of these lines.
 abbrev pub IsToldOf : List SourceFacts → Told → Type 0

@@ -2,8 +2,8 @@
 use Rattle.std.specs.Prelude.{◌≡◌, List, ◌∷◌, map}
 use Rattle.policy_expand.specs.Inclusions.{FileFacts, IsWhole}
 use Rattle.policy_expand.specs.Sources.{file_lines, source_facts}
-use Rattle.policy_expand.specs.declared.whole.Whole.{Whole}
-use Rattle.policy_expand.specs.declared.whole.Whole.TheVariants.{Faults, Lines}
+use Rattle.policy_expand.specs.declared.whole_policies.Whole.{Whole}
+use Rattle.policy_expand.specs.declared.whole_policies.Whole.TheVariants.{Faults, Lines}
 
 -- Where lines are given, they are the whole text of the first of these files.
 abbrev pub IsWholeOf : List FileFacts → Whole → Type 0

@@ -2,11 +2,11 @@
 use Rattle.std.specs.Prelude.{◌≡◌, ◌≢◌, ◌<◌, ◌⊎◌, List, [], ◌∷◌, ◌++◌, codes, length, map, None}
 use Rattle.policy_expand.specs.Lists.{AreListsOf, IsListOf, IsUnionOf, find_set}
 use Rattle.policy_expand.specs.Written.{AreFamilies, LineWritten, Nothing, Plain, Rule, RuleWritten, list_words, word_text}
-use Rattle.policy_expand.specs.declared.named_set.NamedSet.{NamedSet}
+use Rattle.policy_expand.specs.declared.set_lists.NamedSet.{NamedSet}
 use Rattle.policy_expand.specs.declared.visible_word.Word.{Word}
-use Rattle.policy_expand.specs.declared.written.Written.{Written}
-use Rattle.policy_expand.specs.declared.written.Written.TheVariants as read
-use Rattle.policy_expand.specs.declared.written_rule.WrittenRule.{WrittenRule}
+use Rattle.policy_expand.specs.declared.written_line.Written.{Written}
+use Rattle.policy_expand.specs.declared.written_line.Written.TheVariants as read
+use Rattle.policy_expand.specs.declared.written_line.WrittenRule.{WrittenRule}
 
 -- a rule as a value, without where its lists lie in memory
 abbrev pub rule_written : WrittenRule → RuleWritten

@@ -8,17 +8,15 @@ ghost use Rattle.policy_expand.specs.WrittenLines.{line_written};
 ghost use Rattle.policy_expand.specs.inner.Rows;
 ghost use Rattle.policy_expand.specs.declared.visible_word.Word.{Word};
 
+use crate::file_lines::SourceLine;
 use crate::icmp_of_both_families::icmp_part_of_both;
-use crate::named_set::NamedSet;
 use crate::plain_text::{mark_of, push_plain_lines};
 use crate::rows_of_rule::rule_rows;
-use crate::source_line::SourceLine;
+use crate::set_lists::NamedSet;
 use crate::visible_word::WordList;
 use crate::word_reading::words_of_written_line;
-use crate::written::Written;
-use crate::written_fault::{LineFault, WrittenReason, wrong};
-use crate::written_line::read_written_words;
-use crate::wrong_line::WrongLine;
+use crate::written_fault::{LineFault, WrittenReason, WrongLine, wrong};
+use crate::written_line::{Written, read_written_words};
 use std::alloc::{AllocError, Global};
 
 /// A plain policy, and where its lines were written.

@@ -1,10 +1,26 @@
-//! The lines of a file.
+//! The files of a written policy, and their lines.
 ghost use Rattle.std.specs.Prelude.{◌≡◌, IfOk, IfSome, map, string_bytes};
 ghost use Rattle.policy_expand.specs.Sources.{file_lines, source_facts};
 
-use crate::policy_file::PolicyFile;
-use crate::source_line::SourceLine;
 use std::alloc::{AllocError, Global};
+
+/// A file that was read.
+#[derive(Drop)]
+pub struct PolicyFile {
+    /// The name by which it was opened and is told.
+    pub name: String,
+    pub text: Vec<u8>,
+}
+
+/// A line, and the file and the number by which it is told.
+#[derive(Clone, Copy)]
+pub struct SourceLine<'a> {
+    /// The file's name.
+    pub file: &'a str,
+    /// Its number in the file, from 1.
+    pub number: u64,
+    pub text: &'a [u8],
+}
 
 // The lines of a file with this name and text.
 fn lines_of_text<'a>(

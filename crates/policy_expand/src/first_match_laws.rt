@@ -11,7 +11,7 @@ ghost use Rattle.policy_expand.specs.FirstMatch.{AreAlike, DecidesFirst, HaveWor
 ghost use Rattle.policy_expand.specs.Sections.{AreOfInterface};
 ghost use Rattle.policy_expand.specs.Sources.{SourceFacts};
 ghost use Rattle.policy_expand.specs.Written.{LineWritten};
-ghost use Rattle.policy_expand.specs.declared.named_set.NamedSet.{NamedSet};
+ghost use Rattle.policy_expand.specs.declared.set_lists.NamedSet.{NamedSet};
 ghost use Rattle.policy_expand.specs.declared.visible_word.Word.{Word};
 
 /// Where plain lines that say a policy match and begin sections as written lines do: each interface has its written lines, the

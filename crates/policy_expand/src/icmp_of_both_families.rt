@@ -8,7 +8,7 @@ ghost use Rattle.policy_expand.specs.WrittenLines.{rule_written};
 
 use crate::rows_of_rule::is_of_other;
 use crate::visible_word::{Word, WordList};
-use crate::written_rule::WrittenRule;
+use crate::written_line::WrittenRule;
 use packet_view::Family;
 
 // Whether a word names the type or the code of ICMP.

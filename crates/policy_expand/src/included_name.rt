@@ -4,7 +4,7 @@ ghost use Rattle.acl_policy.specs.Words.{without_comment, words_of};
 ghost use Rattle.policy_expand.specs.Inclusions.{Includes, IsFolder, IsNamedIn, IsOrdinary};
 ghost use Rattle.policy_expand.specs.Sources.{source_facts};
 
-use crate::source_line::SourceLine;
+use crate::file_lines::SourceLine;
 use crate::word_reading::visible_word;
 use crate::written_fault::{LineFault, WrittenReason, wrong};
 use acl_policy::{before_comment, next_word};

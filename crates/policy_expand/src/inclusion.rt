@@ -4,12 +4,9 @@ ghost use Rattle.std.specs.Str.{bytes_eq};
 ghost use Rattle.policy_expand.specs.Inclusions.{AllStand, AreOrdinary, IsWhole, StandsOnce, file_facts, text_of};
 ghost use Rattle.policy_expand.specs.Sources.{SourceFacts, source_facts};
 
-use crate::file_lines::lines_of_file;
+use crate::file_lines::{PolicyFile, SourceLine, lines_of_file};
 use crate::included_name::{included_name, is_ordinary};
-use crate::policy_file::PolicyFile;
-use crate::source_line::SourceLine;
-use crate::written_fault::{LineFault, WrittenReason, wrong};
-use crate::wrong_line::WrongLine;
+use crate::written_fault::{LineFault, WrittenReason, WrongLine, wrong};
 use std::alloc::Global;
 
 /// How deep files may include others.

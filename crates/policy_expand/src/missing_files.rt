@@ -5,14 +5,19 @@ ghost use Rattle.policy_expand.specs.Meaning.{IsOneOf};
 ghost use Rattle.policy_expand.specs.Missing.{IsMissing};
 ghost use Rattle.policy_expand.specs.Sources.{SourceFacts, file_lines, source_facts};
 
-use crate::file_lines::lines_of_file;
+use crate::file_lines::{PolicyFile, SourceLine, lines_of_file};
 use crate::included_name::included_name;
 use crate::inclusion::file_named;
-use crate::missing::MissingFile;
-use crate::policy_file::PolicyFile;
-use crate::source_line::SourceLine;
 use crate::written_fault::LineFault;
 use std::alloc::{AllocError, Global};
+
+/// A file that a line includes and that isn't read yet.
+#[derive(Drop)]
+pub struct MissingFile {
+    /// The number of the line, from 1.
+    pub number: u64,
+    pub name: String,
+}
 
 // The file that a line includes, where it is none of these.
 fn missing_in(

@@ -6,7 +6,7 @@ ghost use Rattle.policy_expand.specs.Texts;
 ghost use Rattle.policy_expand.specs.Texts.{ended, own_comment, place_mark, plain_text, spelt};
 ghost use Rattle.policy_expand.specs.Written.{list_words};
 
-use crate::source_line::SourceLine;
+use crate::file_lines::SourceLine;
 use crate::visible_word::{Word, WordList};
 use acl_policy::before_comment;
 use std::alloc::{AllocError, Global};

@@ -8,7 +8,7 @@ ghost use Rattle.policy_expand.specs.inner.Rows;
 use crate::rows_of_lists::{chosen_rows, next_rows};
 use crate::visible_word::{Word, WordList};
 use crate::written_fault::LineFault;
-use crate::written_rule::WrittenRule;
+use crate::written_line::WrittenRule;
 use acl_policy::prefix_of;
 use packet_view::Family;
 use std::alloc::{AllocError, Global};

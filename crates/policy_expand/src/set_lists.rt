@@ -6,10 +6,16 @@ ghost use Rattle.policy_expand.specs.declared.visible_word.Word.{Word};
 ghost use Rattle.std.specs.List.{slice_split};
 ghost use Rattle.policy_expand.specs.Lists.{is_comma};
 
-use crate::named_set::NamedSet;
 use crate::visible_word::{Word, WordList};
 use crate::word_reading::visible_word;
 use crate::written_fault::{LineFault, WrittenReason, wrong};
+
+/// A set, by its name.
+#[derive(Drop)]
+pub struct NamedSet<'a> {
+    pub name: Word<'a>,
+    pub list: WordList<'a>,
+}
 
 /// The words of the set with this name.
 pub fn set_named<'a, 'b>(sets: &'b [NamedSet<'a>], name: &[u8]) -> Option<&'b WordList<'a>>

@@ -5,16 +5,21 @@ ghost use Rattle.policy_expand.specs.Sources.{source_facts};
 ghost use Rattle.policy_expand.specs.ToldExpansions.{IsToldOf};
 
 use crate::expansion::{Expansion, expanded};
-use crate::source_line::SourceLine;
-use crate::told::Told;
-use crate::written_fault::LineFault;
-use crate::wrong_line::WrongLine;
+use crate::file_lines::SourceLine;
+use crate::written_fault::{LineFault, WrongLine};
 use policy_check::check_policy;
 use std::alloc::{AllocError, Global};
 use std::fmt::Display;
 
 /// At most how many bytes of a word are shown.
 const MOST_SHOWN: usize = 80;
+
+/// A plain policy, or what is wrong with the written one, line by line.
+#[derive(Drop)]
+pub enum Told {
+    Plain(Vec<u8>),
+    Faults(String),
+}
 
 // Adds a word to what is told, with each byte that isn't seen as its number.
 fn push_shown_word(alloc: Global, out: &mut String, word: &[u8]) -> Result<(), AllocError> {

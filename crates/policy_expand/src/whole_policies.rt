@@ -3,12 +3,17 @@ ghost use Rattle.std.specs.Prelude.{IfOk, map};
 ghost use Rattle.policy_expand.specs.Inclusions.{file_facts};
 ghost use Rattle.policy_expand.specs.WholePolicies.{IsWholeOf};
 
-use crate::file_lines::lines_of_file;
+use crate::file_lines::{PolicyFile, SourceLine, lines_of_file};
 use crate::inclusion::included_lines;
-use crate::policy_file::PolicyFile;
 use crate::told_expansion::told_fault;
-use crate::whole::Whole;
 use std::alloc::{AllocError, Global};
+
+/// The lines of a policy and of the files that it includes, or what is wrong with one.
+#[derive(Drop)]
+pub enum Whole<'a> {
+    Lines(Vec<SourceLine<'a>>),
+    Faults(String),
+}
 
 /// The whole text of the first of these files, which may include the others. Where there is none, nothing is told. An `Err`
 /// says that memory ran out.

@@ -3,8 +3,7 @@ ghost use Rattle.std.specs.Prelude.{◌≡◌, ◌∷◌, [], IfOk, map};
 ghost use Rattle.policy_expand.specs.Lists.{AreListsOf, IsListOf, IsUnionOf};
 ghost use Rattle.policy_expand.specs.Written.{AreFamilies, list_words};
 
-use crate::named_set::NamedSet;
-use crate::set_lists::push_list;
+use crate::set_lists::{NamedSet, push_list};
 use crate::visible_word::{Word, WordList};
 use crate::written_fault::LineFault;
 use std::alloc::{AllocError, Global};

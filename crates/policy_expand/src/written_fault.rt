@@ -1,6 +1,7 @@
 //! Why a written line is wrong, before a plain line is made of it.
 ghost use Rattle.std.specs.Prelude.{◌≡◌};
 
+use crate::file_lines::SourceLine;
 use std::alloc::{AllocError, AllocFailed};
 use thiserror::Error;
 
@@ -44,6 +45,13 @@ pub enum LineFault<'a> {
     Memory,
     /// The reason, and the word of which it is said: of none where that is empty.
     Wrong(WrittenReason, &'a [u8]),
+}
+
+/// A line, and what is the matter with it.
+#[derive(Clone, Copy)]
+pub struct WrongLine<'a> {
+    pub line: SourceLine<'a>,
+    pub fault: LineFault<'a>,
 }
 
 /// A written line is wrong for this reason, which is said of this word.

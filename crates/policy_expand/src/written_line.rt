@@ -3,14 +3,33 @@ ghost use Rattle.std.specs.Prelude.{◌≡◌, ◌≢◌, ◌≤◌, ◌<◌, �
 ghost use Rattle.policy_expand.specs.declared.visible_word.Word.{Word};
 ghost use Rattle.policy_expand.specs.WrittenLines.{AddsSet, IsReadAs, IsRuleOf, rule_written, line_written};
 
-use crate::named_set::NamedSet;
-use crate::set_lists::set_named;
+use crate::set_lists::{NamedSet, set_named};
 use crate::visible_word::{Word, WordList};
 use crate::word_lists::{families_of, list_of, lists_of, union_of};
-use crate::written::Written;
 use crate::written_fault::{LineFault, WrittenReason, wrong};
-use crate::written_rule::WrittenRule;
 use std::alloc::Global;
+
+/// A rule of which each word behind the action may stand for several.
+#[derive(Drop)]
+pub struct WrittenRule<'a> {
+    pub direction: Word<'a>,
+    pub action: Word<'a>,
+    pub families: WordList<'a>,
+    pub sources: WordList<'a>,
+    pub dests: WordList<'a>,
+    /// What the words behind the addresses stand for.
+    pub rest: Vec<WordList<'a>>,
+}
+
+/// What a written line says.
+#[derive(Drop)]
+pub enum Written<'a> {
+    /// Nothing of its own: it has no words, or a set.
+    Nothing,
+    /// The words of a plain line.
+    Plain(WordList<'a>),
+    Rule(WrittenRule<'a>),
+}
 
 // The rule that words write.
 fn rule_of<'a>(

@@ -6,8 +6,8 @@ use Rattle.std_alloc.proofs.BoxSteps.Form.{Bx}
 use Rattle.std_heap.specs.contracts.Global as Heap
 use Rattle.std_heap.specs.contracts.GlobalAllocator.TheImpl.{ghosts, dict}
 use Rattle.std_heap.proofs.Global.TheLaws as heap
-use Rattle.racl_c.specs.contracts.place.Place as Place
-use Rattle.racl_c.proofs.place.Place.TheLaws as place
+use Rattle.racl_c.specs.contracts.handle.Place as Place
+use Rattle.racl_c.proofs.handle.Place.TheLaws as place
 use Rattle.racl_c.specs.contracts.box_raw_parts.Parts as Parts
 use Rattle.racl_c.specs.contracts.handle.Handle as Handle
 

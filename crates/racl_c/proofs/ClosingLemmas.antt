@@ -4,8 +4,8 @@ use Rattle.bihash_words.specs.declared.shape.Shape.{Ghosts}
 use Rattle.packet_view.specs.declared.tuple.Family.{Family}
 use Rattle.flow_judge.specs.JudgeStates.{JudgeState}
 use Rattle.racl_c.specs.Closings.{CloseTold, IsClosedTo}
-use Rattle.racl_c.specs.declared.content.Content.{Content}
-use Rattle.racl_c.specs.declared.content.Content.TheVariants.{Large, Standard}
+use Rattle.racl_c.specs.declared.content_calls.Content.{Content}
+use Rattle.racl_c.specs.declared.content_calls.Content.TheVariants.{Large, Standard}
 
 pub standard_closed : {A B C D : Type 0} (ga : Ghosts A (List ℕ)) (gb : Ghosts B (List ℕ)) (la : Ghosts C (List ℕ))
     (lb : Ghosts D (List ℕ)) (family : Family) (x before after : Content) (s t : JudgeState) (answer : ℕ) → x ≡ Standard s

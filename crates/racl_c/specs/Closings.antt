@@ -11,10 +11,10 @@ use Rattle.flow_judge.specs.JudgeStates.{JudgeState}
 use Rattle.racl_c.specs.Answers.{close_number}
 use Rattle.racl_c.specs.Contents.{Calls}
 use Rattle.racl_c.specs.Sessions.{IsGiven, pair_count, session_at}
-use Rattle.racl_c.specs.declared.content.Content.{Content}
-use Rattle.racl_c.specs.declared.content.Content.TheVariants.{Sessions}
-use Rattle.racl_c.specs.declared.session_list.ClosedPairs.{ClosedPairs}
-use Rattle.racl_c.specs.declared.session_list.ClosedPairs.TheVariants.{Four, Six}
+use Rattle.racl_c.specs.declared.content_calls.Content.{Content}
+use Rattle.racl_c.specs.declared.content_calls.Content.TheVariants.{Sessions}
+use Rattle.racl_c.specs.declared.session_list_read.ClosedPairs.{ClosedPairs}
+use Rattle.racl_c.specs.declared.session_list_read.ClosedPairs.TheVariants.{Four, Six}
 use Rattle.racl_c.specs.declared.stored_session.StoredSession.{StoredSession}
 
 -- there are the sessions of a closed table

@@ -21,8 +21,8 @@ use Rattle.racl_c.specs.Answers.{answer_of, ended_number, fault_told, renew_numb
 use Rattle.racl_c.specs.Options.{ChoiceTold}
 use Rattle.racl_c.specs.declared.answer_numbers.Answer.{Answer}
 use Rattle.racl_c.specs.declared.answer_numbers.Made.{Made}
-use Rattle.racl_c.specs.declared.content.Content.{Content}
-use Rattle.racl_c.specs.declared.content.Content.TheVariants.{Large, Standard}
+use Rattle.racl_c.specs.declared.content_calls.Content.{Content}
+use Rattle.racl_c.specs.declared.content_calls.Content.TheVariants.{Large, Standard}
 use Rattle.racl_c.specs.declared.options.Choice.{Choice}
 use Rattle.racl_c.specs.declared.options.Options.{Options}
 

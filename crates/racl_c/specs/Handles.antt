@@ -5,10 +5,10 @@ use denote.RawPtr.{Ptr}
 use Rattle.std.specs.Box.Ownership.{box_owns}
 use Rattle.std.specs.Global.{Global}
 use Rattle.std_heap.specs.contracts.GlobalAllocator.TheImpl.{ghosts}
-use Rattle.racl_c.specs.declared.content.Content.{Content}
-use Rattle.racl_c.specs.declared.content.Content.TheVariants.{Empty}
-use Rattle.racl_c.specs.declared.place.Place.{Place}
-use Rattle.racl_c.specs.contracts.place.Place.{the_row}
+use Rattle.racl_c.specs.declared.content_calls.Content.{Content}
+use Rattle.racl_c.specs.declared.content_calls.Content.TheVariants.{Empty}
+use Rattle.racl_c.specs.declared.handle.Place.{Place}
+use Rattle.racl_c.specs.contracts.handle.Place.{the_row}
 
 abbrev pub handle_owns : Global → Ptr → Option the_row.Denot → Fml
 handle_owns alloc p None = ftrue

@@ -6,11 +6,11 @@ use Rattle.flow_filter.specs.OneThread.{Layout, sizes_in}
 use Rattle.flow_judge.specs.JudgeStates.{JudgeState}
 use Rattle.flow_judge.specs.Meetings.{AreMetJudges, TellsLoneJudge}
 use Rattle.flow_judge.specs.Sweeps.{TellsSwept}
-use Rattle.flow_judge.specs.declared.swept.Swept.{Swept}
+use Rattle.flow_judge.specs.declared.judge_swept.Swept.{Swept}
 use Rattle.racl_c.specs.Answers.{one_if}
-use Rattle.racl_c.specs.declared.content.Content.{Content}
-use Rattle.racl_c.specs.declared.content.Content.TheVariants.{Large, Standard}
-use Rattle.racl_c.specs.declared.sweep_told.Sweep.{Sweep}
+use Rattle.racl_c.specs.declared.content_calls.Content.{Content}
+use Rattle.racl_c.specs.declared.content_calls.Content.TheVariants.{Large, Standard}
+use Rattle.racl_c.specs.declared.content_met_and_swept.Sweep.{Sweep}
 
 -- both judges know of their tables what either knew
 abbrev pub MeetTold : (standard large : Layout) → (x other y met : Content) → Type 0

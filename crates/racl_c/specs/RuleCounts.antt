@@ -6,8 +6,8 @@ use Rattle.acl_policy.specs.Policies.{IsPolicyText, PolicyFacts}
 use Rattle.flow_judge.specs.RuleCounting.{CountsNone, RuleRows, count_at, counted_at}
 use Rattle.racl_c.specs.Contents.{IsFaultTold}
 use Rattle.racl_c.specs.declared.answer_numbers.Made.{Made}
-use Rattle.racl_c.specs.declared.content.Content.{Content}
-use Rattle.racl_c.specs.declared.content.Content.TheVariants.{Rules}
+use Rattle.racl_c.specs.declared.content_calls.Content.{Content}
+use Rattle.racl_c.specs.declared.content_calls.Content.TheVariants.{Rules}
 
 -- there are counts by rule
 abbrev pub HasRules : Content → Type 0

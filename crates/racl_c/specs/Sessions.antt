@@ -8,9 +8,9 @@ use Rattle.session_state.specs.declared.flow_end.End.{End}
 use Rattle.session_state.specs.declared.timeouts.Timeouts.{Timeouts}
 use Rattle.racl_views.specs.SessionLines.{FlowFacts, four_flow, six_flow}
 use Rattle.racl_c.specs.FlowHashes.{family_number}
-use Rattle.racl_c.specs.declared.session_list.ClosedPairs.{ClosedPairs}
-use Rattle.racl_c.specs.declared.session_list.ClosedPairs.TheVariants.{Four, Six}
-use Rattle.racl_c.specs.declared.session_list.SessionList.{SessionList}
+use Rattle.racl_c.specs.declared.session_list_read.ClosedPairs.{ClosedPairs}
+use Rattle.racl_c.specs.declared.session_list_read.ClosedPairs.TheVariants.{Four, Six}
+use Rattle.racl_c.specs.declared.session_list_read.SessionList.{SessionList}
 use Rattle.racl_c.specs.declared.stored_session.StoredEnd.{StoredEnd}
 use Rattle.racl_c.specs.declared.stored_session.StoredSession.{StoredSession}
 

@@ -4,8 +4,8 @@ use Rattle.packet_view.specs.declared.tuple.Direction.TheVariants.{Inbound, Outb
 use Rattle.acl_policy.specs.Policies.{IsPolicyText, PolicyFacts}
 use Rattle.racl_views.specs.Entries.{line_deciding}
 use Rattle.racl_views.specs.RuleLines.{AreRules}
-use Rattle.racl_views.specs.declared.rule_name.RuleLine.{RuleLine}
-use Rattle.racl_views.specs.declared.rule_name.RuleName.{RuleName}
+use Rattle.racl_views.specs.declared.rule_numbering.RuleLine.{RuleLine}
+use Rattle.racl_views.specs.declared.rule_numbering.RuleName.{RuleName}
 use Rattle.racl_c.specs.declared.answer_numbers.Made.{Made}
 use Rattle.racl_c.specs.declared.policy_text.Checked.{Checked}
 

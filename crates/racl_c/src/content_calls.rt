@@ -11,16 +11,31 @@ use crate::answer_numbers::{
     split_refusal, was_done,
 };
 use crate::burst::{Descriptor, judge_burst};
-use crate::content::Content;
 use crate::options::Choice;
+use crate::session_list_read::SessionList;
 use acl_policy::PolicyFault;
 use bihash_words::{
     LargeV4, LargeV6, Shape, ShapeV4, ShapeV6, flow_shapes_are_sound, large_shapes_are_sound,
 };
-use flow_judge::{Counts, Judge};
+use flow_judge::{Counts, Judge, RuleCounts};
 use packet_view::Family;
 use std::alloc::Global;
 use std::mem;
+
+/// What is behind a handle.
+#[derive(Drop)]
+pub enum Content {
+    /// Nothing.
+    Empty,
+    /// A judge over standard tables.
+    Standard(Judge<ShapeV4, ShapeV6>),
+    /// A judge over large tables.
+    Large(Judge<LargeV4, LargeV6>),
+    /// The sessions of a table that was closed.
+    Sessions(SessionList),
+    /// Counts by rule.
+    Rules(RuleCounts),
+}
 
 // Gives a judge the policy and timeouts of another one.
 fn take_policy_of<A: Shape, B: Shape>(judge: &mut Judge<A, B>, other: &Content) -> u32

@@ -5,8 +5,8 @@ ghost use Rattle.racl_c.specs.Closings.{CloseTold, HasSessions, ListsFour, Lists
 ghost use Rattle.racl_c.specs.Contents.{HasJudge};
 
 use crate::answer_numbers::{DONE, close_refusal};
-use crate::content::Content;
-use crate::session_list::{ClosedPairs, SessionList};
+use crate::content_calls::Content;
+use crate::session_list_read::{ClosedPairs, SessionList};
 use crate::stored_session::StoredSession;
 use bihash_table::CloseFault;
 use bihash_words::{LargeV4, LargeV6, Shape, ShapeV4, ShapeV6};

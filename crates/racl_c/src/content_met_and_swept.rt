@@ -1,15 +1,43 @@
 //! What is behind a handle: told of another one, asked whether it is alone, swept, and asked for its unused pages.
+ghost use Rattle.std.specs.Prelude.{◌≡◌};
 ghost use Rattle.flow_filter.specs.OneThread.{layout_of};
 ghost use Rattle.racl_c.specs.Contents.{AreOfOneTable, Calls, HasJudge};
-ghost use Rattle.racl_c.specs.Meetings.{LoneTold, MeetTold, SweepTold, UnusedTold};
+ghost use Rattle.racl_c.specs.Meetings.{LoneTold, MeetTold, SweepTold, UnusedTold, sweep_told};
+ghost use Rattle.racl_c.specs.Answers.{one_if};
 
-use crate::content::Content;
-use crate::lone_answer::lone_answer;
-use crate::sweep_answer::sweep_answer;
-use crate::sweep_told::Sweep;
+use crate::answer_numbers::{CONTENDED, DONE};
+use crate::content_calls::Content;
 use bihash_words::{LargeV4, LargeV6, Shape, ShapeV4, ShapeV6};
+use flow_judge::Swept;
 use packet_view::Family;
 use std::mem;
+
+/// How far a sweep came.
+#[repr(C)]
+#[derive(Clone, Copy, Debug, PartialEq, Eq)]
+pub struct Sweep {
+    pub kind: u32,
+    pub next: u64,
+    pub went: u64,
+}
+
+/// What C is told of a judge that is alone over its tables, or isn't.
+pub fn lone_answer(is_lone: bool) -> u32
+    ensures { result ≡ one_if is_lone }
+{
+    u32::from(is_lone)
+}
+
+/// What C is told of a sweep.
+pub fn sweep_answer(swept: Swept) -> Sweep
+    ensures { result ≡ sweep_told swept }
+{
+    Sweep {
+        kind: if swept.met { CONTENDED } else { DONE },
+        next: swept.next,
+        went: swept.went,
+    }
+}
 
 impl Content {
     /// Tells two judges over the same tables what either knows.

@@ -1,15 +1,27 @@
 //! What is behind a handle: counts by rule.
-ghost use Rattle.std.specs.Prelude.{◌≢◌, IfErr, IfOk};
+ghost use Rattle.std.specs.Prelude.{◌≢◌, ◌≡◌, IfErr, IfOk};
 ghost use Rattle.acl_policy.specs.Policies.{IsPolicyFault};
 ghost use Rattle.acl_policy.specs.declared.policy.PolicyFault.TheVariants.{Memory};
 ghost use Rattle.racl_c.specs.RuleCounts.{CountsNothing, HasRules, RuleCountTold, RuleCounted};
 ghost use Rattle.racl_c.specs.RuleCounts as numbers;
+ghost use Rattle.racl_c.specs.RuleCounts;
 
-use crate::content::Content;
-use crate::direction_numbers::direction_of;
+use crate::content_calls::Content;
 use acl_policy::{PolicyFault, read_policy};
 use flow_judge::RuleCounts;
+use packet_view::Direction;
 use std::alloc::Global;
+
+/// The direction with this number.
+pub fn direction_of(number: u32) -> Option<Direction>
+    ensures { result ≡ RuleCounts.direction_of number }
+{
+    match number {
+        1 => Some(Direction::Inbound),
+        2 => Some(Direction::Outbound),
+        _ => None,
+    }
+}
 
 impl Content {
     /// Counts of no packet, for the rules of the policy of this text.

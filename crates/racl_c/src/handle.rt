@@ -1,14 +1,31 @@
-//! A handle: a pointer whose type names no other type, so that it may go to C.
+//! A handle: a pointer whose type names no other type, so that it may go to C, and the place behind it.
 ghost use Rattle.std.specs.Prelude.{◌≡◌, None, Option, Some};
-ghost use Rattle.racl_c.specs.declared.place.Place.{Place};
+ghost use Rattle.racl_c.specs.declared.handle.Place.{Place};
 ghost use Rattle.racl_c.specs.Handles.{HasPlace, content_in, handle_owns};
 
 use crate::box_raw_parts::Parts;
-use crate::place::Place;
+use crate::content_calls::Content;
 use std::alloc::Global;
 use std::marker::Model;
 use std::mem;
 use std::ptr::null_mut;
+
+/// What is behind a handle.
+#[derive(Drop)]
+pub struct Place {
+    pub content: Content,
+}
+
+impl Place {
+    /// A place with nothing at it. `None`: memory was refused.
+    pub(crate) fn empty(alloc: Global) -> Option<Box<Place, Global>> {
+        let content = Content::Empty;
+        match Box::new(alloc, Place { content }) {
+            Ok(place) => Some(place),
+            Err(_) => None,
+        }
+    }
+}
 
 /// A handle. Null: nothing is behind it.
 #[repr(C)]
@@ -82,3 +99,17 @@ pub type SessionsHandle = Handle;
 
 /// A handle of counts by rule, which has a type of its own in C too.
 pub type RuleCountsHandle = Handle;
+
+// Takes only what is Send, so that its calls on handles prove that they are.
+fn cross<T: Send>(value: T) -> T
+    ensures { result ≡ value }
+{
+    value
+}
+
+/// A handle may go to another thread.
+pub fn handle_crosses(handle: Handle) -> Handle
+    ensures { result ≡ handle }
+{
+    cross(handle)
+}

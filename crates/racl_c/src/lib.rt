@@ -4,28 +4,20 @@
 mod answer_numbers;
 mod box_raw_parts;
 mod burst;
-mod content;
 mod content_calls;
 mod content_closed;
 mod content_met_and_swept;
 mod content_rules;
-mod direction_numbers;
 mod flow_hash;
 mod handle;
-mod handle_is_send;
-mod lone_answer;
 mod options;
-mod place;
 mod policy_text;
 mod racl_calls;
 mod racl_calls_on_tables;
 mod racl_rule_counts;
 mod racl_sessions;
-mod session_list;
 mod session_list_read;
 mod stored_session;
-mod sweep_answer;
-mod sweep_told;
 
 pub use answer_numbers::{
     Answer, BAD_LINE, BAD_OPTIONS, BY_DEFAULT, CONTENDED, DENY, DONE, ENDED, FULL, MALFORMED,
@@ -33,10 +25,9 @@ pub use answer_numbers::{
     TOO_MANY, WORN,
 };
 pub use burst::Descriptor;
+pub use content_met_and_swept::Sweep;
 pub use flow_hash::Flow;
-pub use handle::{Handle, RuleCountsHandle, SessionsHandle};
-pub use handle_is_send::handle_crosses;
+pub use handle::{Handle, RuleCountsHandle, SessionsHandle, handle_crosses};
 pub use options::Options;
 pub use policy_text::Checked;
 pub use stored_session::{StoredEnd, StoredSession};
-pub use sweep_told::Sweep;

@@ -5,14 +5,13 @@ ghost use Rattle.racl_c.specs.Bursts.{BurstTold};
 ghost use Rattle.racl_c.specs.Contents.{AgedTold, AreOfOneTable, Calls, CountsTold, HasJudge, JoinTold, JudgeTold, NewTold, RenewTold, RuleTold, SplitTold, TakeTold};
 ghost use Rattle.racl_c.specs.Handles.{HasPlace, content_in};
 ghost use Rattle.packet_view.specs.declared.tuple.Family.TheVariants.{V4, V6};
-ghost use Rattle.racl_c.specs.declared.content.Content.TheVariants.{Empty};
+ghost use Rattle.racl_c.specs.declared.content_calls.Content.TheVariants.{Empty};
 
 use crate::answer_numbers::{Answer, DONE, MEMORY, Made, fault_answer, options_refused, was_done};
 use crate::burst::Descriptor;
-use crate::content::Content;
-use crate::handle::Handle;
+use crate::content_calls::Content;
+use crate::handle::{Handle, Place};
 use crate::options::{Options, choice_of};
-use crate::place::Place;
 use acl_policy::PolicyFault;
 use bihash_words::{LargeV4, LargeV6, Shape, ShapeV4, ShapeV6};
 use flow_judge::Counts;

@@ -6,8 +6,8 @@ ghost use Rattle.racl_c.specs.Meetings.{LoneTold, MeetTold, SweepTold, UnusedTol
 ghost use Rattle.racl_c.specs.Handles.{content_in};
 ghost use Rattle.packet_view.specs.declared.tuple.Family.TheVariants.{V4, V6};
 
+use crate::content_met_and_swept::Sweep;
 use crate::handle::Handle;
-use crate::sweep_told::Sweep;
 use bihash_words::{LargeV4, LargeV6, Shape, ShapeV4, ShapeV6};
 use packet_view::Family;
 use std::alloc::Global;

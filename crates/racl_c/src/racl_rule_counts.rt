@@ -2,12 +2,11 @@
 ghost use Rattle.std.specs.Prelude.{◌≡◌};
 ghost use Rattle.racl_c.specs.Handles.{HasPlace, content_in};
 ghost use Rattle.racl_c.specs.RuleCounts.{HasRules, NewCountsTold, RuleCountTold, RuleCounted, direction_of};
-ghost use Rattle.racl_c.specs.declared.content.Content.TheVariants.{Empty};
+ghost use Rattle.racl_c.specs.declared.content_calls.Content.TheVariants.{Empty};
 
 use crate::answer_numbers::{Made, fault_answer, was_done};
-use crate::content::Content;
-use crate::handle::RuleCountsHandle;
-use crate::place::Place;
+use crate::content_calls::Content;
+use crate::handle::{Place, RuleCountsHandle};
 use acl_policy::PolicyFault;
 use std::alloc::Global;
 

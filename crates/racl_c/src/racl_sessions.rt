@@ -4,12 +4,11 @@ ghost use Rattle.packet_view.specs.declared.tuple.Family.TheVariants.{V4, V6};
 ghost use Rattle.racl_c.specs.Closings.{CloseTold, HasSessions, IsListRefused, SessionCountTold, SessionTold};
 ghost use Rattle.racl_c.specs.Contents.{HasJudge};
 ghost use Rattle.racl_c.specs.Handles.{HasPlace, content_in};
-ghost use Rattle.racl_c.specs.declared.content.Content.TheVariants.{Empty};
+ghost use Rattle.racl_c.specs.declared.content_calls.Content.TheVariants.{Empty};
 
 use crate::answer_numbers::{DONE, MEMORY};
-use crate::content::Content;
-use crate::handle::{Handle, SessionsHandle};
-use crate::place::Place;
+use crate::content_calls::Content;
+use crate::handle::{Handle, Place, SessionsHandle};
 use crate::stored_session::StoredSession;
 use bihash_words::{LargeV4, LargeV6, Shape, ShapeV4, ShapeV6};
 use packet_view::Family;

@@ -1,4 +1,4 @@
-//! The sessions of a list, one by one.
+//! The sessions of a table that was closed, one by one.
 ghost use Rattle.std.specs.Prelude.{◌≡◌, ◌*◌, ◌+◌, ◌^◌, slice_get};
 ghost use Rattle.std.specs.Int.{to_be_bytes, w32};
 ghost use Rattle.racl_c.specs.Sessions;
@@ -6,9 +6,22 @@ ghost use Rattle.racl_c.specs.Sessions.{IsGiven, padded, pair_count, stored_sess
 ghost use Rattle.racl_views.specs.SessionLines as line;
 ghost use Rattle.session_state.specs.Sessions.{live_until};
 
-use crate::session_list::{ClosedPairs, SessionList};
 use crate::stored_session::{StoredEnd, StoredSession};
 use session_state::{Session, Timeouts};
+
+/// The pairs of a closed table, by the family of its flows.
+#[derive(Drop)]
+pub enum ClosedPairs {
+    Four(Vec<([u64; 2], u64)>),
+    Six(Vec<([u64; 5], u64)>),
+}
+
+/// The pairs of a closed table, and how long its sessions live.
+#[derive(Drop)]
+pub struct SessionList {
+    pub times: Timeouts,
+    pub pairs: ClosedPairs,
+}
 
 // The bytes of an address of IPv4, and zeros behind them.
 fn four_bytes(address: u32) -> [u8; 16]

@@ -9,14 +9,12 @@ mod file_kind;
 mod front_kept;
 mod interface_name;
 mod joined_source;
-mod line_of_packet;
 mod lines_in_threads;
 mod lines_one_by_one;
 mod marker_line;
 mod named_lines;
 mod number_printing;
 mod packet_lines;
-mod passed_count;
 mod plain_lines;
 mod read_buffer;
 mod reading_and_writing;
@@ -33,12 +31,10 @@ pub use file_kind::{Other, is_capture, other_file};
 pub use front_kept::FrontKept;
 pub use interface_name::push_name;
 pub use joined_source::Joined;
-pub use line_of_packet::PacketLine;
-pub use lines_one_by_one::write_packet_lines;
+pub use lines_one_by_one::{PacketLine, write_packet_lines};
 pub use marker_line::{Digits, Form, Input, Numbered, cut_at_numbered_marker, split_input};
 pub use named_lines::NamedLines;
 pub use number_printing::Numeral;
-pub use passed_count::passed;
 pub use plain_lines::PlainLines;
 pub use read_buffer::ReadBuffer;
 pub use reading_and_writing::{MOST_BYTES, drain, read_until, write_all};
@@ -46,6 +42,6 @@ pub use report_piece::Piece;
 pub use shown_report::write_shown;
 pub use teller::Teller;
 pub use totals_and_truncation::{
-    Captured, Totals, totals_on, without_pages, write_end, write_ends, write_totals,
+    Captured, Totals, passed, totals_on, without_pages, write_end, write_ends, write_totals,
     write_truncation,
 };

@@ -1,14 +1,14 @@
 //! Lines of packets, each of which is made by itself, written in pieces.
-ghost use Rattle.std.specs.Prelude.{◌≡◌, ◌+◌, ◌-◌, ◌<◌, ◌≤◌, ◌^◌, [], OnOk, drop, length};
-ghost use Rattle.packet_view.specs.Captures.{packet_facts};
+ghost use Rattle.std.specs.Prelude.{◌≡◌, ◌+◌, ◌-◌, ◌<◌, ◌≤◌, ◌^◌, ◌++◌, ℕ, [], List, OnOk, drop, length};
+ghost use Rattle.packet_view.specs.Captures.{PacketFacts, packet_facts};
 ghost use Rattle.packet_view.specs.CheckedCaptures.{remaining};
+ghost use Rattle.session_state.specs.declared.verdict.Verdict.{Verdict};
 ghost use Rattle.racl_io.specs.Sinks.{HasPutFront};
 ghost use Rattle.racl_io.specs.Tellings.{lines_by};
 ghost use Rattle.racl_io.specs.inner.Pieces.{HasPushed};
 
 use crate::device::Sink;
 use crate::fault::Fault;
-use crate::line_of_packet::PacketLine;
 use crate::reading_and_writing::write_all;
 use crate::report_piece::Piece;
 use packet_view::{Packet, Packets};
@@ -16,6 +16,17 @@ use session_state::Verdict;
 
 /// Up to how many bytes a piece has room for one more line.
 const FULL: usize = 261_402;
+
+/// What tells each packet in one line, which has at most 742 bytes.
+pub trait PacketLine {
+    /// The line of the packet with this number, or nothing where it has none.
+    ghost line: { Self → ℕ → PacketFacts → Verdict → List ℕ };
+
+    /// Puts the line of the packet with this number behind what the piece has.
+    fn push(&self, piece: &mut Piece, number: u64, packet: Packet<'_>, verdict: Verdict)
+        requires { length piece.old + 742 ≤ 262144 }
+        ensures { piece.new ≡ piece.old ++ line self.now number (packet_facts packet.entry) verdict };
+}
 
 // Sees that the piece has room for one more line.
 fn make_room_for_line<W: Sink>(writer: &mut W, piece: &mut Piece) -> Result<(), Fault>

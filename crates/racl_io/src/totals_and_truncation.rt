@@ -64,6 +64,19 @@ pub fn write_truncation<W: Sink>(
     write_all(writer, piece.as_slice())
 }
 
+/// How many packets pass.
+pub fn passed(verdicts: &[Verdict]) -> u64
+    ensures { result ≡ Reports.passed verdicts.now }
+{
+    let mut count = 0;
+    'verdicts: for verdict in verdicts {
+        if verdict.passes() {
+            count += 1;
+        }
+    }
+    count
+}
+
 // The line of the totals, which ends a report.
 fn push_totals(piece: &mut Piece, totals: &Totals)
     requires { piece.old ≡ [] }

@@ -5,7 +5,7 @@ use Rattle.clap.specs.Words.{App, HasKind, Text, fault_of, first_of, kind_of, ma
 use Rattle.clap.specs.declared.error.Error.{Error}
 use Rattle.clap.specs.declared.error.kind.ErrorKind.TheVariants.{ValueValidation}
 use Rattle.racl_options.specs.CommandLine.{file_rule}
-use Rattle.racl_options.specs.declared.files_of_diff.DiffFiles.{DiffFiles}
+use Rattle.racl_options.specs.declared.diff_command.DiffFiles.{DiffFiles}
 
 -- the names of the files as values
 pub record DiffNames : Type 0 where

@@ -8,7 +8,6 @@ ghost use Rattle.racl_options.specs.Diffs;
 ghost use Rattle.racl_options.specs.Diffs.{AskForDiff, IsDiff, RefusesDiff, names_of, racl_diff, unnamed_diff};
 ghost use Rattle.racl_options.specs.declared.settings.TableSize.TheVariants.{Standard};
 
-use crate::files_of_diff::DiffFiles;
 use crate::settings::{Lines, Options, TableSize};
 use clap::error::ErrorKind;
 use clap::{Arg, ArgAction, Command, Error};
@@ -20,6 +19,15 @@ const USAGE: &str = "racl diff OLD NEW CAPTURE";
 const ABOUT: &str = "Tells of which packets two policies say different things.";
 
 const UNNAMED: &str = "OLD, NEW and CAPTURE are to be named, one of them at most as standard input";
+
+/// The names of the file of a policy, of that of the one that is to take its place, and of a capture's. The name `-`, which one
+/// of them at most has, is standard input.
+#[derive(Clone, Copy, Debug, PartialEq, Eq)]
+pub struct DiffFiles<'a> {
+    pub before: &'a str,
+    pub after: &'a str,
+    pub capture: &'a str,
+}
 
 /// The names of the files of which packets are to be compared. `None`: the first word after the program's name isn't `diff`.
 pub fn diff_files<'a>(alloc: Global, words: &'a [&'a str]) -> Result<Option<DiffFiles<'a>>, Error>

@@ -5,7 +5,6 @@ mod asked_options;
 mod check_command;
 mod command_line;
 mod diff_command;
-mod files_of_diff;
 mod named_files;
 mod selected_output;
 mod settings;
@@ -14,8 +13,7 @@ mod table_size;
 
 pub use check_command::check_name;
 pub use command_line::{options, words_status};
-pub use diff_command::{diff_files, diff_options};
-pub use files_of_diff::DiffFiles;
+pub use diff_command::{DiffFiles, diff_files, diff_options};
 pub use settings::{
     Asked, CaptureFile, Files, Interfaces, Lines, Options, Origin, Saved, ShardAsked, TableSize,
 };

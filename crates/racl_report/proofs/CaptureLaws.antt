@@ -86,12 +86,12 @@ one_fault_of_one form content one other fit (inr (capture, spelt, of)) second =
     of.2 ∙ ap capture_fault (one_fault capture (fit capture spelt) of.0 also.0 of.1 also.1) ∙ sym also.2
 
 -- a capture's packets, and how it ends
-record HasRecords (number : ℕ) (capture : List ℕ) : Type 0 where
+pub record HasRecords (number : ℕ) (capture : List ℕ) : Type 0 where
   pub packets : List PacketFacts
   pub truncated : Bool
   pub records : IsCaptureAt number capture packets (end_of truncated)
 
-records_at_end : (number : ℕ) (capture : List ℕ) (records : List RecordFacts) (end : End) → IsCapture capture records end → HasRecords number capture
+pub records_at_end : (number : ℕ) (capture : List ℕ) (records : List RecordFacts) (end : End) → IsCapture capture records end → HasRecords number capture
 records_at_end number capture records Whole is = record { packets = packets_at number records; truncated = false; records = (records, is, refl) }
 records_at_end number capture records Truncated is = record { packets = packets_at number records; truncated = true; records = (records, is, refl) }
 

@@ -1,5 +1,5 @@
 -- Captures of interfaces that come apart: what is read of them, and which fault they have.
-use Rattle.std.proofs.Common.{◌≡◌, ◌∙◌, ◌==◌, ◌||◌, ◌⊎◌, ◌+◌, ◌<◌, ◌++◌, ℕ, Bool, true, false, List, [], ◌∷◌, Option, Some, None, length, append-nil, append_assoc, drop, get_or, arith, refl, sym, ap, ap₂, subst, inl, inr}
+use Rattle.std.proofs.Common.{◌≡◌, ◌∙◌, ◌==◌, ◌||◌, ◌⊎◌, ◌+◌, ◌<◌, ◌≤◌, ◌++◌, ℕ, Bool, true, false, List, [], ◌∷◌, Option, Some, None, length, append-nil, append_assoc, drop, get_or, arith, refl, sym, ap, ap₂, subst, inl, inr}
 use Rattle.std.proofs.lemmas.List.{length-append}
 use Rattle.std.proofs.lemmas.List.Elements.{recursion_from_All}
 use Rattle.std.specs.List.{AllByRecursion, list_any}
@@ -8,23 +8,25 @@ use Rattle.std.specs.Str.Lines.{lines}
 use Rattle.packet_view.specs.Bytes.{AreBytes}
 use Rattle.packet_view.specs.Captures.{PacketFacts, end_of}
 use Rattle.packet_view.proofs.CutLemmas as cuts
-use Rattle.packet_view.proofs.ReadingLemmas.{one_fault}
+use Rattle.packet_view.proofs.ReadingLemmas.{one_fault, some_reading}
 use Rattle.acl_policy.specs.Policies.{IsAmong, IsPolicyText, PolicyFacts}
 use Rattle.acl_policy.specs.declared.policy.PolicyFault.{PolicyFault}
 use Rattle.acl_policy.specs.declared.policy.PolicyFault.TheVariants as policy
+use Rattle.acl_policy.proofs.ReadingLaws as policies
 use Rattle.acl_policy.proofs.TextLaws as texts
 use Rattle.racl_io.specs.declared.fault.Fault.{Fault}
-use Rattle.racl_io.specs.declared.fault.Fault.TheVariants.{Write}
+use Rattle.racl_io.specs.declared.fault.Fault.TheVariants.{Twice, Write}
 use Rattle.racl_io.specs.declared.totals_and_truncation.Captured.{Captured}
 use Rattle.racl_io.specs.Faults.{capture_fault, policy_fault}
+use Rattle.racl_io.specs.Inputs.{most_bytes}
 use Rattle.racl_io.specs.Reports.{packets_in}
 use Rattle.racl_io.proofs.LeftLemmas.{drop_one}
 use Rattle.racl_views.specs.CapturePackets.{HavePackets}
 use Rattle.racl_views.specs.declared.capture_bytes.CaptureBytes.{CaptureBytes}
-use Rattle.racl_report.specs.InterfaceInputs.{AreAllBytes, AreTakenApart, IsFaultApart, IsFaultBehind, IsOwnFault, IsReadApart, IsRightCapture, IsTakenApart, placeless}
+use Rattle.racl_report.specs.InterfaceInputs.{AreAllBytes, AreTakenApart, IsFaultApart, IsFaultBehind, IsOwnFault, IsReadApart, IsRightCapture, IsTakenApart, bytes_in, placeless}
 use Rattle.racl_report.specs.ReadInputs.{told_of}
-use Rattle.racl_report.specs.declared.placed_fault.PlacedFault.{PlacedFault}
-use Rattle.racl_report.proofs.CaptureLaws.{AreSame, one_capture}
+use Rattle.racl_report.specs.declared.interface_captures.PlacedFault.{PlacedFault}
+use Rattle.racl_report.proofs.CaptureLaws.{AreSame, HasRecords, one_capture, records_at_end}
 
 abbrev pub found_at : Fault → Option ℕ → PlacedFault
 found_at fault place = record { fault = fault; place = place }
@@ -50,6 +52,10 @@ not_among number (other ∷ seen) none (inl same) =
     let found = eq-eqb other number (sym same) in
     let f : ⊥ = cc in f
 not_among number (other ∷ seen) none (inr is) = not_among number seen (or_false (other == number) _ none) is
+
+among_or_not : (number : ℕ) (seen : List ℕ) (any : Bool) → list_any (λ other. other == number) seen ≡ any → IsAmong number seen ⊎ (IsAmong number seen → ⊥)
+among_or_not number seen true any = inl (among number seen any)
+among_or_not number seen false none = inr (not_among number seen none)
 
 -- ---- what captures have
 
@@ -219,3 +225,58 @@ pub all_taken : (captures : List CaptureBytes) (place : ℕ) (seen : List ℕ) (
 all_taken captures place seen told amid none =
     let all = amid.taken [] [] (subst (λ cs. AreTakenApart seen cs [] []) (sym none) (refl, refl)) in
     (amid.packets, subst (λ ts. AreTakenApart [] captures amid.packets ts) (append-nil told) (subst (λ ps. AreTakenApart [] captures ps (told ++ [])) (append-nil amid.packets) all))
+
+-- ---- captures that are taken, or have a fault
+
+-- the packets of captures, and what is told of these
+record HaveBeenTaken (seen : List ℕ) (captures : List CaptureBytes) : Type 0 where
+  pub packets : List PacketFacts
+  pub told : List Captured
+  pub taken : AreTakenApart seen captures packets told
+
+first_taken : (seen : List ℕ) (capture : CaptureBytes) (captures : List CaptureBytes) → (IsAmong capture.interface seen → ⊥)
+    → HasRecords capture.interface capture.bytes.items → HaveBeenTaken (capture.interface ∷ seen) captures → HaveBeenTaken seen (capture ∷ captures)
+first_taken seen capture captures new has behind =
+    let told = told_of (Some capture.interface) has.packets has.truncated in
+    record {
+      packets = has.packets ++ behind.packets;
+      told = told ∷ behind.told;
+      taken = (
+        has.packets,
+        behind.packets,
+        told,
+        behind.told,
+        refl,
+        refl,
+        record { first = new; truncated = has.truncated; records = has.records; told = refl },
+        behind.taken,
+      );
+    }
+
+taken_or_fault : (before : ℕ) (seen : List ℕ) (captures : List CaptureBytes)
+    → HaveBeenTaken seen captures ⊎ ((found : PlacedFault) × IsFaultBehind before seen captures found)
+taken_or_fault before seen [] = inl (record { packets = []; told = []; taken = (refl, refl) })
+taken_or_fault before seen (capture ∷ captures) =
+    elim (among_or_not capture.interface seen _ refl) [
+      | inl again ↦ inr (found_at (Twice capture.interface) (Some before), inl (refl, inl (again, refl)))
+      | inr new ↦ elim (some_reading capture.bytes.items) [
+        | inl is ↦ elim (taken_or_fault (before + 1) (capture.interface ∷ seen) captures) [
+          | inl behind ↦ inl (first_taken seen capture captures new (records_at_end capture.interface capture.bytes.items is.0 is.1 is.2) behind)
+          | inr found ↦ inr (found.0, inr (new, (is.0, is.1, is.2), found.1))
+        ]
+        | inr cause ↦ inr (found_at (capture_fault cause.0) (Some before), inl (refl, inr (new, (cause.0, cause.1, refl))))
+      ]
+    ]
+
+-- a policy's text and captures, within what an input may have, are read or have a fault
+pub read_or_fault : (text : List ℕ) (captures : List CaptureBytes) → length text + bytes_in captures ≤ most_bytes
+    → ((policy : PolicyFacts) × (packets : List PacketFacts) × (told : List Captured) × IsReadApart text captures policy packets told)
+    ⊎ ((found : PlacedFault) × IsFaultApart text captures found)
+read_or_fault text captures few =
+    elim (policies.some_reading text) [
+      | inl says ↦ elim (taken_or_fault 0 [] captures) [
+        | inl are ↦ inl (says.0, are.packets, are.told, record { few = few; says = says.1; taken = are.taken })
+        | inr found ↦ inr (found.0, inr (says.0, says.1, found.1))
+      ]
+      | inr found ↦ inr (placeless (policy_fault found.0), inl (found.0, found.1, refl))
+    ]

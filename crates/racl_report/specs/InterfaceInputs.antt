@@ -11,7 +11,7 @@ use Rattle.racl_io.specs.Faults.{IsFaultOfCapture, policy_fault}
 use Rattle.racl_io.specs.Inputs.{most_bytes}
 use Rattle.racl_views.specs.declared.capture_bytes.CaptureBytes.{CaptureBytes}
 use Rattle.racl_report.specs.ReadInputs.{told_of}
-use Rattle.racl_report.specs.declared.placed_fault.PlacedFault.{PlacedFault}
+use Rattle.racl_report.specs.declared.interface_captures.PlacedFault.{PlacedFault}
 
 -- how many bytes captures have in all
 abbrev pub bytes_in : List CaptureBytes → ℕ

@@ -16,8 +16,8 @@ use Rattle.racl_views.specs.PacketObjects.{IsToldInObjects}
 use Rattle.racl_views.specs.RunEntries.{RunFacts}
 use Rattle.racl_views.specs.SessionLines.{sessions_told}
 use Rattle.racl_views.specs.Stored.{StoredFacts}
-use Rattle.racl_views.specs.declared.text_or_json.TextOrJson.{TextOrJson}
-use Rattle.racl_views.specs.declared.text_or_json.TextOrJson.TheVariants as view
+use Rattle.racl_views.specs.declared.sessions_as_text_and_json.TextOrJson.{TextOrJson}
+use Rattle.racl_views.specs.declared.sessions_as_text_and_json.TextOrJson.TheVariants as view
 
 -- ---- outcomes
 

@@ -1,15 +1,32 @@
 //! Captures of interfaces that come apart, which are looked at one after the other.
-ghost use Rattle.std.specs.Prelude.{◌≡◌, ◌==◌, ◌⊎◌, List, [], IfErr, IfOk};
+ghost use Rattle.std.specs.Prelude.{◌≡◌, ◌==◌, ◌⊎◌, ◌≤◌, ◌+◌, [], List, IfErr, IfOk, length};
 ghost use Rattle.std.specs.List.{list_any};
 ghost use Rattle.packet_view.specs.Captures.{PacketFacts};
 ghost use Rattle.racl_io.specs.declared.fault.Fault.TheVariants.{Memory};
-ghost use Rattle.racl_report.specs.InterfaceInputs.{AreTakenApart, IsFaultBehind, IsOwnFault, IsTakenApart, placeless};
+ghost use Rattle.racl_io.specs.Inputs.{most_bytes};
+ghost use Rattle.racl_report.specs.InterfaceInputs.{AreAllBytes, AreTakenApart, IsFaultBehind, IsOwnFault, IsTakenApart, bytes_in, placeless};
 
-use crate::placed_fault::PlacedFault;
 use packet_view::check_capture;
 use racl_io::{Captured, Fault};
 use racl_views::CaptureBytes;
 use std::alloc::Global;
+
+/// A policy's text, and the captures of interfaces in their order. Together they have no more bytes than an input may.
+#[derive(Drop)]
+pub struct InterfaceInput {
+    pub text: Vec<u8>,
+    pub captures: Vec<CaptureBytes>,
+    pub ghost fit: { AreAllBytes captures.items },
+    pub ghost few: { length text.items + bytes_in captures.items ≤ most_bytes },
+}
+
+/// A fault, and the capture that has it.
+#[derive(Clone, Copy, Debug, PartialEq, Eq)]
+pub struct PlacedFault {
+    pub fault: Fault,
+    /// The place of the capture among the captures, from 0; None where the fault is no capture's.
+    pub place: Option<usize>,
+}
 
 /// Whether one of the captures of these interfaces is of the interface with this number.
 pub fn is_interface_seen(seen: &[u8], number: u8) -> bool

@@ -5,23 +5,19 @@
 mod asked_report;
 mod end_of_captures;
 mod interface_captures;
-mod interface_input;
 mod judged_packets;
 mod kept_input;
 mod message_texts;
-mod placed_fault;
 mod program_ending;
 mod saved_packets;
 mod text_behind_totals;
 
 pub use asked_report::{write_judged, write_run};
 pub use end_of_captures::write_captures_end;
-pub use interface_captures::{is_interface_seen, told_of_interfaces};
-pub use interface_input::InterfaceInput;
+pub use interface_captures::{InterfaceInput, PlacedFault, is_interface_seen, told_of_interfaces};
 pub use judged_packets::Judged;
 pub use kept_input::{Kept, KeptCaptures, PlacedCapture};
 pub use message_texts::{Ending, Hint, KindRemark, Message, Shortage, Unopened, shown_name};
-pub use placed_fault::PlacedFault;
 pub use program_ending::{ending, failure_ending, hint, remark, shortage, status, words_ending};
 pub use saved_packets::{Saves, keeps_input, save_packets};
 pub use text_behind_totals::{Behind, behind_totals, write_behind};

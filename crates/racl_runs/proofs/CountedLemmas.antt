@@ -17,10 +17,10 @@ use Rattle.racl_views.specs.declared.hit_counts.HitCounts.{HitCounts}
 use Rattle.racl_report.specs.BehindTotals.{IsBehind}
 use Rattle.racl_report.specs.RunReports.{told_facts}
 use Rattle.racl_report.specs.declared.text_behind_totals.Behind.{Behind}
-use Rattle.racl_runs.specs.Crews.{AreAsAsked, AreIdleOf, AreSaid, AreSaidBy, AreSaidSoFar, HaveCountedAfter, HaveEndedCounting, HaveEndedOn, HaveSaidAfter, Orders, cuts_four, orders_for, size_of, views_with}
+use Rattle.racl_runs.specs.Crews.{AreAsAsked, AreIdleOf, AreSaid, AreSaidBy, AreSaidSoFar, HaveCountedAfter, HaveEndedCounting, HaveEndedOn, HaveSaidAfter, Orders, size_of, orders_of, views_with}
 use Rattle.racl_runs.specs.LiveRuns.{IsToldBehind, ages_in}
 use Rattle.racl_runs.specs.Runs.{AreStoredOf, keeps_stored, layout_for}
-use Rattle.racl_runs.specs.inner.LiveEnds.{MayTellBehind}
+use Rattle.racl_runs.specs.inner.LiveEnds.{AreBegun, MayTellBehind}
 use Rattle.racl_runs.specs.declared.counted_judging.Counted.{Counted}
 use Rattle.racl_runs.specs.declared.live_run.LiveWay.{LiveWay}
 use Rattle.racl_runs.specs.declared.sized_tables_and_workers.SizedCallers.{SizedCallers}
@@ -84,12 +84,18 @@ counted_end orders asked packets said kept counted callers has ended =
     }
 
 -- what stands behind the totals may be told
-pub may_tell_behind : (way : LiveWay) (tables : SizedTables) (packets : List PacketFacts) (said : List Verdict) (counts : HitCounts) (callers : SizedCallers) (orders : Orders)
+pub may_tell_behind : {T : Type 0} (way : LiveWay) (tables : SizedTables) (begun : Counted T) (packets : List PacketFacts) (said : List Verdict) (counts : HitCounts) (callers : SizedCallers)
     → IsPolicyText way.text.now (policy_facts way.filter.now.policy.now) → way.filter.now.times ≡ way.options.now.times
-    → AreAsAsked way.options.now.tables (ages_in way.options.now) tables → orders ≡ orders_for tables way.filter.now way.options.now.workers (cuts_four tables)
-    → HaveEndedCounting orders way.options.now.hits packets said counts callers → MayTellBehind way tables packets said counts callers
-may_tell_behind way tables packets said counts callers orders says times asked given ended =
-    record { says = says; times = times; asked = asked; orders = orders; given = given; ended = ended }
+    → AreAsAsked way.options.now.tables (ages_in way.options.now) tables → AreBegun way tables begun
+    → HaveEndedCounting (orders_of begun.crew.workers) begun.asked packets said counts callers → MayTellBehind way tables packets said counts callers
+may_tell_behind way tables begun packets said counts callers says times asked is ended = record {
+  says = says;
+  times = times;
+  asked = asked;
+  orders = orders_of begun.crew.workers;
+  given = is.given;
+  ended = subst (λ (hits : Bool). HaveEndedCounting (orders_of begun.crew.workers) hits packets said counts callers) is.asked ended;
+}
 
 -- its callers hold nothing
 pub ended_idle : (way : LiveWay) (tables : SizedTables) (packets : List PacketFacts) (said : List Verdict) (counts : HitCounts) (callers : SizedCallers)

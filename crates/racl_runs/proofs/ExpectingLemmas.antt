@@ -1,12 +1,11 @@
 -- A run over a capture whose verdicts are compared with expected ones.
-use Rattle.std.proofs.KnownBytes.{Appends-trans, Consumes-all, Consumes-trans}
-use Rattle.std.proofs.Common.{◌≡◌, ◌∙◌, ◌≤◌, ◌++◌, ℕ, Bool, List, [], Option, Result, Ok, Err, ap, ap₂, arith, drop, inl, inr, length, refl, subst, sym}
+use Rattle.std.proofs.KnownBytes.{Appends-trans}
+use Rattle.std.proofs.Common.{◌≡◌, ◌∙◌, ◌≤◌, ◌++◌, ℕ, Bool, List, Option, Result, Ok, Err, ap, ap₂, arith, inl, inr, length, refl, subst, sym}
 use Rattle.std.specs.Prelude.{◌⊎◌}
-use Rattle.std.proofs.lemmas.List.{drop_all, length-map}
+use Rattle.std.proofs.lemmas.List.{length-map}
 use Rattle.std.specs.Io.KnownBytes.{Appends}
-use Rattle.packet_view.specs.Captures.{AreRecords, PacketFacts, packet_at, packets_at}
+use Rattle.packet_view.specs.Captures.{PacketFacts, packet_at, packets_at}
 use Rattle.packet_view.specs.declared.capture.Order.{Order}
-use Rattle.packet_view.proofs.FrontLemmas.{behind_header_appended, header_appended}
 use Rattle.acl_policy.specs.Policies.{IsPolicyText, PolicyFacts, policy_facts}
 use Rattle.flow_filter.specs.declared.interface_filters.InterfaceFilters.{InterfaceFilters}
 use Rattle.session_state.specs.declared.verdict.Verdict.{Verdict}
@@ -25,9 +24,10 @@ use Rattle.compared_verdicts.proofs.MeetingLemmas.{lines_told}
 use Rattle.racl_runs.specs.Crews.{AreSaidSoFar, Orders, cuts_four, orders_for, size_of}
 use Rattle.racl_runs.specs.ExpectingRuns.{ByLoneWorker, ComparesAll, EndsExpecting, HasComparedAll, HasCutEnd, HasJudgedCapture, manner_by, output}
 use Rattle.racl_runs.specs.inner.Heads.{HasReadHeader}
-use Rattle.racl_runs.specs.declared.expecting_run_parts.Compared.{Compared}
+use Rattle.racl_runs.specs.declared.expecting_run.Compared.{Compared}
 use Rattle.racl_runs.specs.declared.sized_tables_and_workers.SizedTables.{SizedTables}
-use Rattle.racl_runs.proofs.OutcomeLemmas.{by_one, given_by_workers, judged_as}
+use Rattle.racl_runs.proofs.LiveLemmas.{by_some_workers, head_in, whole_capture}
+use Rattle.racl_runs.proofs.OutcomeLemmas.{by_one}
 
 -- what one worker said
 pub by_lone_worker : {T : Type 0} (options : Options) (ready : InterfaceFilters) (tables : SizedTables) (orders : Orders) (packets : List PacketFacts)
@@ -35,11 +35,8 @@ pub by_lone_worker : {T : Type 0} (options : Options) (ready : InterfaceFilters)
     → ready.times ≡ options.times → 1 ≤ options.workers → AreSaidSoFar T orders packets verdicts
     → ByLoneWorker options (policy_facts ready.policy.now) packets verdicts
 by_lone_worker options ready tables orders packets verdicts given cut sized same some said =
-    let policy = policy_facts ready.policy.now in
-    let one = said.one (ap (λ (o : Orders). o.deal.workers) given) in
-    let judged = judged_as packets verdicts one.0 orders tables options.tables ready 1 options.ages (given ∙ ap (orders_for tables ready 1) cut) sized one.1 in
-    let by = given_by_workers options ready.times options.ages policy packets verdicts one.0 1 same (omega arith) some judged in
-    record { by_workers = by.0; one = by.2; by_one_thread = by_one options options.ages policy packets verdicts by.0 }
+    let by = by_some_workers options ready tables orders 1 options.ages packets verdicts given cut sized same (omega arith) some (said.one (ap (λ (o : Orders). o.deal.workers) given)) in
+    record { by_workers = by.0; one = by.2; by_one_thread = by_one options options.ages (policy_facts ready.policy.now) packets verdicts by.0 }
 
 -- where nothing is saved, only the report's device fails
 pub write_failed : (written writing saved : ℕ) (found : Fault) → HaveFailed written writing saved saved found → writing ≡ with_write written found
@@ -132,23 +129,15 @@ judged_capture : (options : Options) (text : List ℕ) (before left after : Opti
     → IsPolicyText text policy → HasReadHeader before left order → HasJudgedAll (ByLoneWorker options) policy order left after totals
     → HasJudgedCapture options text before
 judged_capture options text before left after policy order totals says head all =
-    let bytes = head.header ++ all.read in
-    let header = header_appended order head.header all.read (record { right = head.headed.right; one = head.headed.one; none = head.headed.none }) in
-    let whole = head.whole in
-    let behind : drop 24 bytes ≡ all.read =
-    behind_header_appended head.header all.read (omega arith) ∙ ap (λ b. b ++ all.read) (drop_all 24 head.header (omega arith)) in
+    let (known, records) = whole_capture before left after order head all.read all.rest all.packets all.truncated all.consumed all.ended all.records all.end in
     record {
       policy = policy;
       says = says;
-      bytes = bytes;
-      known = Consumes-all before after bytes [] bytes (Consumes-trans before left after head.header all.read head.consumed all.consumed) all.ended refl;
+      bytes = head.header ++ all.read;
+      known = known;
       packets = packets_at 0 all.packets;
       truncated = all.truncated;
-      records = (
-        all.packets,
-        (order, all.rest, header.right, subst (λ (b : List ℕ). AreRecords order b all.packets all.rest) (sym behind) all.records, all.end),
-        refl,
-      );
+      records = records;
       verdicts = all.verdicts;
       by = all.judged;
     }
@@ -171,19 +160,7 @@ expecting_ends options text expectations before left after old new policy order 
       met = told.met ∙ ap (are_met expectations all.verdicts) (totals_same all);
       cut = told.cut ∙ ap (λ (t : Totals). t.truncated) all.counted ∙ sym (alone_truncated (length all.packets) all.truncated);
     }
-expecting_ends options text expectations before left after old new policy order (Err found) says head (inl why) = inr (inl (
-  record {
-    policy = policy;
-    says = says;
-    header = head.header;
-    order = order;
-    right = head.headed.right;
-    whole = head.whole;
-    left = left;
-    consumed = head.consumed;
-  },
-  why,
-))
+expecting_ends options text expectations before left after old new policy order (Err found) says head (inl why) = inr (inl (head_in policy says order head, why))
 expecting_ends options text expectations before left after old new policy order (Err found) says head (inr cut) =
     let all = cut.judged in
     inr (inr (record {

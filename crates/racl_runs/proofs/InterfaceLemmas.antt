@@ -5,8 +5,10 @@ use Rattle.acl_policy.specs.Policies.{IsPolicyFault, IsPolicyText, PolicyFacts}
 use Rattle.acl_policy.specs.declared.policy.PolicyFault.{PolicyFault}
 use Rattle.acl_policy.specs.declared.policy.PolicyFault.TheVariants as policy
 use Rattle.flow_dealing.specs.WorkerRecords.{HavePages}
-use Rattle.flow_filter.proofs.OneThreadLemmas.{one_verdicts}
+use Rattle.session_state.specs.declared.timeouts.Timeouts.{Timeouts}
+use Rattle.flow_filter.proofs.OneThreadLemmas.{one_verdicts, some_verdicts}
 use Rattle.racl_options.specs.declared.settings.Options.{Options}
+use Rattle.racl_options.specs.declared.settings.TableSize.{TableSize}
 use Rattle.racl_io.specs.declared.fault.Fault.{Fault}
 use Rattle.racl_io.specs.declared.fault.Fault.TheVariants.{Memory, Write}
 use Rattle.racl_io.specs.declared.totals_and_truncation.Captured.{Captured}
@@ -17,10 +19,10 @@ use Rattle.racl_views.specs.RunEntries.{RunFacts}
 use Rattle.racl_views.specs.Stored.{StoredFacts}
 use Rattle.racl_views.specs.declared.capture_bytes.CaptureBytes.{CaptureBytes}
 use Rattle.racl_report.specs.InterfaceInputs.{AreAllBytes, AreTakenApart, IsFaultApart, IsFaultBehind, bytes_in, placeless}
-use Rattle.racl_report.specs.declared.placed_fault.PlacedFault.{PlacedFault}
+use Rattle.racl_report.specs.declared.interface_captures.PlacedFault.{PlacedFault}
 use Rattle.racl_report.specs.RunReports.{JudgedFacts, Outcome, sessions_behind, told_facts}
 use Rattle.racl_report.specs.WrittenReports.{HasTold}
-use Rattle.racl_report.proofs.InterfaceLaws.{fault_not_write, found_at, no_fault_apart, one_fault_apart, one_read_apart}
+use Rattle.racl_report.proofs.InterfaceLaws.{fault_not_write, found_at, no_fault_apart, one_fault_apart, one_read_apart, read_or_fault}
 use Rattle.racl_report.proofs.ViewLemmas.{outcome_of}
 use Rattle.racl_runs.specs.InterfaceRuns.{HasOutcomeApart, HasRunApart, IsSystemApart}
 use Rattle.racl_runs.specs.Reads.{IsReached}
@@ -37,6 +39,31 @@ one_outcome_apart text captures fit options old new totals outcome run has paged
     subst (λ ps. ByOneThread options.tables options.times has.policy ps verdicts) same.1.0
     (subst (λ p. ByOneThread options.tables options.times p run.packets verdicts) same.0 (run.reached.by_one_thread paged in_time)) in
     ap₂ outcome_of (one_verdicts (layout_for options.tables) options.times has.policy has.packets outcome.verdicts verdicts has.verdicts here) (sym same.1.1)
+
+-- ---- one outcome or one fault
+
+pub one_outcome_of_interfaces : (size : TableSize) (times : Timeouts) (text : List ℕ) (captures : List CaptureBytes) (one other : Outcome) → AreAllBytes captures
+    → HasOutcomeApart size times text captures one → HasOutcomeApart size times text captures other → one ≡ other
+one_outcome_of_interfaces size times text captures one other fit a b =
+    let same = one_read_apart text captures fit a.policy b.policy a.packets b.packets one.captures other.captures a.read b.read in
+    let moved : ByOneThread size times b.policy b.packets one.verdicts =
+    subst (λ ps. ByOneThread size times b.policy ps one.verdicts) same.1.0 (subst (λ p. ByOneThread size times p a.packets one.verdicts) same.0 a.verdicts) in
+    ap₂ outcome_of (one_verdicts (layout_for size) times b.policy b.packets one.verdicts other.verdicts moved b.verdicts) same.1.1
+
+pub no_fault_of_interfaces : (size : TableSize) (times : Timeouts) (text : List ℕ) (captures : List CaptureBytes) (outcome : Outcome) (found : PlacedFault)
+    → AreAllBytes captures → HasOutcomeApart size times text captures outcome → IsFaultApart text captures found → ⊥
+no_fault_of_interfaces size times text captures outcome found fit has of =
+    no_fault_apart text captures fit has.policy has.packets outcome.captures found has.read.says has.read.taken of
+
+pub outcome_of_interfaces : (size : TableSize) (times : Timeouts) (text : List ℕ) (captures : List CaptureBytes) → length text + bytes_in captures ≤ most_bytes
+    → ((outcome : Outcome) × HasOutcomeApart size times text captures outcome) ⊎ ((found : PlacedFault) × IsFaultApart text captures found)
+outcome_of_interfaces size times text captures few =
+    elim (read_or_fault text captures few) [
+      | inl (policy, packets, told, read) ↦
+          let verdicts = some_verdicts (layout_for size) times policy packets in
+          inl (outcome_of verdicts.0 told, record { policy = policy; packets = packets; read = read; verdicts = verdicts.1 })
+      | inr found ↦ inr found
+    ]
 
 -- the report on what was judged of a text and captures
 pub has_run_apart : (options : Options) (text : List ℕ) (captures : List CaptureBytes) (policy : PolicyFacts) (packets : List PacketFacts) (told : List Captured) (judged : JudgedFacts)
@@ -65,9 +92,7 @@ has_run_apart options text captures policy packets told judged run stored old ne
 pub wrong_policy : (text : List ℕ) (captures : List CaptureBytes) (cause : PolicyFault) (fault : Fault) → fault ≡ policy_fault cause
     → (cause ≢ policy.Memory → IsPolicyFault text cause) → (found_at fault None ≡ placeless Memory) ⊎ IsFaultApart text captures (found_at fault None)
 wrong_policy text captures policy.Memory fault same is = inl (ap (λ (f : Fault). placeless f) same)
-wrong_policy text captures policy.NotUtf8 fault same is = inr (inl (policy.NotUtf8, is (λ e. cc), ap (λ (f : Fault). placeless f) same))
-wrong_policy text captures (policy.BadLine number) fault same is = inr (inl (policy.BadLine number, is (λ e. cc), ap (λ (f : Fault). placeless f) same))
-wrong_policy text captures (policy.TooMany number) fault same is = inr (inl (policy.TooMany number, is (λ e. cc), ap (λ (f : Fault). placeless f) same))
+wrong_policy text captures cause fault same is = inr (inl (cause, is (λ e. cc), ap (λ (f : Fault). placeless f) same))
 
 -- captures that are refused behind a right policy
 pub wrong_captures : (text : List ℕ) (captures : List CaptureBytes) (policy : PolicyFacts) (found : PlacedFault) → IsPolicyText text policy

@@ -1,3 +1,4 @@
+pub mod AskedLineLemmas
 pub mod AtHandLemmas
 pub mod ComparedLemmas
 pub mod CountedLemmas
@@ -6,16 +7,15 @@ pub mod DigitCaptureLemmas
 pub mod ExpectingLemmas
 pub mod InputLaws
 pub mod InterfaceLemmas
-pub mod LiveEndLemmas
 pub mod LiveInterfaceLemmas
 pub mod LiveLemmas
 pub mod LiveSaveLemmas
 pub mod OpenedLemmas
 pub mod OutcomeLemmas
+pub mod OwnEndLemmas
 pub mod ReadLemmas
 pub mod RunLemmas
 pub mod SavingLemmas
-pub mod ShardEndLemmas
 pub mod ShardRunLemmas
 pub mod ShardSaveLemmas
 pub mod StoredLaws

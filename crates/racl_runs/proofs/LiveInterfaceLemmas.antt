@@ -1,40 +1,36 @@
 -- A live run on several interfaces.
-use Rattle.std.proofs.Common.{◌≡◌, ◌∙◌, ◌++◌, ℕ, Bool, true, List, [], Option, None, append-nil, inl, inr, map, refl, subst, sym, Result, Ok, Err, MatchResult}
+use Rattle.std.proofs.Common.{◌≡◌, ◌∙◌, ◌++◌, ℕ, List, [], Option, None, append-nil, inl, inr, refl, subst, sym, Result, Ok, Err, MatchResult}
 use Rattle.std.proofs.KnownBytes.{Appends-nil, Appends-trans}
 use Rattle.std.specs.Io.KnownBytes.{Appends}
 use Rattle.std.specs.Prelude.{◌≢◌, ◌⊎◌}
 use Rattle.packet_view.specs.Captures.{PacketFacts}
 use Rattle.acl_policy.specs.Policies.{IsPolicyFault, IsPolicyText, PolicyFacts, policy_facts}
 use Rattle.acl_policy.specs.declared.policy.PolicyFault.{PolicyFault}
-use Rattle.acl_policy.specs.declared.policy.PolicyFault.TheVariants as policy
-use Rattle.session_state.specs.declared.shown_verdicts.Shown.{Shown}
+use Rattle.acl_policy.specs.declared.policy.PolicyFault.TheVariants.{Memory}
 use Rattle.session_state.specs.declared.verdict.Verdict.{Verdict}
-use Rattle.racl_options.specs.declared.settings.Lines.{Lines}
-use Rattle.racl_options.specs.declared.settings.Lines.TheVariants.{Explained, Json, Plain}
 use Rattle.racl_options.specs.declared.settings.Options.{Options}
 use Rattle.racl_io.specs.declared.fault.Fault.{Fault}
 use Rattle.racl_io.specs.declared.fault.Fault.TheVariants as fault
 use Rattle.racl_io.specs.declared.totals_and_truncation.Captured.{Captured}
 use Rattle.racl_io.specs.declared.totals_and_truncation.Totals.{Totals}
 use Rattle.racl_io.specs.Faults.{policy_fault}
-use Rattle.racl_io.specs.Tellings.{IsTellingFault, Wording, lines_in, named_wording}
+use Rattle.racl_io.specs.Tellings.{IsTellingFault, Wording, lines_in}
 use Rattle.racl_io.proofs.TellingLemmas.{front_on}
-use Rattle.racl_views.specs.PartTellings.{TellsLines, ToldBy}
-use Rattle.racl_views.specs.RuleTexts.{shown_of}
-use Rattle.racl_views.specs.declared.json_report.ObjectLines.{ObjectLines}
-use Rattle.racl_views.specs.declared.writing_explained_lines.ExplainedLines.{ExplainedLines}
-use Rattle.racl_views.specs.inner.PartWordings.{explained_wording, objects_wording}
-use Rattle.racl_views.specs.inner.Tellings.{IsTableOf}
-use Rattle.racl_views.proofs.PartLemmas.{explained_names_tell, objects_tell_lines, some_named, some_objects}
 use Rattle.racl_report.specs.CapturesEnds.{captures_end}
 use Rattle.capture_stream.specs.Arrivals.{Gives, Part}
 use Rattle.capture_stream.specs.ComingCaptures.{HasToldCaptures, HasToldFront, HasToldTurns, IsFaultOfComing}
 use Rattle.capture_stream.specs.Turns.{AreTurns, AreTurnsToLong, Turn, cuts_of, packets_of, parts_of}
-use Rattle.capture_stream.specs.declared.arrival.FaultAt.{FaultAt}
+use Rattle.capture_stream.specs.declared.arrivals.FaultAt.{FaultAt}
 use Rattle.capture_stream.specs.declared.arrivals_telling.ToldArrivals.{ToldArrivals}
 use Rattle.capture_stream.proofs.ArrivalLemmas.{gives_none}
-use Rattle.racl_runs.specs.LiveInterfaceRuns.{AreNamed, HasCutComing, HasRunComing, HasToldComing, IsComingRunFault, IsReportOfTurns, TellsComing, TellsNamed}
-use Rattle.racl_runs.specs.LiveRuns.{AreFirstVerdicts, IsToldBehind}
+use Rattle.racl_runs.specs.Crews.{AreAsAsked}
+use Rattle.racl_runs.specs.LiveInterfaceRuns.{HasCutComing, HasRunComing, HasToldComing, IsComingRunFault, IsReportOfTurns, TellsComing, TellsNamed}
+use Rattle.racl_runs.specs.LiveRuns.{AreFirstVerdicts, IsToldBehind, ages_in}
+use Rattle.racl_runs.specs.declared.counted_judging.Counted.{Counted}
+use Rattle.racl_runs.specs.declared.live_run.LiveWay.{LiveWay}
+use Rattle.racl_runs.specs.declared.sized_tables_and_workers.SizedTables.{SizedTables}
+use Rattle.racl_runs.specs.inner.LiveEnds.{AreBegun}
+use Rattle.racl_runs.proofs.LiveLemmas.{CountedSaid, first_verdicts}
 
 -- ---- What is known of verdicts is known as something else, too
 
@@ -62,7 +58,7 @@ module _ {I J : Type 0} {A : I → List PacketFacts → List Verdict → Type 0}
     front = told.front;
   }
 
-  pub coming_as : (found : FaultAt) → IsFaultOfComing A wording i before after old new found → IsFaultOfComing B wording j before after old new found
+  coming_as : (found : FaultAt) → IsFaultOfComing A wording i before after old new found → IsFaultOfComing B wording j before after old new found
   unfolding turns_as front_as
   coming_as found (inl (memory, gone, lost, told)) = inl (memory, gone, lost, turns_as AreTurns gone told)
   coming_as found (inr (inl (read, named, told))) = inr (inl (read, named, turns_as AreTurns [] told))
@@ -90,131 +86,10 @@ none_came_as Judged wording begun before old found (memory, placeless) = inl (
 )
 
 -- the policy's text has the fault, or memory ran out
-pub wrong_text : (text : List ℕ) (cause : PolicyFault) (found : FaultAt) → found.fault ≡ policy_fault cause → (cause ≢ policy.Memory → IsPolicyFault text cause)
+pub wrong_text : (text : List ℕ) (cause : PolicyFault) (found : FaultAt) → found.fault ≡ policy_fault cause → (cause ≢ Memory → IsPolicyFault text cause)
     → (found.fault ≡ fault.Memory) ⊎ ((c : PolicyFault) × IsPolicyFault text c × (found.fault ≡ policy_fault c))
-wrong_text text policy.Memory found same is = inl same
-wrong_text text policy.NotUtf8 found same is = inr (policy.NotUtf8, is (λ other. cc), same)
-wrong_text text (policy.BadLine number) found same is = inr (policy.BadLine number, is (λ other. cc), same)
-wrong_text text (policy.TooMany number) found same is = inr (policy.TooMany number, is (λ other. cc), same)
-
--- ---- The end
-
-module _ {J : Type 0} {Became : J → List PacketFacts → List Verdict → J → Type 0} {Judged : J → List PacketFacts → List Verdict → Type 0} {begun : J} (T : Type 0) (options : Options)
-    (text : List ℕ) (wording : Wording) (policy : PolicyFacts) (before after : Option (List Part)) (old mid : Option (List ℕ)) (told : ToldArrivals J)
-    (all : HasToldCaptures Became Judged wording begun before after old mid told)
-    (first : (packets : List PacketFacts) (verdicts : List Verdict) → Judged begun packets verdicts → AreFirstVerdicts T options policy packets verdicts) where
-  -- the parts that came are those of the turns
-  all_given : Gives before after (parts_of all.all.turns)
-  all_given = subst (Gives before after) (append-nil (parts_of all.all.turns)) all.all.given
-
-  -- of all packets their lines were written, and no more
-  some_told : HasToldTurns AreTurns (AreFirstVerdicts T options) wording policy before after old mid []
-  some_told = turns_as wording first before after old mid AreTurns [] all.all
-
-  -- memory ran out
-  pub end_refused : (found : FaultAt) → (found.fault ≡ fault.Memory) × (found.interface ≡ None) → IsFaultOfComing (AreFirstVerdicts T options) wording policy before after old mid found
-  end_refused found (memory, placeless) = inl (memory, [], placeless, some_told)
-
-  module _ (behind : List ℕ) (is_behind : IsToldBehind options text policy (packets_of all.all.turns) all.all.verdicts behind) where
-    abbrev lines : List ℕ
-    lines = lines_in wording 1 (packets_of all.all.turns) all.all.verdicts
-
-    abbrev end : List ℕ
-    end = captures_end options.lines (cuts_of all.all.turns) told.totals ++ behind
-
-    abbrev is_report : IsReportOfTurns options text wording policy all.all.turns told.totals (lines ++ end)
-    is_report = record { verdicts = all.all.verdicts; count = all.all.count; behind = behind; told = is_behind; counted = all.totals; all = refl }
-
-    pub all_told : (new : Option (List ℕ)) (cuts : List Captured) → cuts ≡ told.cuts.items → Appends mid new (captures_end options.lines cuts told.totals ++ behind)
-        → HasToldComing options text wording policy before after old new told.totals
-    all_told new cuts same more = record {
-      turns = all.all.turns;
-      are = all.all.are;
-      given = all_given;
-      ended = all.ended;
-      whole = all.whole;
-      report = lines ++ end;
-      is = is_report;
-      written = Appends-trans old mid new lines end all.all.text
-          (subst (λ (cs : List Captured). Appends mid new (captures_end options.lines cs told.totals ++ behind)) (same ∙ all.cuts) more);
-    }
-
-    fault_at_end : (new : Option (List ℕ)) (found : FaultAt) (why : Fault) → found.fault ≡ why → found.interface ≡ None → IsTellingFault mid new end why
-        → IsFaultOfComing (AreFirstVerdicts T options) wording policy before after old new found ⊎ HasCutComing options text wording policy before after old new found
-    fault_at_end new found fault.Memory is placeless same =
-        inl (inl (is, [], placeless, subst (λ (b : Option (List ℕ)). HasToldTurns AreTurns (AreFirstVerdicts T options) wording policy before after old b []) (sym same) some_told))
-    fault_at_end new found fault.Write is placeless front = inr (record {
-      failed = is;
-      placeless = placeless;
-      turns = all.all.turns;
-      are = all.all.are;
-      given = all_given;
-      ended = all.ended;
-      whole = all.whole;
-      totals = told.totals;
-      report = lines ++ end;
-      is = is_report;
-      front = front_on old mid new lines end all.all.text front;
-    })
-    fault_at_end new found why is placeless wrong = absurd wrong
-
-    pub end_fault : (new : Option (List ℕ)) (cuts : List Captured) → cuts ≡ told.cuts.items → (found : FaultAt) (why : Fault) → (found.fault ≡ why) × (found.interface ≡ None)
-        → IsTellingFault mid new (captures_end options.lines cuts told.totals ++ behind) why
-        → IsFaultOfComing (AreFirstVerdicts T options) wording policy before after old new found ⊎ HasCutComing options text wording policy before after old new found
-    end_fault new cuts same found why (is, placeless) cut =
-        fault_at_end new found why is placeless (subst (λ (cs : List Captured). IsTellingFault mid new (captures_end options.lines cs told.totals ++ behind) why) (same ∙ all.cuts) cut)
-
--- ---- How packets are told
-
-abbrev told_by : Options → List ℕ → PolicyFacts → ToldBy
-told_by options text policy = record { policy = policy; text = text; shown = options.shown }
-
--- in this form
-in_form : (options : Options) (text : List ℕ) (policy : PolicyFacts) (form : Lines) (wording : Wording) → options.lines ≡ form
-    → TellsLines (AreNamed form) (told_by options text policy) wording → TellsNamed options text policy wording
-in_form options text policy form wording is tells = subst (λ (l : Lines). TellsLines (AreNamed l) (told_by options text policy) wording) (sym is) tells
-
--- in plain lines
-pub plain_named : (options : Options) (text : List ℕ) (policy : PolicyFacts) (shown : Shown) → options.lines ≡ Plain → shown ≡ options.shown
-    → TellsNamed options text policy (named_wording shown)
-plain_named options text policy shown form same =
-    let tells : TellsLines (AreNamed Plain) (told_by options text policy) (named_wording options.shown) = record { lines = λ packets verdicts each. refl } in
-    subst (λ (s : Shown). TellsNamed options text policy (named_wording s)) (sym same) (in_form options text policy Plain _ form tells)
-
--- in explained lines
-pub explained_named : (options : Options) (text : List ℕ) (policy : PolicyFacts) (lines : ExplainedLines) → options.lines ≡ Explained → lines.shown ≡ options.shown
-    → policy_facts lines.policy.now ≡ policy → IsTableOf text lines.table → lines.names ≡ true → IsPolicyText text policy
-    → TellsNamed options text policy (explained_wording lines.shown lines.names (policy_facts lines.policy.now) lines.table.rules.items (map shown_of lines.table.texts.items))
-explained_named options text policy lines form shown same table names says =
-    let rules = lines.table.rules.items in
-    let is = table policy says in
-    subst (λ (s : Shown). TellsNamed options text policy (explained_wording s lines.names (policy_facts lines.policy.now) rules (map shown_of lines.table.texts.items))) (sym shown)
-    (subst (λ (n : Bool). TellsNamed options text policy (explained_wording options.shown n (policy_facts lines.policy.now) rules (map shown_of lines.table.texts.items))) (sym names)
-    (subst (λ (p : PolicyFacts). TellsNamed options text policy (explained_wording options.shown true p rules (map shown_of lines.table.texts.items))) (sym same)
-    (subst (λ (t : List (List ℕ)). TellsNamed options text policy (explained_wording options.shown true policy rules t)) (sym is.1)
-    (in_form options text policy Explained _ form (explained_names_tell (told_by options text policy) rules is.0)))))
-
--- in objects
-pub objects_named : (options : Options) (text : List ℕ) (policy : PolicyFacts) (lines : ObjectLines) → options.lines ≡ Json → lines.shown ≡ options.shown
-    → policy_facts lines.policy.now ≡ policy → IsTableOf text lines.table → IsPolicyText text policy
-    → TellsNamed options text policy (objects_wording lines.shown (policy_facts lines.policy.now) lines.table.rules.items (map shown_of lines.table.texts.items))
-objects_named options text policy lines form shown same table says =
-    let rules = lines.table.rules.items in
-    let is = table policy says in
-    subst (λ (s : Shown). TellsNamed options text policy (objects_wording s (policy_facts lines.policy.now) rules (map shown_of lines.table.texts.items))) (sym shown)
-    (subst (λ (p : PolicyFacts). TellsNamed options text policy (objects_wording options.shown p rules (map shown_of lines.table.texts.items))) (sym same)
-    (subst (λ (t : List (List ℕ)). TellsNamed options text policy (objects_wording options.shown policy rules t)) (sym is.1)
-    (in_form options text policy Json _ form (objects_tell_lines (told_by options text policy) rules is.0))))
-
--- there is a way, in each form
-pub some_way_named : (options : Options) (text : List ℕ) (policy : PolicyFacts) (form : Lines) → options.lines ≡ form → IsPolicyText text policy
-    → (wording : Wording) × TellsNamed options text policy wording
-some_way_named options text policy Plain form says = (named_wording options.shown, plain_named options text policy options.shown form refl)
-some_way_named options text policy Explained form says =
-    let (wording, tells) = some_named (told_by options text policy) says in (wording, in_form options text policy Explained wording form tells)
-some_way_named options text policy Json form says =
-    let (wording, tells) = some_objects (told_by options text policy) says in
-    (wording, in_form options text policy Json wording form (record { lines = tells.lines }))
+wrong_text text Memory found same is = inl same
+wrong_text text cause found same is = inr (cause, is (λ other. cc), same)
 
 -- the policy was read, and so it was told, or why not
 pub run_ends : (T : Type 0) (options : Options) (text : List ℕ) (policy : PolicyFacts) (before after : Option (List Part)) (old new : Option (List ℕ)) (wording : Wording)
@@ -224,3 +99,84 @@ pub run_ends : (T : Type 0) (options : Options) (text : List ℕ) (policy : Poli
 run_ends T options text policy before after old new wording (Ok totals) says tells told =
     record { policy = policy; says = says; wording = wording; tells = tells; told = told }
 run_ends T options text policy before after old new wording (Err found) says tells why = inr (policy, says, wording, tells, why)
+
+-- ---- The end
+
+module _ {T : Type 0} (way : LiveWay) (tables : SizedTables) (begun : Counted T) (is : AreBegun way tables begun)
+    (asked : AreAsAsked way.options.now.tables (ages_in way.options.now) tables) (times : way.filter.now.times ≡ way.options.now.times) (wording : Wording) (before after : Option (List Part))
+    (old mid : Option (List ℕ)) where
+  abbrev options : Options
+  options = way.options.now
+
+  abbrev policy : PolicyFacts
+  policy = policy_facts way.filter.now.policy.now
+
+  first : (packets : List PacketFacts) (verdicts : List Verdict) → CountedSaid begun packets verdicts → AreFirstVerdicts T options policy packets verdicts
+  first packets verdicts said = first_verdicts way tables begun packets verdicts is asked times said
+
+  -- not all was told
+  pub coming_fault : (found : FaultAt) → IsFaultOfComing CountedSaid wording begun before after old mid found → IsFaultOfComing (AreFirstVerdicts T options) wording policy before after old mid found
+  coming_fault found why = coming_as wording first before after old mid found why
+
+  module _ {Became : Counted T → List PacketFacts → List Verdict → Counted T → Type 0} (told : ToldArrivals (Counted T))
+      (all : HasToldCaptures Became CountedSaid wording begun before after old mid told) where
+    -- the parts that came are those of the turns
+    all_given : Gives before after (parts_of all.all.turns)
+    all_given = subst (Gives before after) (append-nil (parts_of all.all.turns)) all.all.given
+
+    -- of all packets their lines were written, and no more
+    some_told : HasToldTurns AreTurns (AreFirstVerdicts T options) wording policy before after old mid []
+    some_told = turns_as wording first before after old mid AreTurns [] all.all
+
+    -- memory ran out
+    pub end_refused : (found : FaultAt) → (found.fault ≡ fault.Memory) × (found.interface ≡ None) → IsFaultOfComing (AreFirstVerdicts T options) wording policy before after old mid found
+    end_refused found (memory, placeless) = inl (memory, [], placeless, some_told)
+
+    module _ (behind : List ℕ) (is_behind : IsToldBehind options way.text.now policy (packets_of all.all.turns) all.all.verdicts behind) where
+      abbrev lines : List ℕ
+      lines = lines_in wording 1 (packets_of all.all.turns) all.all.verdicts
+
+      abbrev end : List ℕ
+      end = captures_end options.lines (cuts_of all.all.turns) told.totals ++ behind
+
+      abbrev is_report : IsReportOfTurns options way.text.now wording policy all.all.turns told.totals (lines ++ end)
+      is_report = record { verdicts = all.all.verdicts; count = all.all.count; behind = behind; told = is_behind; counted = all.totals; all = refl }
+
+      pub all_told : (new : Option (List ℕ)) (cuts : List Captured) → cuts ≡ told.cuts.items → Appends mid new (captures_end options.lines cuts told.totals ++ behind)
+          → HasToldComing options way.text.now wording policy before after old new told.totals
+      all_told new cuts same more = record {
+        turns = all.all.turns;
+        are = all.all.are;
+        given = all_given;
+        ended = all.ended;
+        whole = all.whole;
+        report = lines ++ end;
+        is = is_report;
+        written = Appends-trans old mid new lines end all.all.text
+            (subst (λ (cs : List Captured). Appends mid new (captures_end options.lines cs told.totals ++ behind)) (same ∙ all.cuts) more);
+      }
+
+      fault_at_end : (new : Option (List ℕ)) (found : FaultAt) (why : Fault) → found.fault ≡ why → found.interface ≡ None → IsTellingFault mid new end why
+          → IsFaultOfComing (AreFirstVerdicts T options) wording policy before after old new found ⊎ HasCutComing options way.text.now wording policy before after old new found
+      fault_at_end new found fault.Memory is placeless same =
+          inl (inl (is, [], placeless, subst (λ (b : Option (List ℕ)). HasToldTurns AreTurns (AreFirstVerdicts T options) wording policy before after old b []) (sym same) some_told))
+      fault_at_end new found fault.Write is placeless front = inr (record {
+        failed = is;
+        placeless = placeless;
+        turns = all.all.turns;
+        are = all.all.are;
+        given = all_given;
+        ended = all.ended;
+        whole = all.whole;
+        totals = told.totals;
+        report = lines ++ end;
+        is = is_report;
+        front = front_on old mid new lines end all.all.text front;
+      })
+      fault_at_end new found why is placeless wrong = absurd wrong
+
+      pub end_fault : (new : Option (List ℕ)) (cuts : List Captured) → cuts ≡ told.cuts.items → (found : FaultAt) (why : Fault) → (found.fault ≡ why) × (found.interface ≡ None)
+          → IsTellingFault mid new (captures_end options.lines cuts told.totals ++ behind) why
+          → IsFaultOfComing (AreFirstVerdicts T options) wording policy before after old new found ⊎ HasCutComing options way.text.now wording policy before after old new found
+      end_fault new cuts same found why (is, placeless) cut =
+          fault_at_end new found why is placeless (subst (λ (cs : List Captured). IsTellingFault mid new (captures_end options.lines cs told.totals ++ behind) why) (same ∙ all.cuts) cut)

@@ -1,46 +1,46 @@
 -- A run over a capture that is told while it comes.
 use Rattle.std.proofs.KnownBytes.{Consumes-all, Consumes-trans}
-use Rattle.std.proofs.Common.{◌≡◌, ◌∙◌, ◌≤◌, ◌++◌, ℕ, Bool, List, [], Option, Result, Ok, Err, MatchResult, ap, arith, inl, inr, length, map, refl, subst, sym, drop, false, true}
+use Rattle.std.proofs.Common.{◌≡◌, ◌∙◌, ◌+◌, ◌≤◌, ◌++◌, ℕ, Bool, List, [], ◌∷◌, Option, None, Result, Ok, Err, MatchResult, ap, append_assoc, arith, inl, inr, length, refl, subst, sym, drop, true}
+use Rattle.std.specs.Io.KnownBytes.{Consumes, IsAtEnd}
+use Rattle.std.specs.Prelude.{IfSome}
 use Rattle.std.proofs.lemmas.List.{drop_all, length-map}
-use Rattle.packet_view.specs.Captures.{AreRecords, PacketFacts, end_of, packet_at, packets_at}
+use Rattle.packet_view.specs.Captures.{AreRecords, IsCaptureAt, IsEnd, PacketFacts, RecordFacts, end_of, packet_at, packets_at}
 use Rattle.packet_view.specs.declared.capture.Order.{Order}
 use Rattle.packet_view.proofs.FrontLemmas.{behind_header_appended, header_appended}
 use Rattle.acl_policy.specs.Policies.{IsPolicyText, PolicyFacts, policy_facts}
+use Rattle.acl_policy.specs.declared.policy.Policy.{Policy}
 use Rattle.bihash_words.specs.declared.shape.Shape.{Ghosts}
 use Rattle.flow_filter.specs.OneThread.{layout_of}
 use Rattle.flow_workers.specs.declared.worker_setup.Setup.{Setup}
 use Rattle.flow_workers.specs.declared.workers.Workers.{Workers}
 use Rattle.flow_filter.specs.declared.interface_filters.InterfaceFilters.{InterfaceFilters}
 use Rattle.session_state.specs.declared.verdict.Verdict.{Verdict}
-use Rattle.racl_options.specs.declared.settings.Lines.{Lines}
-use Rattle.racl_options.specs.declared.settings.Lines.TheVariants.{Explained, Json, Plain}
 use Rattle.racl_options.specs.declared.settings.Options.{Options}
 use Rattle.racl_options.specs.declared.settings.TableSize.{TableSize}
-use Rattle.session_state.specs.declared.shown_verdicts.Shown.{Shown}
 use Rattle.racl_io.specs.declared.fault.Fault.{Fault}
 use Rattle.racl_io.specs.declared.fault.Fault.TheVariants.{Write}
 use Rattle.racl_io.specs.declared.totals_and_truncation.Totals.{Totals}
 use Rattle.racl_io.specs.Reports.{totals_of}
-use Rattle.racl_io.specs.Tellings.{Wording, plain_wording, report_in, told_alone}
-use Rattle.racl_io.proofs.TellingLemmas.{plain_lines, plain_report}
-use Rattle.racl_views.specs.PartTellings.{TellsRun, ToldBy}
-use Rattle.racl_views.specs.RuleTexts.{shown_of}
-use Rattle.racl_views.specs.declared.json_report.ObjectLines.{ObjectLines}
-use Rattle.racl_views.specs.declared.writing_explained_lines.ExplainedLines.{ExplainedLines}
-use Rattle.racl_views.specs.inner.PartWordings.{explained_wording, objects_wording}
-use Rattle.racl_views.specs.inner.Tellings.{IsTableOf}
-use Rattle.racl_views.proofs.PartLemmas.{explained_tells, objects_tell, some_explained, some_objects}
-use Rattle.racl_report.specs.RunReports.{AreLines}
+use Rattle.racl_io.specs.Tellings.{Wording, lines_in, report_in, told_alone}
 use Rattle.racl_report.specs.declared.saved_packets.Saves.{Saves}
-use Rattle.capture_stream.specs.Lives.{HaveFailed, IsLiveFault}
+use Rattle.capture_stream.specs.Lives.{HaveFailed}
 use Rattle.capture_stream.specs.Savings.{manner_of, outputs}
 use Rattle.capture_stream.proofs.TellLemmas.{failed_since, fault_as}
+use Rattle.capture_shards.specs.Shards.{own_packets}
+use Rattle.capture_shards.specs.Sharing.{lines_at, own_numbers}
+use Rattle.capture_shards.specs.inner.OwnTests.{own_among}
+use Rattle.capture_shards.proofs.SpreadLemmas.{all_in}
 use Rattle.racl_runs.specs.Crews.{AreAsAsked, AreRestingWith, AreSaid, AreSaidSoFar, HaveSaidAfter, Orders, cuts_four, orders_for, orders_in, orders_of, size_of}
-use Rattle.racl_runs.specs.LiveRuns.{AreFirstLines, AreFirstVerdicts, ByLiveWorkers, ByOneWorker, HasHead, HasRunLive, IsEarlyFault, IsLiveReport, IsLiveRunFault, IsOrderFor, IsReportBehind, TellsAsAsked, TellsBehind, ages_in}
+use Rattle.racl_runs.specs.LiveRuns.{AreFirstVerdicts, ByLiveWorkers, ByOneWorker, HasHead, HasRunLive, IsEarlyFault, IsLiveReport, IsLiveRunFault, IsOrderFor, IsToldBehind, TellsAsAsked, ages_in}
 use Rattle.racl_runs.specs.LiveSaves.{HaveSaved}
 use Rattle.racl_runs.specs.Runs.{ByWorkers, bucket_deal}
+use Rattle.racl_runs.specs.ShardRuns.{AreFirstOwn}
 use Rattle.racl_runs.specs.inner.Heads.{HasReadHeader, IsHeadless}
 use Rattle.racl_runs.specs.inner.Kept.{HaveGot}
+use Rattle.racl_runs.specs.inner.LiveEnds.{AreBegun}
+use Rattle.racl_runs.specs.inner.OwnRuns.{IsOwnReportBehind, TellsOwn}
+use Rattle.racl_runs.specs.declared.counted_judging.Counted.{Counted}
+use Rattle.racl_runs.specs.declared.live_run.LiveWay.{LiveWay}
 use Rattle.racl_runs.specs.declared.live_saves.LiveSaves.{LiveSaves}
 use Rattle.racl_runs.specs.declared.sized_tables_and_workers.SizedTables.{SizedTables}
 use Rattle.racl_runs.specs.declared.sized_tables_and_workers.SizedWorkers.{SizedWorkers}
@@ -80,7 +80,7 @@ pub as_asked : {size : TableSize} {tables : SizedTables} {cuts ages : Bool} → 
 as_asked {size} {tables} asked same = subst (λ (b : Bool). AreAsAsked size b tables) same asked
 
 -- what workers said over tables that cut blocks, or don't, and what they knew then
-by_some_workers : (options : Options) (ready : InterfaceFilters) (tables : SizedTables) (orders : Orders) (workers : ℕ) (ages : Bool) (packets : List PacketFacts)
+pub by_some_workers : (options : Options) (ready : InterfaceFilters) (tables : SizedTables) (orders : Orders) (workers : ℕ) (ages : Bool) (packets : List PacketFacts)
     (verdicts : List Verdict) → orders ≡ orders_for tables ready workers (cuts_four tables) → cuts_four tables ≡ ages → size_of tables ≡ options.tables
     → ready.times ≡ options.times → 1 ≤ workers → workers ≤ options.workers → (said : AreSaid orders packets verdicts)
     → (by : ByWorkers options ages (policy_facts ready.policy.now) packets verdicts) × (by.views ≡ said.0) × (by.workers ≡ workers)
@@ -106,24 +106,33 @@ by_one_worker options ready tables orders packets verdicts given cut sized same 
     let by = by_some_workers options ready tables orders 1 true packets verdicts given cut sized same (omega arith) some (said.one (ap (λ (o : Orders). o.deal.workers) given)) in
     record { by_workers = by.0; one = by.2; by_one_thread = by_one options true (policy_facts ready.policy.now) packets verdicts by.0 }
 
--- what workers said of the first packets
-pub first_verdicts : {T : Type 0} (options : Options) (ready : InterfaceFilters) (tables : SizedTables) (orders : Orders) (packets : List PacketFacts)
-    (verdicts : List Verdict) → orders ≡ orders_for tables ready options.workers (cuts_four tables) → cuts_four tables ≡ ages_in options → size_of tables ≡ options.tables
-    → ready.times ≡ options.times → 1 ≤ options.workers → AreSaidSoFar T orders packets verdicts
-    → AreFirstVerdicts T options (policy_facts ready.policy.now) packets verdicts
-first_verdicts options ready tables orders packets verdicts given cut sized same some said = record {
-  workers = said.workers;
-  by = subst (IsOrderFor options (policy_facts ready.policy.now)) (sym (said.after.given ∙ given)) (record {
-    deal = ap (λ z. bucket_deal z options.workers) sized;
-    times = same;
-    ages = cut;
-    policy_is = refl;
-  });
-  rest = said.after.rest;
-  count = said.count;
-  one = λ one. (by_live_workers options ready tables orders options.workers packets verdicts given cut sized same some (omega arith)
-      (said.one (ap (λ (o : Orders). o.deal.workers) given ∙ one))).0;
-}
+-- what workers who count said of the first packets
+abbrev pub CountedSaid : {T : Type 0} → Counted T → List PacketFacts → List Verdict → Type 0
+CountedSaid {T} begun packets said = AreSaidSoFar T (orders_of begun.crew.workers) packets said
+
+pub first_verdicts : {T : Type 0} (way : LiveWay) (tables : SizedTables) (begun : Counted T) (packets : List PacketFacts) (verdicts : List Verdict) → AreBegun way tables begun
+    → AreAsAsked way.options.now.tables (ages_in way.options.now) tables → way.filter.now.times ≡ way.options.now.times → CountedSaid begun packets verdicts
+    → AreFirstVerdicts T way.options.now (policy_facts way.filter.now.policy.now) packets verdicts
+first_verdicts way tables begun packets verdicts is asked same said =
+    let options = way.options.now in
+    let ready = way.filter.now in
+    record {
+      workers = said.workers;
+      by = subst (IsOrderFor options (policy_facts ready.policy.now)) (sym (said.after.given ∙ is.given)) (record {
+        deal = ap (λ z. bucket_deal z options.workers) asked.size;
+        times = same;
+        ages = asked.four;
+        policy_is = refl;
+      });
+      rest = said.after.rest;
+      count = said.count;
+      one = λ one. (by_live_workers options ready tables (orders_of begun.crew.workers) options.workers packets verdicts is.given asked.four asked.size same options.few.0 (omega arith)
+          (said.one (ap (λ (o : Orders). o.deal.workers) is.given ∙ one))).0;
+    }
+
+-- rules that are ready are those of the policy
+pub ready_says : {text : List ℕ} {policy ready : Policy} → ready ≡ policy → IsPolicyText text (policy_facts policy) → IsPolicyText text (policy_facts ready)
+ready_says {text} same says = subst (λ (p : Policy). IsPolicyText text (policy_facts p)) (sym same) says
 
 -- the header has the fault, or couldn't be read
 pub early_fault : (text : List ℕ) (before after : Option (List ℕ)) (fault : Fault) (policy : PolicyFacts) → IsPolicyText text policy → IsHeadless before after fault
@@ -133,132 +142,123 @@ early_fault text before after fault policy says (gave, inr (inl failed)) = (gave
 early_fault text before after fault policy says (gave, inr (inr (cause, header, consumed, all, wrong, same))) =
     (gave, inr (inr (inr (inr (policy, says, cause, header, consumed, all, wrong, same)))))
 
--- ---- How packets are told
+-- the header couldn't be saved
+pub early_header : (text : List ℕ) (before left : Option (List ℕ)) (order : Order) (fault : Fault) → HasReadHeader before left order → fault ≡ Write → IsEarlyFault text before left fault
+early_header text before left order fault header is = ((header.header, header.consumed, let whole = header.whole in omega arith), inr (inr (inl is)))
 
-abbrev told_by : Options → List ℕ → PolicyFacts → ToldBy
-told_by options text policy = record { policy = policy; text = text; shown = options.shown }
+-- a policy and a header were read
+abbrev pub head_in : {text : List ℕ} {before left : Option (List ℕ)} (policy : PolicyFacts) → IsPolicyText text policy → (order : Order) → HasReadHeader before left order → HasHead text before
+head_in {left = left} policy says order header = record {
+  policy = policy;
+  says = says;
+  header = header.header;
+  order = order;
+  right = header.headed.right;
+  whole = header.whole;
+  left = left;
+  consumed = header.consumed;
+}
 
--- in this form
-in_form : (options : Options) (text : List ℕ) (policy : PolicyFacts) (form : Lines) (wording : Wording) → options.lines ≡ form
-    → TellsRun (AreFirstLines form) (AreLines form) (told_by options text policy) wording → TellsAsAsked options text policy wording
-in_form options text policy form wording is tells =
-    subst (λ (l : Lines). TellsRun (AreFirstLines l) (AreLines l) (told_by options text policy) wording) (sym is) tells
+-- the header and all behind it are a capture
+pub whole_capture : (before left after : Option (List ℕ)) (order : Order) (head : HasReadHeader before left order) (read rest : List ℕ) (packets : List RecordFacts) (truncated : Bool)
+    → Consumes left after read → IsAtEnd after → AreRecords order read packets rest → IsEnd order rest (end_of truncated)
+    → IfSome before (λ known. head.header ++ read ≡ known) × IsCaptureAt 0 (head.header ++ read) (packets_at 0 packets) (end_of truncated)
+whole_capture before left after order head read rest packets truncated consumed ended records end =
+    let bytes = head.header ++ read in
+    let header = header_appended order head.header read (record { right = head.headed.right; one = head.headed.one; none = head.headed.none }) in
+    let whole = head.whole in
+    let behind : drop 24 bytes ≡ read = behind_header_appended head.header read (omega arith) ∙ ap (λ b. b ++ read) (drop_all 24 head.header (omega arith)) in (
+      Consumes-all before after bytes [] bytes (Consumes-trans before left after head.header read head.consumed consumed) ended refl,
+      (packets, (order, rest, header.right, subst (λ (b : List ℕ). AreRecords order b packets rest) (sym behind) records, end), refl),
+    )
 
--- in plain lines
-pub plain_as_asked : (options : Options) (text : List ℕ) (policy : PolicyFacts) (shown : Shown) → options.lines ≡ Plain → shown ≡ options.shown
-    → TellsAsAsked options text policy (plain_wording shown)
-plain_as_asked options text policy shown form same =
-    let tells : TellsRun (AreFirstLines Plain) (AreLines Plain) (told_by options text policy) (plain_wording options.shown) = record {
-      lines = λ packets verdicts each. plain_lines options.shown 1 packets verdicts each;
-      report = λ packets verdicts truncated each. plain_report options.shown packets verdicts truncated each;
-    } in
-    subst (λ (s : Shown). TellsAsAsked options text policy (plain_wording s)) (sym same) (in_form options text policy Plain _ form tells)
+-- ---- All packets are one's own
 
--- in explained lines
-pub explained_as_asked : (options : Options) (text : List ℕ) (policy : PolicyFacts) (lines : ExplainedLines) → options.lines ≡ Explained → lines.shown ≡ options.shown
-    → policy_facts lines.policy.now ≡ policy → IsTableOf text lines.table → lines.names ≡ false → IsPolicyText text policy
-    → TellsAsAsked options text policy (explained_wording lines.shown lines.names (policy_facts lines.policy.now) lines.table.rules.items (map shown_of lines.table.texts.items))
-explained_as_asked options text policy lines form shown same table names says =
-    let rules = lines.table.rules.items in
-    let is = table policy says in
-    subst (λ (s : Shown). TellsAsAsked options text policy (explained_wording s lines.names (policy_facts lines.policy.now) rules (map shown_of lines.table.texts.items))) (sym shown)
-    (subst (λ (n : Bool). TellsAsAsked options text policy (explained_wording options.shown n (policy_facts lines.policy.now) rules (map shown_of lines.table.texts.items))) (sym names)
-    (subst (λ (p : PolicyFacts). TellsAsAsked options text policy (explained_wording options.shown false p rules (map shown_of lines.table.texts.items))) (sym same)
-    (subst (λ (t : List (List ℕ)). TellsAsAsked options text policy (explained_wording options.shown false policy rules t)) (sym is.1)
-    (in_form options text policy Explained _ form (explained_tells (told_by options text policy) rules is.0)))))
+all_own : (packets : List PacketFacts) → own_packets (own_among None) 1 packets ≡ packets
+all_own packets = all_in 1 packets packets refl
 
--- in objects
-pub objects_as_asked : (options : Options) (text : List ℕ) (policy : PolicyFacts) (lines : ObjectLines) → options.lines ≡ Json → lines.shown ≡ options.shown
-    → policy_facts lines.policy.now ≡ policy → IsTableOf text lines.table → IsPolicyText text policy
-    → TellsAsAsked options text policy (objects_wording lines.shown (policy_facts lines.policy.now) lines.table.rules.items (map shown_of lines.table.texts.items))
-objects_as_asked options text policy lines form shown same table says =
-    let rules = lines.table.rules.items in
-    let is = table policy says in
-    subst (λ (s : Shown). TellsAsAsked options text policy (objects_wording s (policy_facts lines.policy.now) rules (map shown_of lines.table.texts.items))) (sym shown)
-    (subst (λ (p : PolicyFacts). TellsAsAsked options text policy (objects_wording options.shown p rules (map shown_of lines.table.texts.items))) (sym same)
-    (subst (λ (t : List (List ℕ)). TellsAsAsked options text policy (objects_wording options.shown policy rules t)) (sym is.1)
-    (in_form options text policy Json _ form (objects_tell (told_by options text policy) rules is.0))))
+all_lines : (wording : Wording) (n : ℕ) (packets : List PacketFacts) (verdicts : List Verdict)
+    → lines_at wording (own_numbers (own_among None) n packets) (own_packets (own_among None) n packets) verdicts ≡ lines_in wording n packets verdicts
+all_lines wording n [] verdicts = refl
+all_lines wording n (p ∷ ps) [] = refl
+all_lines wording n (p ∷ ps) (v ∷ vs) = ap (λ rest. wording.line n p v ++ rest) (all_lines wording (n + 1) ps vs)
 
--- there is a way, in each form
-pub some_way : (options : Options) (text : List ℕ) (policy : PolicyFacts) (form : Lines) → options.lines ≡ form → IsPolicyText text policy
-    → (wording : Wording) × TellsAsAsked options text policy wording
-some_way options text policy Plain form says = (plain_wording options.shown, plain_as_asked options text policy options.shown form refl)
-some_way options text policy Explained form says =
-    let (wording, tells) = some_explained (told_by options text policy) says in (wording, in_form options text policy Explained wording form tells)
-some_way options text policy Json form says =
-    let (wording, tells) = some_objects (told_by options text policy) says in (wording, in_form options text policy Json wording form tells)
+all_first : {T : Type 0} {options : Options} {policy : PolicyFacts} (packets : List PacketFacts) (verdicts : List Verdict) → AreFirstOwn T options (own_among None) policy packets verdicts
+    → AreFirstVerdicts T options policy packets verdicts
+all_first {T} {options} {policy} packets verdicts are =
+    subst (λ (ps : List PacketFacts). AreFirstVerdicts T options policy ps verdicts) (all_own packets)
+    (subst (λ (vs : List Verdict). AreFirstVerdicts T options policy (own_packets (own_among None) 1 packets) vs)
+    (sym are.spread.mine ∙ all_in 1 packets verdicts are.each) are.first)
 
 -- all bytes were read, and this is the report on them
 pub live_report : (options : Options) (text : List ℕ) (before left after : Option (List ℕ)) (policy : PolicyFacts) (order : Order) (wording : Wording) (totals : Totals) (report : List ℕ)
     → IsPolicyText text policy → TellsAsAsked options text policy wording → HasReadHeader before left order
-    → IsReportBehind options text wording policy order left after totals report → IsLiveReport options text before totals report
+    → IsOwnReportBehind options text wording policy (own_among None) order left after totals report → IsLiveReport options text before totals report
 live_report options text before left after policy order wording totals report says tells head is =
-    let judged = is.judged in
-    let bytes = head.header ++ judged.read in
-    let header = header_appended order head.header judged.read (record { right = head.headed.right; one = head.headed.one; none = head.headed.none }) in
-    let whole = head.whole in
-    let behind : drop 24 bytes ≡ judged.read =
-    behind_header_appended head.header judged.read (omega arith) ∙ ap (λ b. b ++ judged.read) (drop_all 24 head.header (omega arith)) in
-    let size = length-map judged.packets (packet_at 0) in
-    let lines = report_in wording (packets_at 0 judged.packets) judged.verdicts judged.truncated in
+    let packets = packets_at 0 is.packets in
+    let verdicts = is.is.verdicts in
+    let truncated = is.truncated in
+    let (known, records) = whole_capture before left after order head is.read is.rest is.packets truncated is.consumed is.ended is.records is.end in
+    let told = subst (λ (ps : List PacketFacts). IsToldBehind options text policy ps verdicts is.is.behind) (all_own packets) is.is.told in
+    let counted : totals ≡ totals_of verdicts (told_alone (length packets) truncated) =
+    is.is.counted ∙ ap (λ (ps : List PacketFacts). totals_of verdicts (told_alone (length ps) truncated)) (all_own packets) in
+    let lines = lines_in wording 1 packets verdicts in
     record {
       policy = policy;
       says = says;
-      bytes = bytes;
-      known = Consumes-all before after bytes [] bytes (Consumes-trans before left after head.header judged.read head.consumed judged.consumed) judged.ended refl;
-      packets = packets_at 0 judged.packets;
-      truncated = judged.truncated;
-      records = (
-        judged.packets,
-        (order, judged.rest, header.right, subst (λ (b : List ℕ). AreRecords order b judged.packets judged.rest) (sym behind) judged.records, judged.end),
-        refl,
-      );
-      verdicts = judged.verdicts;
-      by_live = is.told.by_live;
-      stored = is.told.stored;
-      kept = is.told.kept;
+      bytes = head.header ++ is.read;
+      known = known;
+      packets = packets;
+      truncated = truncated;
+      records = records;
+      verdicts = verdicts;
+      by_live = told.by_live;
+      stored = told.stored;
+      kept = told.kept;
       told = record {
-        lines = lines;
-        are = tells.report (packets_at 0 judged.packets) judged.verdicts judged.truncated (judged.count ∙ sym size);
-        hits = is.told.hits;
-        told = is.told.told (told_alone (length (packets_at 0 judged.packets)) judged.truncated);
-        all = is.all ∙ ap (λ (more : List ℕ). lines ++ more) is.told.all;
+        lines = report_in wording packets verdicts truncated;
+        are = tells.report packets verdicts truncated (is.count ∙ ap length (all_own packets));
+        hits = told.hits;
+        told = told.told (told_alone (length packets) truncated);
+        all = is.is.all ∙ ap (λ (l : List ℕ). l ++ (wording.end totals ++ is.is.behind)) (all_lines wording 1 packets verdicts)
+            ∙ ap (λ (t : Totals). lines ++ (wording.end t ++ is.is.behind)) counted
+            ∙ sym (append_assoc lines (wording.end (totals_of verdicts (told_alone (length packets) truncated))) is.is.behind)
+            ∙ ap (λ (more : List ℕ). report_in wording packets verdicts truncated ++ more) told.all;
       };
-      counted = subst (λ n. totals ≡ totals_of judged.verdicts (told_alone n judged.truncated)) (sym size) judged.counted;
+      counted = counted;
     }
 
 -- the report was written and packets saved, or why they weren't
-module _ {S : Type 0} (T : Type 0) (sink : S → Option (List ℕ)) (failures : S → ℕ) (options : Options) (text : List ℕ) (before left after old new : Option (List ℕ)) (first : Saves S)
-    (mid last : LiveSaves S) (head : HasHead text before) (header : HasReadHeader before left head.order) (got : HaveGot sink header.header first mid.files) where
-  pub live_ends : (wording : Wording) (result : Result Totals Fault) → TellsAsAsked options text head.policy wording → head.left ≡ left → head.header ≡ header.header
-      → TellsBehind T options text (manner_of wording (Keeps sink failures)) head.policy head.order left after (outputs old mid) (outputs new last) result
+module _ {S : Type 0} (T : Type 0) (sink : S → Option (List ℕ)) (failures : S → ℕ) (options : Options) (text : List ℕ) (before left after old new : Option (List ℕ)) (policy : PolicyFacts)
+    (says : IsPolicyText text policy) (order : Order) (header : HasReadHeader before left order) (first : Saves S) (mid last : LiveSaves S) (got : HaveGot sink header.header first mid.files) where
+  pub live_ends : (wording : Wording) (result : Result Totals Fault) → TellsAsAsked options text policy wording
+      → TellsOwn T options text (manner_of wording (Keeps sink failures)) policy (own_among None) order left after (outputs old mid) (outputs new last) result
       → MatchResult result (HasRunLive sink options text before (outputs old first) (outputs new last.files))
       (IsLiveRunFault T sink options text before after (outputs old first) (outputs new last.files))
   unfolding live_report
-  live_ends wording (Ok totals) tells same kept told = record {
+  live_ends wording (Ok totals) tells told = record {
     report = told.report;
-    is = live_report options text before left after head.policy head.order wording totals told.report head.says tells header told.is;
+    is = live_report options text before left after policy order wording totals told.report says tells header told.is;
     written = told.written;
-    saved = have_saved sink failures head.order header.header told.is.judged.read told.whole told.is.judged.rest (end_of told.is.judged.truncated) told.is.judged.verdicts first
-        mid.files last.files header.headed header.whole told.spelt told.is.judged.end got told.saved;
+    saved = subst (λ (vs : List Verdict). HaveSaved sink (header.header ++ told.is.read) vs first last.files)
+        (sym (all_in 1 (packets_at 0 told.is.packets) told.verdicts (told.each ∙ sym (length-map told.is.packets (packet_at 0)))) ∙ told.spread.mine)
+        (have_saved sink failures order header.header told.is.read told.whole told.is.rest (end_of told.is.truncated) told.verdicts first mid.files last.files header.headed header.whole
+        told.spelt told.is.end got told.saved);
   }
-  live_ends wording (Err fault) tells same kept (inl why) = inr (inl (
-    head,
+  live_ends wording (Err fault) tells (inl why) = inr (inl (
+    head_in policy says order header,
     wording,
     tells,
-    subst (λ l. IsLiveFault (AreFirstVerdicts T options) (manner_of wording (SavesBehind sink head.header)) head.policy head.order l after (outputs old first) (outputs new last.files) fault)
-        (sym same)
-        (fault_as (AreFirstVerdicts T options) (AreFirstVerdicts T options) wording (Keeps sink failures) (SavesBehind sink head.header) head.policy head.policy (λ packets verdicts by. by)
-        head.order left after old new mid last first last.files
-        (λ whole verdicts saved. subst (λ (h : List ℕ). HaveSaved sink (h ++ whole) verdicts first last.files) (sym kept)
-        (first_saved sink failures head.order header.header whole verdicts first mid.files last.files header.headed header.whole got saved)) fault why),
+    fault_as (AreFirstOwn T options (own_among None)) (AreFirstVerdicts T options) wording (Keeps sink failures) (SavesBehind sink header.header) policy policy all_first order left after old new
+        mid last first last.files
+        (λ whole verdicts saved. first_saved sink failures order header.header whole verdicts first mid.files last.files header.headed header.whole got saved) fault why,
   ))
-  live_ends wording (Err fault) tells same kept (inr cut) = inr (inr (record {
+  live_ends wording (Err fault) tells (inr cut) = inr (inr (record {
     failed = cut.failed;
-    ended = cut.is.judged.ended;
+    ended = cut.is.ended;
     totals = cut.totals;
     report = cut.report;
-    is = live_report options text before left after head.policy head.order wording cut.totals cut.report head.says tells header cut.is;
+    is = live_report options text before left after policy order wording cut.totals cut.report says tells header cut.is;
     front = cut.front;
   }))
 
@@ -268,10 +268,3 @@ pub write_since : (written writing saved saving first second : ℕ) (result : Re
     → MatchResult result (λ totals. (writing ≡ written) × (saving ≡ saved)) (HaveFailed written writing saved saving)
 write_since written writing saved saving first second (Ok totals) same kept (one, two) = (one ∙ same, two ∙ kept)
 write_since written writing saved saving first second (Err fault) same kept failed = failed_since written saved first second writing saving fault same kept failed
-
--- the header couldn't be saved
-pub header_fault : {S : Type 0} (T : Type 0) (sink : S → Option (List ℕ)) (options : Options) (text : List ℕ) (before left old : Option (List ℕ)) (first last : Saves S) (order : Order)
-    (header : HasReadHeader before left order) (fault : Fault) → fault ≡ Write
-    → IsLiveRunFault T sink options text before left (outputs old first) (outputs old last) fault
-header_fault T sink options text before left old first last order header fault is =
-    inl (((header.header, header.consumed, let whole = header.whole in omega arith), inr (inr (inl is))), refl, λ other. absurd (other is))

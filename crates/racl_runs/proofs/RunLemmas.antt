@@ -4,7 +4,7 @@ use Rattle.acl_policy.specs.Policies.{IsPolicyFault, IsPolicyText, PolicyFacts}
 use Rattle.acl_policy.specs.declared.policy.PolicyFault.{PolicyFault}
 use Rattle.acl_policy.specs.declared.policy.PolicyFault.TheVariants as policy
 use Rattle.racl_io.specs.declared.fault.Fault.{Fault}
-use Rattle.racl_io.specs.declared.fault.Fault.TheVariants.{Memory, Read, TooLarge, NoCapture, NotUtf8, BadLine, TooMany, Twice, Hex, Short, Magic, Version, LinkType, LongRecord, Write}
+use Rattle.racl_io.specs.declared.fault.Fault.TheVariants.{Memory, Read, NoCapture, Write}
 use Rattle.racl_io.specs.declared.marker_line.Form.{Form}
 use Rattle.racl_io.specs.Faults.{IsSystemFault, IsFaultOfBytes, IsFaultOfCaptures, IsFaultOfContent, IsFaultOfOne, IsFaultOfParts, IsInputFault, capture_fault, policy_fault}
 use Rattle.racl_io.specs.declared.marker_line.Form.TheVariants.{Binary, Hexadecimal, Numbered}
@@ -68,18 +68,7 @@ pub device_or : (fault : Fault) (P : Type 0) → (fault ≢ Memory → P) → Is
 device_or Memory P other = inl tt
 device_or Read P other = inl tt
 device_or Write P other = inl tt
-device_or TooLarge P other = inr (other (λ same. cc))
-device_or NoCapture P other = inr (other (λ same. cc))
-device_or NotUtf8 P other = inr (other (λ same. cc))
-device_or (BadLine n) P other = inr (other (λ same. cc))
-device_or (TooMany n) P other = inr (other (λ same. cc))
-device_or (Twice n) P other = inr (other (λ same. cc))
-device_or Hex P other = inr (other (λ same. cc))
-device_or Short P other = inr (other (λ same. cc))
-device_or Magic P other = inr (other (λ same. cc))
-device_or Version P other = inr (other (λ same. cc))
-device_or LinkType P other = inr (other (λ same. cc))
-device_or (LongRecord n) P other = inr (other (λ same. cc))
+device_or fault P other = inr (other (λ same. cc))
 
 -- ---- no fault of an input is a failure of a device
 
@@ -90,17 +79,11 @@ IsOfInput _ = Unit {0}
 
 policy_of_input : (cause : PolicyFault) → IsOfInput (policy_fault cause)
 policy_of_input policy.Memory = tt
-policy_of_input policy.NotUtf8 = tt
-policy_of_input (policy.BadLine number) = tt
-policy_of_input (policy.TooMany number) = tt
+policy_of_input cause = tt
 
 capture_of_input : (cause : CaptureFault) → IsOfInput (capture_fault cause)
 capture_of_input capture.Short = tt
-capture_of_input capture.Magic = tt
-capture_of_input capture.Version = tt
-capture_of_input capture.LinkType = tt
-capture_of_input (capture.LongRecord number) = tt
-capture_of_input capture.Memory = tt
+capture_of_input cause = tt
 
 one_of_input : (form : Form) (content : List ℕ) (fault : Fault) → IsFaultOfOne form content fault → IsOfInput fault
 one_of_input form content fault (inl (same, none)) = subst IsOfInput (sym same) tt
@@ -131,20 +114,7 @@ no_device options bytes fault answers = (
 
 pub steady : (X : Type 0) (n : ℕ) (fault : Fault) → (fault ≡ Read → ⊥) → failures_after_reads {X = X} n (Err fault) ≡ n
 steady X n Read other = absurd (other refl)
-steady X n Memory other = refl
-steady X n Write other = refl
-steady X n TooLarge other = refl
-steady X n NoCapture other = refl
-steady X n NotUtf8 other = refl
-steady X n (BadLine number) other = refl
-steady X n (TooMany number) other = refl
-steady X n (Twice number) other = refl
-steady X n Hex other = refl
-steady X n Short other = refl
-steady X n Magic other = refl
-steady X n Version other = refl
-steady X n LinkType other = refl
-steady X n (LongRecord number) other = refl
+steady X n fault other = refl
 
 -- a source from which nothing is read answers what the bytes do
 pub within_unread : {R X : Type 0} (left : R → Option (List ℕ)) (failures : R → ℕ) (most : ℕ) (source : R) (options : Options) (bytes : List ℕ)

@@ -1,15 +1,10 @@
 -- A run over the packets of one shard of a capture.
-use Rattle.std.proofs.KnownBytes.{Consumes-all, Consumes-trans}
-use Rattle.std.proofs.Common.{◌≡◌, ◌∙◌, ◌++◌, ℕ, List, [], Option, Result, Ok, Err, MatchResult, ap, arith, drop, inl, inr, refl, subst, sym}
-use Rattle.std.proofs.lemmas.List.{drop_all}
-use Rattle.packet_view.specs.Captures.{AreRecords, PacketFacts, end_of, packets_at}
+use Rattle.std.proofs.Common.{◌∙◌, ◌≡◌, ◌++◌, ℕ, List, [], Option, Result, Ok, Err, MatchResult, ap, inl, inr, subst, sym}
+use Rattle.packet_view.specs.Captures.{end_of, packets_at}
 use Rattle.packet_view.specs.declared.capture.Order.{Order}
-use Rattle.packet_view.proofs.FrontLemmas.{behind_header_appended, header_appended}
-use Rattle.acl_policy.specs.Policies.{IsPolicyText, PolicyFacts, policy_facts}
-use Rattle.flow_filter.specs.declared.interface_filters.InterfaceFilters.{InterfaceFilters}
+use Rattle.acl_policy.specs.Policies.{IsPolicyText, PolicyFacts}
 use Rattle.session_state.specs.declared.verdict.Verdict.{Verdict}
 use Rattle.racl_io.specs.declared.fault.Fault.{Fault}
-use Rattle.racl_io.specs.declared.fault.Fault.TheVariants.{Write}
 use Rattle.racl_io.specs.declared.totals_and_truncation.Totals.{Totals}
 use Rattle.racl_io.specs.Tellings.{Wording}
 use Rattle.racl_options.specs.ShardWords.{shard_facts}
@@ -18,45 +13,25 @@ use Rattle.racl_options.specs.declared.settings.ShardAsked.{ShardAsked}
 use Rattle.capture_stream.specs.Savings.{manner_of, outputs}
 use Rattle.capture_stream.proofs.TellLemmas.{fault_as}
 use Rattle.racl_report.specs.declared.saved_packets.Saves.{Saves}
-use Rattle.capture_shards.specs.Shards.{IsOwnOf, Own, own_packets}
+use Rattle.capture_shards.specs.Shards.{IsOwnOf, Own}
 use Rattle.capture_shards.specs.SharedSaves.{HaveSharedSaves}
-use Rattle.capture_shards.specs.Sharing.{AreShared, shard_wording}
+use Rattle.capture_shards.specs.Sharing.{shard_wording}
 use Rattle.capture_shards.specs.declared.shard.Shard.{Shard}
-use Rattle.capture_shards.specs.declared.shard_judge.ShardJudge.{ShardJudge}
 use Rattle.capture_shards.specs.declared.shard_saver.ShardSaver.{ShardSaver}
 use Rattle.capture_shards.specs.inner.OwnTests.{own_of}
 use Rattle.capture_shards.proofs.OwnTestLemmas.{own_is}
-use Rattle.racl_runs.specs.Crews.{AreSaidSoFar, cuts_four, orders_for, orders_of, size_of}
-use Rattle.racl_runs.specs.LiveRuns.{HasHead, TellsAsAsked, ages_in}
+use Rattle.racl_runs.specs.LiveRuns.{TellsAsAsked}
 use Rattle.racl_runs.specs.Runs.{layout_for}
 use Rattle.racl_runs.specs.LiveSaves.{MayFail, failures_in}
-use Rattle.racl_runs.specs.ShardRuns.{AreFirstOwn, AreOwn, HasFailedOnce, HasRunShard, IsOwnFault, IsOwnReportBehind, IsShardFault, IsShardReport, TellsOwn}
+use Rattle.racl_runs.specs.ShardRuns.{AreFirstOwn, AreOwn, HasFailedOnce, HasRunShard, IsShardFault, IsShardReport}
 use Rattle.racl_runs.specs.ShardSaves.{SavesOwn}
-use Rattle.racl_runs.specs.declared.counted_judging.Counted.{Counted}
 use Rattle.racl_runs.specs.declared.live_saves.LiveSaves.{LiveSaves}
-use Rattle.racl_runs.specs.declared.sized_tables_and_workers.SizedTables.{SizedTables}
 use Rattle.racl_runs.specs.inner.Heads.{HasReadHeader}
 use Rattle.racl_runs.specs.inner.Kept.{HaveGot}
-use Rattle.racl_runs.specs.inner.OwnTotals.{IsShardOver}
-use Rattle.racl_runs.proofs.LiveLemmas.{first_verdicts, write_since}
+use Rattle.racl_runs.specs.inner.OwnRuns.{IsOwnReportBehind, IsShardOver, TellsOwn}
+use Rattle.racl_runs.proofs.LiveLemmas.{head_in, whole_capture, write_since}
 use Rattle.racl_runs.proofs.LiveSaveLemmas.{Keeps, none_kept}
 use Rattle.racl_runs.proofs.ShardSaveLemmas.{first_own_saved, own_saved}
-
--- what workers who count said of the first packets
-abbrev CountedSaid : {T : Type 0} → Counted T → List PacketFacts → List Verdict → Type 0
-CountedSaid {T} begun packets said = AreSaidSoFar T (orders_of begun.crew.workers) packets said
-
-pub shared_first : {T : Type 0} (options : Options) (ready : InterfaceFilters) (tables : SizedTables) (begun : ShardJudge (Counted T)) (shard : Shard) (packets : List PacketFacts)
-    (verdicts : List Verdict) → begun.shard ≡ shard → orders_of begun.inner.crew.workers ≡ orders_for tables ready options.workers (cuts_four tables) → cuts_four tables ≡ ages_in options
-    → size_of tables ≡ options.tables → ready.times ≡ options.times → AreShared CountedSaid begun packets verdicts
-    → AreFirstOwn T options (own_of shard) (policy_facts ready.policy.now) packets verdicts
-shared_first {T} options ready tables begun shard packets verdicts at given cut sized same shared =
-    subst (λ (s : Shard). AreFirstOwn T options (own_of s) (policy_facts ready.policy.now) packets verdicts) at
-    (record {
-      said = shared.said;
-      first = first_verdicts options ready tables (orders_of begun.inner.crew.workers) (own_packets (own_of begun.shard) 1 packets) shared.said given cut sized same options.few.0 shared.judged;
-      spread = shared.spread (λ other ps said are. are.count);
-    })
 
 -- the shard's packets are those that it is asked for
 pub own_asked : (options : Options) (asked : ShardAsked) (shard : Shard) → IsShardOver options.tables asked shard → AreOwn options (shard_facts asked) (own_of shard)
@@ -69,23 +44,15 @@ pub shard_report : (options : Options) (asked : ShardAsked) (text : List ℕ) (b
     (totals : Totals) (report : List ℕ) → IsPolicyText text policy → TellsAsAsked options text policy wording → AreOwn options (shard_facts asked) own → HasReadHeader before left order
     → IsOwnReportBehind options text wording policy own order left after totals report → IsShardReport options (shard_facts asked) text before totals report
 shard_report options asked text before left after policy order wording own totals report says tells mine head is =
-    let bytes = head.header ++ is.read in
-    let header = header_appended order head.header is.read (record { right = head.headed.right; one = head.headed.one; none = head.headed.none }) in
-    let whole = head.whole in
-    let behind : drop 24 bytes ≡ is.read =
-    behind_header_appended head.header is.read (omega arith) ∙ ap (λ b. b ++ is.read) (drop_all 24 head.header (omega arith)) in
+    let (known, records) = whole_capture before left after order head is.read is.rest is.packets is.truncated is.consumed is.ended is.records is.end in
     record {
       policy = policy;
       says = says;
-      bytes = bytes;
-      known = Consumes-all before after bytes [] bytes (Consumes-trans before left after head.header is.read head.consumed is.consumed) is.ended refl;
+      bytes = head.header ++ is.read;
+      known = known;
       packets = packets_at 0 is.packets;
       truncated = is.truncated;
-      records = (
-        is.packets,
-        (order, is.rest, header.right, subst (λ (b : List ℕ). AreRecords order b is.packets is.rest) (sym behind) is.records, is.end),
-        refl,
-      );
+      records = records;
       own = own;
       mine = mine;
       wording = wording;
@@ -95,7 +62,7 @@ shard_report options asked text before left after policy order wording own total
 
 -- the report was written and packets saved, or why they weren't
 module _ {S : Type 0} (T : Type 0) (sink : S → Option (List ℕ)) (failures : S → ℕ) (options : Options) (asked : ShardAsked) (text : List ℕ) (before left after old new : Option (List ℕ))
-    (first : Saves S) (mid last : ShardSaver (LiveSaves S)) (head : HasHead text before) (header : HasReadHeader before left head.order)
+    (policy : PolicyFacts) (says : IsPolicyText text policy) (order : Order) (header : HasReadHeader before left order) (first : Saves S) (mid last : ShardSaver (LiveSaves S))
     (got : HaveGot sink header.header first mid.inner.files) (mine : AreOwn options (shard_facts asked) (own_of mid.shard)) where
   abbrev own : Own
   own = own_of mid.shard
@@ -103,50 +70,48 @@ module _ {S : Type 0} (T : Type 0) (sink : S → Option (List ℕ)) (failures : 
   abbrev gave : ShardSaver (LiveSaves S) → Order → List ℕ → List Verdict → ShardSaver (LiveSaves S) → Type 0
   gave = HaveSharedSaves (Keeps sink failures)
 
-  shard_ends : (wording : Wording) (result : Result Totals Fault) → TellsAsAsked options text head.policy wording → head.left ≡ left → head.header ≡ header.header
-      → TellsOwn T options text (manner_of wording gave) head.policy own head.order left after (outputs old mid) (outputs new last) result
+  shard_ends : (wording : Wording) (result : Result Totals Fault) → TellsAsAsked options text policy wording
+      → TellsOwn T options text (manner_of wording gave) policy own order left after (outputs old mid) (outputs new last) result
       → MatchResult result (HasRunShard sink options (shard_facts asked) text before (outputs old first) (outputs new last.inner.files))
       (IsShardFault T sink options (shard_facts asked) text before after (outputs old first) (outputs new last.inner.files))
   unfolding shard_report
-  shard_ends wording (Ok totals) tells same kept told = record {
+  shard_ends wording (Ok totals) tells told = record {
     report = told.report;
-    is = shard_report options asked text before left after head.policy head.order wording own totals told.report head.says tells mine header told.is;
+    is = shard_report options asked text before left after policy order wording own totals told.report says tells mine header told.is;
     written = told.written;
     records = told.is.packets;
-    saved = own_saved sink failures head.order header.header told.is.read told.whole told.is.rest (end_of told.is.truncated) told.is.packets told.verdicts told.is.is.verdicts
+    saved = own_saved sink failures order header.header told.is.read told.whole told.is.rest (end_of told.is.truncated) told.is.packets told.verdicts told.is.is.verdicts
         first mid last header.headed header.whole told.spelt told.is.records told.is.end told.spread.mine got told.saved;
   }
-  shard_ends wording (Err fault) tells same kept (inl why) = inr (inl (
-    head,
+  shard_ends wording (Err fault) tells (inl why) = inr (inl (
+    head_in policy says order header,
     wording,
     tells,
     own,
     mine,
-    subst (λ l. IsOwnFault T options (manner_of wording (SavesOwn sink own head.header)) head.policy own head.order l after (outputs old first) (outputs new last.inner.files) fault)
-        (sym same)
-        (fault_as (AreFirstOwn T options own) (AreFirstOwn T options own) (shard_wording own wording) gave (SavesOwn sink own head.header) head.policy head.policy
-        (λ packets verdicts by. by) head.order left after old new mid last first last.inner.files
-        (λ whole verdicts saved. subst (λ (h : List ℕ). SavesOwn sink own h first head.order whole verdicts last.inner.files) (sym kept)
-        (first_own_saved sink failures head.order header.header whole verdicts first mid last header.headed header.whole got saved)) fault why),
+    fault_as (AreFirstOwn T options own) (AreFirstOwn T options own) (shard_wording own wording) gave (SavesOwn sink own header.header) policy policy (λ packets verdicts by. by) order
+        left after old new mid last first last.inner.files
+        (λ whole verdicts saved. first_own_saved sink failures order header.header whole verdicts first mid last header.headed header.whole got saved) fault why,
   ))
-  shard_ends wording (Err fault) tells same kept (inr cut) = inr (inr (record {
+  shard_ends wording (Err fault) tells (inr cut) = inr (inr (record {
     failed = cut.failed;
     ended = cut.is.ended;
     totals = cut.totals;
     report = cut.report;
-    is = shard_report options asked text before left after head.policy head.order wording own cut.totals cut.report head.says tells mine header cut.is;
+    is = shard_report options asked text before left after policy order wording own cut.totals cut.report says tells mine header cut.is;
     front = cut.front;
   }))
 
   -- and so where what saves them was given the files, and gave them back
-  pub shard_ends_with : (final : LiveSaves S) (wording : Wording) (result : Result Totals Fault) → final ≡ last.inner → TellsAsAsked options text head.policy wording
-      → head.left ≡ left → head.header ≡ header.header → TellsOwn T options text (manner_of wording gave) head.policy own head.order left after (outputs old mid) (outputs new last) result
+  pub shard_ends_with : (shard : Shard) (final : LiveSaves S) (wording : Wording) (result : Result Totals Fault) → mid.shard ≡ shard → final ≡ last.inner
+      → TellsAsAsked options text policy wording → TellsOwn T options text (manner_of wording gave) policy (own_of shard) order left after (outputs old mid) (outputs new last) result
       → MatchResult result (HasRunShard sink options (shard_facts asked) text before (outputs old first) (outputs new final.files))
       (IsShardFault T sink options (shard_facts asked) text before after (outputs old first) (outputs new final.files))
-  shard_ends_with final wording result back tells same kept told =
+  shard_ends_with shard final wording result at back tells told =
       subst (λ (f : LiveSaves S). MatchResult result (HasRunShard sink options (shard_facts asked) text before (outputs old first) (outputs new f.files))
       (IsShardFault T sink options (shard_facts asked) text before after (outputs old first) (outputs new f.files))) (sym back)
-      (shard_ends wording result tells same kept told)
+      (shard_ends wording result tells
+      (subst (λ (s : Shard). TellsOwn T options text (manner_of wording gave) policy (own_of s) order left after (outputs old mid) (outputs new last) result) (sym at) told))
 
 -- which devices failed since files were given and given back
 pub failed_with : {S : Type 0} (failures : S → ℕ) (written writing first : ℕ) (saves begun mid last final : LiveSaves S) (result : Result Totals Fault) → first ≡ written
@@ -157,13 +122,6 @@ failed_with {S} failures written writing first saves begun mid last final result
     subst (λ (f : LiveSaves S). HasFailedOnce result written writing (failures_in failures saves.files) (failures_in failures f.files)) (sym back)
     (write_since written writing (failures_in failures saves.files) (failures_in failures last.files) first (failures_in failures mid.files) result same
     (ap (λ (f : LiveSaves S). failures_in failures f.files) given ∙ kept) failed)
-
--- the header couldn't be saved
-pub shard_header_fault : {S : Type 0} (T : Type 0) (sink : S → Option (List ℕ)) (options : Options) (asked : ShardAsked) (text : List ℕ) (before left old : Option (List ℕ)) (first last : Saves S)
-    (order : Order) (header : HasReadHeader before left order) (fault : Fault) → fault ≡ Write
-    → IsShardFault T sink options (shard_facts asked) text before left (outputs old first) (outputs old last) fault
-shard_header_fault T sink options asked text before left old first last order header fault is =
-    inl (((header.header, header.consumed, let whole = header.whole in omega arith), inr (inr (inl is))), refl, λ other. absurd (other is))
 
 -- files that what saves packets was given had the header
 pub given_files : {S : Type 0} (sink : S → Option (List ℕ)) (text header : List ℕ) (first : Saves S) (begun mid : LiveSaves S) → text ≡ header → mid ≡ begun

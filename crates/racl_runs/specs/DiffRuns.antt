@@ -17,11 +17,11 @@ use Rattle.capture_stream.specs.Lives.{with_read}
 use Rattle.compared_verdicts.specs.Changes.{PairFacts, changes_from}
 use Rattle.compared_verdicts.specs.ChangeReports.{AreLines, end_of_report, totals_of}
 use Rattle.compared_verdicts.specs.Comparing.{BothVerdicts, HasToldAll, IsComparingFault}
-use Rattle.compared_verdicts.specs.declared.totals.ChangeTotals.{ChangeTotals}
+use Rattle.compared_verdicts.specs.declared.change_totals.ChangeTotals.{ChangeTotals}
 use Rattle.racl_runs.specs.LiveRuns.{ByOneWorker}
-use Rattle.racl_runs.specs.declared.diff_input.DiffFault.{DiffFault}
-use Rattle.racl_runs.specs.declared.diff_input.DiffFault.TheVariants.{Before, After, Run}
-use Rattle.racl_runs.specs.declared.diff_input.PolicyTexts.{PolicyTexts}
+use Rattle.racl_runs.specs.declared.diff_run.DiffFault.{DiffFault}
+use Rattle.racl_runs.specs.declared.diff_run.DiffFault.TheVariants.{Before, After, Run}
+use Rattle.racl_runs.specs.declared.diff_run.PolicyTexts.{PolicyTexts}
 use Rattle.racl_runs.specs.declared.diff_run.DiffHead.{DiffHead}
 
 -- the texts say these policies

@@ -19,7 +19,7 @@ use Rattle.compared_verdicts.specs.Meeting.{are_met, told_of, unmet_wording}
 use Rattle.compared_verdicts.specs.declared.expectation.Expectation.{Expectation}
 use Rattle.racl_runs.specs.LiveRuns.{HasHead, IsEarlyFault}
 use Rattle.racl_runs.specs.Runs.{AgeInTime, ByOneThread, ByWorkers}
-use Rattle.racl_runs.specs.declared.expecting_run_parts.Compared.{Compared}
+use Rattle.racl_runs.specs.declared.expecting_run.Compared.{Compared}
 
 -- One worker gave these verdicts, who ages where that is asked for. They are those of the one-thread filter, which forgets
 -- nothing, where none of them says no-pages, and ageing is in time.

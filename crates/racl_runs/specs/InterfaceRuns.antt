@@ -13,7 +13,7 @@ use Rattle.racl_io.specs.Reports.{totals_of}
 use Rattle.racl_views.specs.declared.capture_bytes.CaptureBytes.{CaptureBytes}
 use Rattle.racl_report.specs.InterfaceInputs.{IsFaultApart, IsReadApart, placeless}
 use Rattle.racl_report.specs.RunReports.{IsReportOn, JudgedFacts, Outcome}
-use Rattle.racl_report.specs.declared.placed_fault.PlacedFault.{PlacedFault}
+use Rattle.racl_report.specs.declared.interface_captures.PlacedFault.{PlacedFault}
 use Rattle.racl_runs.specs.Reads.{IsReached}
 use Rattle.racl_runs.specs.Runs.{AgeInTime, ByOneThread}
 

@@ -20,7 +20,7 @@ use Rattle.racl_report.specs.CapturesEnds.{captures_end}
 use Rattle.capture_stream.specs.Arrivals.{AreAllGiven, Gives, IsWhole, Part}
 use Rattle.capture_stream.specs.ComingCaptures.{IsFaultOfComing}
 use Rattle.capture_stream.specs.Turns.{AreTurns, Turn, cuts_of, packets_of, parts_of}
-use Rattle.capture_stream.specs.declared.arrival.FaultAt.{FaultAt}
+use Rattle.capture_stream.specs.declared.arrivals.FaultAt.{FaultAt}
 use Rattle.racl_runs.specs.LiveRuns.{AreFirstVerdicts, IsToldBehind}
 
 -- what is told of a run's packets, in the form that is asked for, where each line names its packet's interface

@@ -1,7 +1,7 @@
 -- A run over a capture that is told while it comes: its policy is text of its own, and sessions that have ended are removed.
-use Rattle.std.specs.Prelude.{◌≡◌, ◌≢◌, ◌<◌, ◌⊎◌, ◌||◌, ◌++◌, ℕ, Bool, true, List, ◌∷◌, [], None, Option, IfSome, MatchResult, Result, length}
+use Rattle.std.specs.Prelude.{◌≡◌, ◌≢◌, ◌<◌, ◌⊎◌, ◌||◌, ◌++◌, ℕ, Bool, true, List, ◌∷◌, [], None, Option, IfSome, length}
 use Rattle.std.specs.Io.KnownBytes.{Appends, Consumes, IsAtEnd}
-use Rattle.packet_view.specs.Captures.{HasFileHeader, IsCaptureAt, IsHeaderFault, PacketFacts, end_of, packets_at}
+use Rattle.packet_view.specs.Captures.{HasFileHeader, IsCaptureAt, IsHeaderFault, PacketFacts, end_of}
 use Rattle.packet_view.specs.declared.capture.CaptureFault.{CaptureFault}
 use Rattle.packet_view.specs.declared.capture.Order.{Order}
 use Rattle.acl_policy.specs.Policies.{IsPolicyFault, IsPolicyText, PolicyFacts}
@@ -19,14 +19,14 @@ use Rattle.racl_io.specs.Reports.{totals_of}
 use Rattle.racl_io.specs.ShownReports.{lines_shown}
 use Rattle.racl_io.specs.declared.totals_and_truncation.Captured.{Captured}
 use Rattle.racl_io.specs.Sinks.{GotFront}
-use Rattle.racl_io.specs.Tellings.{Wording, report_in}
+use Rattle.racl_io.specs.Tellings.{Wording}
 use Rattle.racl_io.specs.Transfers.{GaveAtMost}
 use Rattle.racl_views.specs.Hits.{AreHits}
 use Rattle.racl_views.specs.Stored.{StoredFacts}
 use Rattle.racl_views.specs.PartTellings.{AreExplainedLines, AreObjectLines, TellsRun}
 use Rattle.racl_views.specs.RunEntries.{RunFacts}
-use Rattle.capture_stream.specs.Lives.{HasJudgedAll, IsLiveFault}
-use Rattle.capture_stream.specs.Savings.{Manner, Outputs}
+use Rattle.capture_stream.specs.Lives.{IsLiveFault}
+use Rattle.capture_stream.specs.Savings.{Outputs}
 use Rattle.racl_runs.specs.Crews.{AreRestingWith, Orders, orders_of}
 use Rattle.racl_runs.specs.declared.sized_tables_and_workers.SizedWorkers.{SizedWorkers}
 use Rattle.racl_runs.specs.LiveSaves.{HaveSaved}
@@ -99,41 +99,6 @@ pub record IsToldBehind (options : Options) (text : List ℕ) (policy : PolicyFa
   pub told : (captures : List Captured)
       → AreHits options.hits (view_behind options.lines) options.times (told_facts policy text packets (record { verdicts = verdicts; captures = captures }) options.shown) stored hits
   pub all : behind ≡ hits ++ sessions_behind options stored
-
--- all of a capture behind its header was judged, and this is the report on it
-pub record IsReportBehind (options : Options) (text : List ℕ) (wording : Wording) (policy : PolicyFacts) (order : Order) (before after : Option (List ℕ))
-    (totals : Totals) (report : List ℕ) : Type 0 where
-  pub judged : HasJudgedAll (ByLiveWorkers options) policy order before after totals
-  pub behind : List ℕ
-  pub told : IsToldBehind options text policy (packets_at 0 judged.packets) judged.verdicts behind
-  pub all : report ≡ report_in wording (packets_at 0 judged.packets) judged.verdicts judged.truncated ++ behind
-
--- a write failed behind a front of it
-pub record HasCutReport (options : Options) (text : List ℕ) (wording : Wording) (policy : PolicyFacts) (order : Order) (before after old new : Option (List ℕ))
-    (fault : Fault) : Type 0 where
-  pub failed : fault ≡ Write
-  pub totals : Totals
-  pub report : List ℕ
-  pub is : IsReportBehind options text wording policy order before after totals report
-  pub front : GotFront old new report
-
--- all of a capture behind its header was judged, and the report on it was written, and what saves packets was given all records
-pub record HasToldBehind {K : Type 0} (options : Options) (text : List ℕ) (manner : Manner K) (policy : PolicyFacts) (order : Order)
-    (before after : Option (List ℕ)) (old new : Outputs K) (totals : Totals) : Type 0 where
-  pub report : List ℕ
-  pub is : IsReportBehind options text manner.wording policy order before after totals report
-  pub written : Appends old.report new.report report
-  pub whole : List ℕ
-  pub spelt : is.judged.read ≡ whole ++ is.judged.rest
-  pub saved : manner.saved old.saver order whole is.judged.verdicts new.saver
-
--- so, or why it wasn't
-abbrev pub TellsBehind : {K : Type 0} → Type 0 → Options → List ℕ → Manner K → PolicyFacts → Order → Option (List ℕ) → Option (List ℕ) → Outputs K → Outputs K
-    → Result Totals Fault → Type 0
-TellsBehind T options text manner policy order before after old new result =
-    MatchResult result (HasToldBehind options text manner policy order before after old new)
-    (λ fault. IsLiveFault (AreFirstVerdicts T options) manner policy order before after old new fault
-    ⊎ HasCutReport options text manner.wording policy order before after old.report new.report fault)
 
 -- The source's bytes are a capture, and this is the report on it.
 pub record IsLiveReport (options : Options) (text : List ℕ) (given : Option (List ℕ)) (totals : Totals) (report : List ℕ) : Type 0 where

@@ -1,7 +1,7 @@
 -- A run over the packets of one shard of a capture, which is told while it is read (this project's profile).
 use Rattle.std.specs.Prelude.{◌≡◌, ◌≢◌, ◌⊎◌, ◌++◌, ℕ, Bool, List, Option, Result, IfSome, MatchResult, length}
-use Rattle.std.specs.Io.KnownBytes.{Appends, Consumes, IsAtEnd}
-use Rattle.packet_view.specs.Captures.{AreRecords, IsCaptureAt, IsEnd, PacketFacts, RecordFacts, end_of, packets_at}
+use Rattle.std.specs.Io.KnownBytes.{Appends, IsAtEnd}
+use Rattle.packet_view.specs.Captures.{IsCaptureAt, PacketFacts, RecordFacts, end_of}
 use Rattle.packet_view.specs.declared.capture.Order.{Order}
 use Rattle.acl_policy.specs.Policies.{IsPolicyText, PolicyFacts}
 use Rattle.session_state.specs.declared.verdict.Verdict.{Verdict}
@@ -40,44 +40,11 @@ pub record IsOwnReport (options : Options) (text : List ℕ) (wording : Wording)
   pub counted : totals ≡ totals_of verdicts (told_alone (length (own_packets own 1 packets)) truncated)
   pub all : report ≡ own_lines wording own packets verdicts ++ (wording.end totals ++ behind)
 
--- all of a capture behind its header was read, and this is the report on one's own packets
-pub record IsOwnReportBehind (options : Options) (text : List ℕ) (wording : Wording) (policy : PolicyFacts) (own : Own) (order : Order)
-    (before after : Option (List ℕ)) (totals : Totals) (report : List ℕ) : Type 0 where
-  pub read : List ℕ
-  pub consumed : Consumes before after read
-  pub ended : IsAtEnd after
-  pub packets : List RecordFacts
-  pub rest : List ℕ
-  pub records : AreRecords order read packets rest
-  pub truncated : Bool
-  pub end : IsEnd order rest (end_of truncated)
-  pub is : IsOwnReport options text wording policy own (packets_at 0 packets) truncated totals report
-
--- a write failed behind a front of it
-pub record HasCutOwn (options : Options) (text : List ℕ) (wording : Wording) (policy : PolicyFacts) (own : Own) (order : Order)
-    (before after old new : Option (List ℕ)) (fault : Fault) : Type 0 where
-  pub failed : fault ≡ Write
-  pub totals : Totals
-  pub report : List ℕ
-  pub is : IsOwnReportBehind options text wording policy own order before after totals report
-  pub front : GotFront old new report
-
--- or it was written, and what saves packets was given all records
-pub record HasToldOwn {K : Type 0} (options : Options) (text : List ℕ) (manner : Manner K) (policy : PolicyFacts) (own : Own) (order : Order)
-    (before after : Option (List ℕ)) (old new : Outputs K) (totals : Totals) : Type 0 where
-  pub report : List ℕ
-  pub is : IsOwnReportBehind options text manner.wording policy own order before after totals report
-  pub written : Appends old.report new.report report
-  pub whole : List ℕ
-  pub spelt : is.read ≡ whole ++ is.rest
-  pub verdicts : List Verdict
-  pub spread : IsSpread own 1 (packets_at 0 is.packets) is.is.verdicts verdicts
-  pub saved : manner.saved old.saver order whole verdicts new.saver
-
 -- What workers handed over of one's own packets, who go on, put at the places of these.
 pub record AreFirstOwn (T : Type 0) (options : Options) (own : Own) (policy : PolicyFacts) (packets : List PacketFacts) (verdicts : List Verdict) : Type 0 where
   pub said : List Verdict
   pub first : AreFirstVerdicts T options policy (own_packets own 1 packets) said
+  pub each : length verdicts ≡ length packets
   pub spread : IsSpread own 1 packets said verdicts
 
 -- one's own packets are told in these words
@@ -89,13 +56,6 @@ abbrev pub IsOwnFault : {K : Type 0} → Type 0 → Options → Manner K → Pol
     → Fault → Type 0
 IsOwnFault T options manner policy own order before after old new fault =
     IsLiveFault (AreFirstOwn T options own) (own_manner own manner) policy order before after old new fault
-
-abbrev pub TellsOwn : {K : Type 0} → Type 0 → Options → List ℕ → Manner K → PolicyFacts → Own → Order → Option (List ℕ) → Option (List ℕ) → Outputs K → Outputs K
-    → Result Totals Fault → Type 0
-TellsOwn T options text manner policy own order before after old new result =
-    MatchResult result (HasToldOwn options text manner policy own order before after old new)
-    (λ fault. IsOwnFault T options manner policy own order before after old new fault
-    ⊎ HasCutOwn options text manner.wording policy own order before after old.report new.report fault)
 
 -- The source's bytes are a capture, and this is the report on its packets of the shard.
 pub record IsShardReport (options : Options) (shard : ShardFacts) (text : List ℕ) (given : Option (List ℕ)) (totals : Totals) (report : List ℕ) : Type 0 where

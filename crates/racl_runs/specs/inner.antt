@@ -1,10 +1,11 @@
+pub mod AskedWordings
 pub mod Captures
 pub mod Comparings
 pub mod Heads
 pub mod InterfaceChecks
 pub mod Kept
 pub mod LiveEnds
-pub mod OwnTotals
+pub mod OwnRuns
 pub mod Plans
 pub mod Stored
 pub mod Streams

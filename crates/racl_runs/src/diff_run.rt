@@ -3,10 +3,10 @@ ghost use Rattle.std.specs.Prelude.{◌≡◌, ◌-◌, ◌<◌, ◌^◌, MatchR
 ghost use Rattle.racl_runs.specs.DiffRuns.{AreTimesOf, ComparesWith, EndsDiff, HaveFailed, policies_in, with_diff_read, with_diff_write};
 
 use crate::capture_header_reading::read_header;
-use crate::diff_input::{DiffFault, PolicyTexts};
+use crate::live_run::EXPECTED;
 use crate::sized_tables_and_workers::{Manner, SizedWorkers, create_sized};
 use crate::workers_as_judges::HandingCrew;
-use acl_policy::read_policy;
+use acl_policy::{PolicyFault, read_policy};
 use compared_verdicts::{ChangeTotals, PolicyPair, tell_changes};
 use flow_filter::InterfaceFilters;
 use flow_workers::Filter;
@@ -17,8 +17,23 @@ use std::alloc::Global;
 use std::sync::Wait;
 use std::thread::Threads;
 
-/// For how many packets rules are prepared.
-const EXPECTED: usize = 16_777_216;
+/// The text of a policy, and of the one that is to take its place.
+#[derive(Clone, Copy)]
+pub struct PolicyTexts<'a> {
+    pub before: &'a [u8],
+    pub after: &'a [u8],
+}
+
+/// Why not all is told of what a change of policy changes.
+#[derive(Clone, Copy, Debug, PartialEq, Eq)]
+pub enum DiffFault {
+    /// The policy so far is none.
+    Before(PolicyFault),
+    /// The one that is to take its place is none.
+    After(PolicyFault),
+    /// Memory ran out, a device failed, or the capture has a fault.
+    Run(Fault),
+}
 
 /// What packets are compared by: options, the rules of a policy and of the one that is to take its place, and the order of the
 /// capture's numbers.

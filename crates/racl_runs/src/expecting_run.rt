@@ -8,20 +8,46 @@ ghost use Rattle.racl_runs.specs.ExpectingRuns.{ComparesAll, EndsExpecting};
 
 use crate::capture_header_reading::read_header;
 use crate::compared_judging::Comparing;
-use crate::expecting_run_parts::{Compared, ExpectingAsked, ExpectingHead};
+use crate::live_run::EXPECTED;
 use crate::sized_tables_and_workers::{Manner, SizedWorkers, create_sized};
 use crate::workers_as_judges::HandingCrew;
 use acl_policy::read_policy;
 use capture_stream::{Headed, ToldCapture, Unsaved, tell_live};
-use compared_verdicts::{UnmetLines, any_open, is_met, write_met};
+use compared_verdicts::{Expectation, UnmetLines, any_open, is_met, write_met};
+use flow_filter::InterfaceFilters;
 use flow_workers::Filter;
+use packet_view::Order;
 use racl_io::{Fault, Piece, Sink, Source, Teller, Totals};
+use racl_options::Options;
 use std::alloc::Global;
 use std::sync::Wait;
 use std::thread::Threads;
 
-/// For how many packets rules are prepared.
-const PREPARED: usize = 16_777_216;
+/// What a run is asked for that compares verdicts with expected ones: its options, its policy's text, and what is expected.
+#[derive(Clone, Copy)]
+pub struct ExpectingAsked<'t> {
+    pub options: &'t Options,
+    pub text: &'t [u8],
+    pub expectations: &'t [Expectation],
+}
+
+/// What such a run goes by: its options, what is expected, rules that are ready, and the order of the capture's numbers; and
+/// where it gets memory.
+#[derive(Clone, Copy)]
+pub struct ExpectingHead<'t, 'f> {
+    pub alloc: Global,
+    pub options: &'t Options,
+    pub expectations: &'t [Expectation],
+    pub filter: &'t InterfaceFilters<'f>,
+    pub order: Order,
+}
+
+/// Whether all is as expected, and whether the capture was cut off.
+#[derive(Clone, Copy, Debug, PartialEq, Eq)]
+pub struct Compared {
+    pub met: bool,
+    pub truncated: bool,
+}
 
 // Behind the packets is told what else isn't as expected, or that all of so many expectations are met.
 fn tell_last<L: Teller, W: Sink>(
@@ -142,7 +168,7 @@ pub fn run_expecting<R: Source, W: Sink, T: Threads + Wait + Sync>(
         policy,
         times: options.times,
     };
-    let Ok(prepared) = filter.prepare(alloc, PREPARED) else {
+    let Ok(prepared) = filter.prepare(alloc, EXPECTED) else {
         return Err(Fault::Memory);
     };
     let Ok(ready) = filter.ready_with(alloc, &prepared) else {

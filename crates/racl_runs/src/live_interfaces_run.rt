@@ -1,24 +1,22 @@
 //! One run over captures of several interfaces, which are told while they come.
 ghost use Rattle.std.specs.Prelude.{◌≡◌, ◌-◌, ◌<◌, ◌^◌, ◌++◌, IfErr, IfOk, MatchResult, None};
 ghost use Rattle.acl_policy.specs.Policies.{IsPolicyText, policy_facts};
-ghost use Rattle.racl_io.specs.Tellings.{HasToldText, Wording, with_write};
+ghost use Rattle.racl_io.specs.Tellings.{HasToldText, with_write};
 ghost use Rattle.racl_io.specs.declared.fault.Fault.TheVariants.{Read};
 ghost use Rattle.racl_report.specs.CapturesEnds.{captures_end};
 ghost use Rattle.capture_stream.specs.Arrivals.{HaveAllEnded};
 ghost use Rattle.capture_stream.specs.Lives.{with_read};
-ghost use Rattle.racl_runs.specs.LiveInterfaceRuns.{HasRunComing, IsComingRunFault, TellsComing, TellsNamed};
+ghost use Rattle.racl_runs.specs.LiveInterfaceRuns.{HasRunComing, IsComingRunFault, TellsComing};
 
-use crate::counted_judging::Counted;
-use crate::live_run::{EXPECTED, LiveAsked, LiveWay, ages_early, told_behind_live};
-use crate::sized_tables_and_workers::{Manner, SizedWorkers, create_sized};
-use crate::workers_as_judges::HandingCrew;
+use crate::asked_lines::AskedLines;
+use crate::live_run::{EXPECTED, LiveAsked, LiveWay, ages_early, told_behind_live, workers_over};
+use crate::sized_tables_and_workers::create_sized;
 use acl_policy::read_policy;
 use capture_stream::{Arrivals, FaultAt, ToldArrivals, tell_arrivals};
 use flow_workers::Filter;
-use racl_io::{Captured, Fault, NamedLines, Sink, Teller, Totals};
+use racl_io::{Captured, Fault, Sink, Teller, Totals};
 use racl_options::Lines;
 use racl_report::{Behind, write_behind, write_captures_end};
-use racl_views::{ExplainedLines, HitCounts, ObjectLines};
 use std::alloc::Global;
 use std::sync::Wait;
 use std::thread::Threads;
@@ -51,8 +49,8 @@ fn tell_end_of_captures<W: Sink>(
     }
 }
 
-// In a live run on several interfaces workers judge the packets of all captures, and they are told, while they come. The tables cut
-// blocks, as sessions that have ended are removed.
+// In a live run on several interfaces workers judge the packets of all captures, and they are told, while they come. The
+// tables cut blocks, as sessions that have ended are removed.
 fn tell_captures<L: Teller, A: Arrivals, W: Sink, T: Threads + Wait + Sync>(
     rt: &T,
     alloc: Global,
@@ -74,19 +72,8 @@ fn tell_captures<L: Teller, A: Arrivals, W: Sink, T: Threads + Wait + Sync>(
     let Ok((tables, callers)) = create_sized(alloc, way.options.tables, ages) else {
         return Err(placeless(Fault::Memory));
     };
-    let manner = Manner {
-        filter: way.filter,
-        workers: way.options.workers,
-    };
-    let Ok(workers) = SizedWorkers::new(rt, alloc, manner, &tables, callers) else {
+    let Ok(judges) = workers_over(rt, alloc, way, &tables, callers) else {
         return Err(placeless(Fault::Memory));
-    };
-    let counts = HitCounts::new(alloc);
-    let judges = Counted {
-        crew: HandingCrew { alloc, workers },
-        policy: way.filter.policy,
-        asked: way.options.hits,
-        counts,
     };
     let told = match tell_arrivals(alloc, arrivals, writer, teller, judges) {
         Ok(told) => told,
@@ -109,48 +96,13 @@ fn tell_captures<L: Teller, A: Arrivals, W: Sink, T: Threads + Wait + Sync>(
     }
 }
 
-// In a live run on several interfaces packets are told in the form that is asked for.
-fn tell_captures_as_asked<A: Arrivals, W: Sink, T: Threads + Wait + Sync>(
-    rt: &T,
-    alloc: Global,
-    way: LiveWay<'_, '_>,
-    arrivals: &mut A,
-    writer: &mut W,
-) -> Result<Totals, FaultAt>
-    requires says { IsPolicyText way.text.now (policy_facts way.filter.now.policy.now) }
-    requires sound { (way.filter.now.times ≡ way.options.now.times) × (A.failures arrivals.old < 2 ^ 64 - 1) × (W.failures writer.old < 2 ^ 64 - 1) }
-    ensures told { let options = way.entry.options.now in let text = way.entry.text.now in let policy = policy_facts way.entry.filter.now.policy.now in (wording : Wording) × TellsNamed options text policy wording
-        × TellsComing T options text wording policy (A.parts arrivals.old) (A.parts arrivals.new) (W.bytes writer.old) (W.bytes writer.new) result }
-    ensures left { IfOk result (λ _. HaveAllEnded (A.left arrivals.new)) }
-    ensures whose { IfErr result (λ found. found.fault ≡ Read → found.interface ≡ A.unread arrivals.new) }
-    ensures read { MatchResult result (λ _. A.failures arrivals.new ≡ A.failures arrivals.old) (λ found. A.failures arrivals.new ≡ with_read (A.failures arrivals.old) found.fault) }
-    ensures write { MatchResult result (λ _. W.failures writer.new ≡ W.failures writer.old) (λ found. W.failures writer.new ≡ with_write (W.failures writer.old) found.fault) }
-{
-    let shown = way.options.shown;
-    let policy = way.filter.policy;
-    match way.options.lines {
-        Lines::Plain => match NamedLines::new(alloc, shown) {
-            Ok(mut lines) => tell_captures(rt, alloc, way, arrivals, writer, &mut lines),
-            Err(_) => Err(placeless(Fault::Memory)),
-        },
-        Lines::Explained => match ExplainedLines::naming(alloc, shown, policy, way.text) {
-            Ok(mut lines) => tell_captures(rt, alloc, way, arrivals, writer, &mut lines),
-            Err(_) => Err(placeless(Fault::Memory)),
-        },
-        Lines::Json => match ObjectLines::new(alloc, shown, policy, way.text) {
-            Ok(mut lines) => tell_captures(rt, alloc, way, arrivals, writer, &mut lines),
-            Err(_) => Err(placeless(Fault::Memory)),
-        },
-    }
-}
-
-/// Filters captures of several interfaces by a policy with this text while they come, and writes the report that the options ask
-/// for. Packets are judged and told in the order in which their records become whole, numbered over all captures, each with its
-/// interface; after each part of a capture what is told of the packets that it made whole. When all captures have ended come the
-/// captures that end within a record, in the order of their ends, the totals, and the hits and sessions that are asked for. As many
-/// workers as are asked for judge, who keep no verdict, but count, and remove sessions that have ended, so that captures may be of
-/// any length. A fault says of which interface's capture it is, where it is of one, and leaves what was written; but for Write no
-/// totals stand behind it.
+/// Filters captures of several interfaces by a policy with this text while they come, and writes the report that the options
+/// ask for. Packets are judged and told in the order in which their records become whole, numbered over all captures, each
+/// with its interface; after each part of a capture what is told of the packets that it made whole. When all captures have
+/// ended come the captures that end within a record, in the order of their ends, the totals, and the hits and sessions that
+/// are asked for. As many workers as are asked for judge, who keep no verdict, but count, and remove sessions that have ended,
+/// so that captures may be of any length. A fault says of which interface's capture it is, where it is of one, and leaves what
+/// was written; but for Write no totals stand behind it.
 pub fn run_live_interfaces<A: Arrivals, W: Sink, T: Threads + Wait + Sync>(
     rt: &T,
     alloc: Global,
@@ -189,5 +141,8 @@ pub fn run_live_interfaces<A: Arrivals, W: Sink, T: Threads + Wait + Sync>(
         text,
         filter: &ready,
     };
-    tell_captures_as_asked(rt, alloc, way, arrivals, writer)
+    let Ok(mut lines) = AskedLines::naming(alloc, way) else {
+        return Err(placeless(Fault::Memory));
+    };
+    tell_captures(rt, alloc, way, arrivals, writer, &mut lines)
 }

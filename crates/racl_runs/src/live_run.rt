@@ -1,16 +1,21 @@
 //! One run over a capture that is told while it comes.
-ghost use Rattle.std.specs.Prelude.{[], ◌≡◌, ◌-◌, ◌<◌, ◌^◌, ◌++◌, if◌then◌else◌, IfOk, IfSome, List, MatchResult, None, Some, nat_lt};
+ghost use Rattle.std.specs.Prelude.{[], ◌≡◌, ◌-◌, ◌<◌, ◌≤◌, ◌^◌, ◌++◌, if◌then◌else◌, IfOk, IfSome, List, MatchResult, None, Some, nat_lt};
 ghost use Rattle.packet_view.specs.Captures.{PacketFacts};
 ghost use Rattle.acl_policy.specs.Policies.{IsPolicyText, policy_facts};
 ghost use Rattle.session_state.specs.declared.verdict.Verdict.{Verdict};
-ghost use Rattle.racl_io.specs.Tellings.{HasToldText, Wording};
+ghost use Rattle.racl_io.specs.Tellings.{HasToldText};
 ghost use Rattle.capture_stream.specs.Lives.{HaveFailed, with_read};
 ghost use Rattle.capture_stream.specs.Savings.{Outputs, manner_of, outputs};
+ghost use Rattle.capture_shards.specs.inner.OwnTests.{own_among};
 ghost use Rattle.racl_report.specs.declared.saved_packets.Saves.{Saves};
-ghost use Rattle.racl_runs.specs.LiveRuns.{HasRunLive, IsLiveRunFault, IsToldBehind, TellsAsAsked, TellsBehind, ages_in};
+ghost use Rattle.racl_runs.specs.Crews.{AreFirstOf};
+ghost use Rattle.racl_runs.specs.LiveRuns.{HasRunLive, IsLiveRunFault, IsToldBehind, ages_in};
 ghost use Rattle.racl_runs.specs.LiveSaves.{failures_in};
-ghost use Rattle.racl_runs.specs.inner.LiveEnds.{MayTellBehind};
+ghost use Rattle.racl_runs.specs.ShardRuns.{HasFailedOnce};
+ghost use Rattle.racl_runs.specs.inner.LiveEnds.{AreBegun, MayTellBehind};
+ghost use Rattle.racl_runs.specs.inner.OwnRuns.{TellsOwn, own_totals};
 
+use crate::asked_lines::AskedLines;
 use crate::capture_header_reading::keep_header;
 use crate::counted_judging::Counted;
 use crate::live_saves::LiveSaves;
@@ -20,14 +25,15 @@ use crate::sized_tables_and_workers::{
 use crate::stored_sessions::{keeps_stored, stored_of};
 use crate::workers_as_judges::HandingCrew;
 use acl_policy::read_policy;
+use capture_shards::{Shard, ShardJudge, ShardTeller};
 use capture_stream::{Headed, Saver, ToldCapture, tell_live};
 use flow_filter::InterfaceFilters;
 use flow_workers::Filter;
 use packet_view::Order;
-use racl_io::{Fault, PlainLines, Sink, Source, Teller, Totals};
-use racl_options::{Lines, Options};
+use racl_io::{Fault, Sink, Source, Teller, Totals};
+use racl_options::Options;
 use racl_report::{Behind, behind_totals, write_behind};
-use racl_views::{ExplainedLines, HitCounts, ObjectLines};
+use racl_views::HitCounts;
 use std::alloc::{AllocError, Global};
 use std::sync::Wait;
 use std::thread::Threads;
@@ -50,14 +56,40 @@ pub struct LiveWay<'t, 'f> {
     pub filter: &'t InterfaceFilters<'f>,
 }
 
-/// What a live run on one capture goes by: its way, the order of the capture's numbers, and where it gets memory.
+/// What a run on one capture goes by: its way, the order of the capture's numbers, where it gets memory, and the shard whose
+/// packets it judges and tells; all where there is none.
 #[derive(Clone, Copy)]
 pub struct LiveHead<'t, 'f> {
     pub alloc: Global,
-    pub options: &'t Options,
-    pub text: &'t [u8],
-    pub filter: &'t InterfaceFilters<'f>,
+    pub way: LiveWay<'t, 'f>,
     pub order: Order,
+    pub shard: Option<Shard>,
+}
+
+/// Workers over these tables, of whom as many as are asked for judge by this way, and who judged no packet. An error says that
+/// memory was refused.
+pub fn workers_over<'t, 'f, T: Threads + Wait + Sync>(
+    rt: &'t T,
+    alloc: Global,
+    way: LiveWay<'t, 'f>,
+    tables: &'t SizedTables,
+    callers: SizedCallers,
+) -> Result<Counted<'t, 'f, T>, AllocError>
+    requires { AreFirstOf tables.now callers }
+    ensures { IfOk result (λ counted. AreBegun way.entry tables.now counted) }
+{
+    let manner = Manner {
+        filter: way.filter,
+        workers: way.options.workers,
+    };
+    let workers = SizedWorkers::new(rt, alloc, manner, tables, callers)?;
+    let counts = HitCounts::new(alloc);
+    Ok(Counted {
+        crew: HandingCrew { alloc, workers },
+        policy: way.filter.policy,
+        asked: way.options.hits,
+        counts,
+    })
 }
 
 /// What stands behind the totals of a live run whose workers have ended: with these counts, and these tables, which end.
@@ -92,7 +124,8 @@ pub fn tell_end_behind<L: Teller, W: Sink>(
     }
 }
 
-/// Whether sessions that have ended are removed while packets come: in a live run, as it may never end, and where that is asked for.
+/// Whether sessions that have ended are removed while packets come: in a live run, as it may never end, and where that is
+/// asked for.
 pub fn ages_early(options: &Options) -> bool
     ensures { result ≡ ages_in options.now }
 {
@@ -110,115 +143,92 @@ pub fn many_for(workers: usize) -> Option<usize>
     }
 }
 
-// In a live run workers judge the packets of the capture behind its header, and they are told and saved, while they come. The
-// tables cut blocks where sessions that have ended are removed.
-fn tell_capture<L: Teller, K: Saver, R: Source, W: Sink, T: Threads + Wait + Sync>(
+// The totals over one's own packets, of which there are so many.
+fn totals_over(totals: &Totals, own: u64) -> Totals
+    requires { totals.now.passed ≤ own }
+    ensures { result ≡ own_totals totals.now own }
+{
+    Totals {
+        packets: own,
+        passed: totals.passed,
+        dropped: own - totals.passed,
+        without_pages: totals.without_pages,
+        truncated: totals.truncated,
+    }
+}
+
+/// Workers judge the packets of the capture behind its header, or the shard's where there is one, and they are told and saved
+/// while they come. The tables cut blocks where sessions that have ended are removed.
+pub fn tell_capture<L: Teller + Drop, K: Saver, R: Source, W: Sink, T: Threads + Wait + Sync>(
     rt: &T,
     head: LiveHead<'_, '_>,
     reader: &mut R,
     writer: &mut W,
-    teller: &mut L,
+    lines: L,
     saver: &mut K,
 ) -> Result<Totals, Fault>
-    requires says { IsPolicyText head.text.now (policy_facts head.filter.now.policy.now) }
-    requires sound { (head.filter.now.times ≡ head.options.now.times) × (R.failures reader.old < 2 ^ 64 - 1) × (W.failures writer.old < 2 ^ 64 - 1) }
+    requires says { IsPolicyText head.way.text.now (policy_facts head.way.filter.now.policy.now) }
+    requires sound { (head.way.filter.now.times ≡ head.way.options.now.times) × (R.failures reader.old < 2 ^ 64 - 1) × (W.failures writer.old < 2 ^ 64 - 1) }
     requires saves { K.saved saver.old head.order [] [] saver.old }
-    ensures told { TellsBehind T head.entry.options.now head.entry.text.now (manner_of (L.wording teller.old) K.saved) (policy_facts head.entry.filter.now.policy.now) head.entry.order
-        (R.bytes reader.old) (R.bytes reader.new) (outputs (W.bytes writer.old) saver.old) (outputs (W.bytes writer.new) saver.new) result }
+    ensures told { let way = head.entry.way in TellsOwn T way.options.now way.text.now (manner_of (L.wording lines) K.saved) (policy_facts way.filter.now.policy.now) (own_among head.entry.shard)
+        head.entry.order (R.bytes reader.old) (R.bytes reader.new) (outputs (W.bytes writer.old) saver.old) (outputs (W.bytes writer.new) saver.new) result }
     ensures read { MatchResult result (λ _. R.failures reader.new ≡ R.failures reader.old) (λ fault. R.failures reader.new ≡ with_read (R.failures reader.old) fault) }
-    ensures write { MatchResult result (λ _. (W.failures writer.new ≡ W.failures writer.old) × (K.failures saver.new ≡ K.failures saver.old))
-        (λ fault. HaveFailed (W.failures writer.old) (W.failures writer.new) (K.failures saver.old) (K.failures saver.new) fault) }
+    ensures write { HasFailedOnce result (W.failures writer.old) (W.failures writer.new) (K.failures saver.old) (K.failures saver.new) }
 {
-    let alloc = head.alloc;
-    let ages = ages_early(head.options);
-    let Ok((tables, callers)) = create_sized(alloc, head.options.tables, ages) else {
+    let LiveHead {
+        alloc,
+        way,
+        order,
+        shard,
+    } = head;
+    let ages = ages_early(way.options);
+    let Ok((tables, callers)) = create_sized(alloc, way.options.tables, ages) else {
         return Err(Fault::Memory);
     };
-    let manner = Manner {
-        filter: head.filter,
-        workers: head.options.workers,
-    };
-    let Ok(workers) = SizedWorkers::new(rt, alloc, manner, &tables, callers) else {
+    let Ok(inner) = workers_over(rt, alloc, way, &tables, callers) else {
         return Err(Fault::Memory);
-    };
-    let counts = HitCounts::new(alloc);
-    let judges = Counted {
-        crew: HandingCrew { alloc, workers },
-        policy: head.filter.policy,
-        asked: head.options.hits,
-        counts,
     };
     let headed = Headed {
-        judges,
-        order: head.order,
-        many: many_for(head.options.workers),
+        judges: ShardJudge {
+            inner,
+            shard,
+            alloc,
+            seen: 0,
+            own: 0,
+        },
+        order,
+        many: many_for(way.options.workers),
     };
-    let told = match tell_live(alloc, reader, writer, teller, saver, headed) {
+    let mut teller = ShardTeller {
+        inner: lines,
+        shard,
+        alloc,
+    };
+    let told = match tell_live(alloc, reader, writer, &mut teller, saver, headed) {
         Ok(told) => told,
         Err(fault) => return Err(fault),
     };
     let ToldCapture { judges, totals } = told;
-    let Ok((counts, callers)) = judges.end(alloc) else {
+    let ShardJudge { inner, own, .. } = judges;
+    let Ok((counts, callers)) = inner.end(alloc) else {
         return Err(Fault::Memory);
-    };
-    let way = LiveWay {
-        options: head.options,
-        text: head.text,
-        filter: head.filter,
     };
     let Ok(behind) = told_behind_live(alloc, way, tables, &counts, callers) else {
         return Err(Fault::Memory);
     };
-    match tell_end_behind(writer, teller, &totals, &behind) {
+    let totals = totals_over(&totals, own);
+    match tell_end_behind(writer, &mut teller, &totals, &behind) {
         Ok(()) => Ok(totals),
         Err(fault) => Err(fault),
     }
 }
 
-// In a live run packets are told in the form that is asked for, and saved.
-fn tell_as_asked<K: Saver, R: Source, W: Sink, T: Threads + Wait + Sync>(
-    rt: &T,
-    head: LiveHead<'_, '_>,
-    reader: &mut R,
-    writer: &mut W,
-    saver: &mut K,
-) -> Result<Totals, Fault>
-    requires says { IsPolicyText head.text.now (policy_facts head.filter.now.policy.now) }
-    requires times { head.filter.now.times ≡ head.options.now.times }
-    requires sound { (R.failures reader.old < 2 ^ 64 - 1) × (W.failures writer.old < 2 ^ 64 - 1) }
-    requires saves { K.saved saver.old head.order [] [] saver.old }
-    ensures told { let options = head.entry.options.now in let text = head.entry.text.now in let policy = policy_facts head.entry.filter.now.policy.now in (wording : Wording) × TellsAsAsked options text policy wording
-        × TellsBehind T options text (manner_of wording K.saved) policy head.entry.order (R.bytes reader.old) (R.bytes reader.new) (outputs (W.bytes writer.old) saver.old) (outputs (W.bytes writer.new) saver.new) result }
-    ensures read { MatchResult result (λ _. R.failures reader.new ≡ R.failures reader.old) (λ fault. R.failures reader.new ≡ with_read (R.failures reader.old) fault) }
-    ensures write { MatchResult result (λ _. (W.failures writer.new ≡ W.failures writer.old) × (K.failures saver.new ≡ K.failures saver.old))
-        (λ fault. HaveFailed (W.failures writer.old) (W.failures writer.new) (K.failures saver.old) (K.failures saver.new) fault) }
-{
-    let alloc = head.alloc;
-    let shown = head.options.shown;
-    let policy = head.filter.policy;
-    let text = head.text;
-    match head.options.lines {
-        Lines::Plain => match PlainLines::new(alloc, shown) {
-            Ok(mut lines) => tell_capture(rt, head, reader, writer, &mut lines, saver),
-            Err(_) => Err(Fault::Memory),
-        },
-        Lines::Explained => match ExplainedLines::new(alloc, shown, policy, text) {
-            Ok(mut lines) => tell_capture(rt, head, reader, writer, &mut lines, saver),
-            Err(_) => Err(Fault::Memory),
-        },
-        Lines::Json => match ObjectLines::new(alloc, shown, policy, text) {
-            Ok(mut lines) => tell_capture(rt, head, reader, writer, &mut lines, saver),
-            Err(_) => Err(Fault::Memory),
-        },
-    }
-}
-
-/// Filters a capture by a policy with this text while it comes, and writes the report that the options ask for: after each read
-/// what is told of all packets whose records were read whole, and at its end what stands behind them: the totals, and the hits
-/// and sessions that are asked for. Where files are given for packets that are dropped or pass, each gets them as a capture,
-/// after each read too. As many workers as are asked for judge, who keep no verdict, but count, and remove sessions that have
-/// ended, so that a capture may be of any length. A fault leaves what was written and saved; but for Write neither totals nor hits stand behind
-/// it.
+/// Filters a capture by a policy with this text while it comes, and writes the report that the options ask for: after each
+/// read what is told of all packets whose records were read whole, and at its end what stands behind them: the totals, and the
+/// hits and sessions that are asked for. Where files are given for packets that are dropped or pass, each gets them as a
+/// capture, after each read too. As many workers as are asked for judge, who keep no verdict, but count, and remove sessions
+/// that have ended, so that a capture may be of any length. A fault leaves what was written and saved; but for Write neither
+/// totals nor hits stand behind it.
 pub fn run_live<R: Source, W: Sink, S: Sink, T: Threads + Wait + Sync>(
     rt: &T,
     alloc: Global,
@@ -259,16 +269,23 @@ pub fn run_live<R: Source, W: Sink, S: Sink, T: Threads + Wait + Sync>(
     let Ok(ready) = filter.ready_with(alloc, &prepared) else {
         return Err(Fault::Memory);
     };
+    let way = LiveWay {
+        options,
+        text,
+        filter: &ready,
+    };
+    let Ok(lines) = AskedLines::new(alloc, way) else {
+        return Err(Fault::Memory);
+    };
     match saves.begin(header.as_slice()) {
         Ok(()) => {}
         Err(fault) => return Err(fault),
     }
     let head = LiveHead {
         alloc,
-        options,
-        text,
-        filter: &ready,
+        way,
         order,
+        shard: None,
     };
-    tell_as_asked(rt, head, reader, writer, saves)
+    tell_capture(rt, head, reader, writer, lines, saves)
 }

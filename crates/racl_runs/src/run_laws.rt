@@ -1,5 +1,5 @@
 //! What the definitions of an input and its report say of all bytes at once.
-ghost use Rattle.std.specs.Prelude.{◌≡◌, ◌⊎◌, false, true, ℕ, List, Option};
+ghost use Rattle.std.specs.Prelude.{◌≡◌, ◌⊎◌, ◌+◌, ◌≤◌, false, true, ℕ, List, Option, length};
 ghost use Rattle.packet_view.specs.Bytes.{AreBytes};
 ghost use Rattle.session_state.specs.declared.timeouts.Timeouts.{Timeouts};
 ghost use Rattle.flow_dealing.specs.WorkerRecords.{HavePages};
@@ -8,6 +8,11 @@ ghost use Rattle.racl_options.specs.declared.settings.TableSize.{TableSize};
 ghost use Rattle.racl_io.specs.declared.fault.Fault.{Fault};
 ghost use Rattle.racl_io.specs.declared.totals_and_truncation.Totals.{Totals};
 ghost use Rattle.racl_io.specs.Faults.{IsInputFault};
+ghost use Rattle.racl_io.specs.Inputs.{most_bytes};
+ghost use Rattle.racl_views.specs.declared.capture_bytes.CaptureBytes.{CaptureBytes};
+ghost use Rattle.racl_report.specs.InterfaceInputs.{AreAllBytes, IsFaultApart, bytes_in};
+ghost use Rattle.racl_report.specs.declared.interface_captures.PlacedFault.{PlacedFault};
+ghost use Rattle.racl_runs.specs.InterfaceRuns.{HasOutcomeApart};
 ghost use Rattle.racl_runs.specs.Runs.{HasOutcome, HasRun, keeps_stored, layout_for};
 ghost use Rattle.racl_report.specs.RunReports.{Outcome};
 ghost use Rattle.racl_runs.specs.StoredRuns.{AreLeftByOneThread};
@@ -22,6 +27,19 @@ pub fn each_input_has_one_outcome()
         → IsInputFault bytes fault → IsInputFault bytes other → fault ≡ other }
     ensures apart { (size : TableSize) (times : Timeouts) (bytes : List ℕ) (outcome : Outcome) (fault : Fault) → AreBytes bytes
         → HasOutcome size times bytes outcome → IsInputFault bytes fault → ⊥ }
+{}
+
+/// Captures of interfaces that come apart, behind a policy's text, within what an input may have, are an input whose run has one
+/// outcome, that of the one-thread filter, or have one fault, and never both.
+pub fn interfaces_have_one_outcome()
+    ensures some { (size : TableSize) (times : Timeouts) (text : List ℕ) (captures : List CaptureBytes) → length text + bytes_in captures ≤ most_bytes
+        → ((outcome : Outcome) × HasOutcomeApart size times text captures outcome) ⊎ ((found : PlacedFault) × IsFaultApart text captures found) }
+    ensures one { (size : TableSize) (times : Timeouts) (text : List ℕ) (captures : List CaptureBytes) (outcome other : Outcome) → AreAllBytes captures
+        → HasOutcomeApart size times text captures outcome → HasOutcomeApart size times text captures other → outcome ≡ other }
+    ensures fault { (text : List ℕ) (captures : List CaptureBytes) (found other : PlacedFault) → AreAllBytes captures
+        → IsFaultApart text captures found → IsFaultApart text captures other → found ≡ other }
+    ensures apart { (size : TableSize) (times : Timeouts) (text : List ℕ) (captures : List CaptureBytes) (outcome : Outcome) (found : PlacedFault)
+        → AreAllBytes captures → HasOutcomeApart size times text captures outcome → IsFaultApart text captures found → ⊥ }
 {}
 
 /// The sessions that are told of a run that doesn't age are those that the one-thread filter leaves, where no verdict says

@@ -1,19 +1,18 @@
 //! Session tables of the size that the words ask for, and workers over them.
 ghost use Rattle.std.specs.Prelude.{[], ◌≡◌, ◌≤◌, IfOk};
 ghost use Rattle.bihash_words.specs.Sizes.{IsSound, sizes_of};
-ghost use Rattle.flow_dealing.specs.declared.dealing.Dealing.TheVariants.{Bucket};
+ghost use Rattle.flow_dealing.specs.declared.worker_of_flow.Dealing.TheVariants.{Bucket};
 ghost use Rattle.racl_views.specs.Stored.{stored_facts};
 ghost use Rattle.racl_runs.specs.Crews.{AreAfter, AreAsAsked, AreFirst, AreFirstOf, AreIdleOf, HaveEndedOn, HaveJudgedSome};
 ghost use Rattle.racl_runs.specs.Crews.{cuts_four, orders_for, size_of, views_with};
 ghost use Rattle.racl_runs.specs.Runs.{AreStoredOf, layout_for};
 
-use crate::open_gate::OpenGate;
 use bihash_words::{
     LargeV4, LargeV6, Shape, ShapeV4, ShapeV6, flow_shapes_are_sound, large_shapes_are_sound,
 };
 use flow_filter::InterfaceFilters;
 use flow_workers::{
-    Callers, Dealing, RunFault, Setup, Tables, Workers, close_tables, create_cutting_tables,
+    Callers, Dealing, Gate, RunFault, Setup, Tables, Workers, close_tables, create_cutting_tables,
     create_tables,
 };
 use racl_options::TableSize;
@@ -21,6 +20,15 @@ use racl_views::StoredPairs;
 use session_state::Verdict;
 use std::alloc::{AllocError, Global};
 use std::sync::Wait;
+
+/// Nothing waits before or after a packet is judged.
+pub struct OpenGate;
+
+impl Gate for OpenGate {
+    fn before(&self, _worker: usize, _packet: usize) {}
+
+    fn after(&self, _worker: usize, _packet: usize) {}
+}
 
 /// From how many packets of a window on each worker judges them in a thread of its own.
 pub const MANY_PACKETS: usize = 49_152;

@@ -3,7 +3,7 @@ use Rattle.std.proofs.Common.{◌≡◌, ◌∙◌, ◌+◌, ◌++◌, ℕ, Bool
 use Rattle.std.specs.Prelude.{IfSome, if◌then◌else◌}
 use Rattle.std.proofs.lemmas.List.{map_push}
 use Rattle.policy_expand.specs.Inclusions.{FileFacts, file_facts}
-use Rattle.policy_expand.specs.declared.policy_file.PolicyFile.{PolicyFile}
+use Rattle.policy_expand.specs.declared.file_lines.PolicyFile.{PolicyFile}
 use Rattle.racl_io.specs.Inputs.{most_bytes}
 use Rattle.racl_system.specs.Expands.{AreRead}
 

@@ -1,7 +1,7 @@
 -- Which captures a live run on several interfaces is of, and how it ended (this project's profile).
 use Rattle.std.specs.Prelude.{◌≡◌, ◌≢◌, ◌++◌, ℕ, zero, suc, Bool, List, ◌∷◌, true, false, Result, Ok, Err, map}
 use Rattle.std.specs.List.{AllPairs, Contains}
-use Rattle.capture_stream.specs.declared.arrival.FaultAt.{FaultAt}
+use Rattle.capture_stream.specs.declared.arrivals.FaultAt.{FaultAt}
 use Rattle.racl_io.specs.declared.fault.Fault.{Fault}
 use Rattle.racl_io.specs.declared.fault.Fault.TheVariants.{Read, Short, Magic, Version, LinkType, LongRecord}
 use Rattle.racl_io.specs.declared.totals_and_truncation.Totals.{Totals}

@@ -337,7 +337,8 @@ fn fill_all<F: Read>(rt: &impl Wait, files: &mut [MergedFile<F>]) -> bool
 }
 
 /// Hands on all that these files have: whole records in the order of their packets' moments, each file's own as they stand there,
-/// and then of each what belongs to none, and its end.
+/// and then of each what belongs to none, and its end. No clause can name what a channel holds, and nothing is answered: the runs of
+/// `tests/run` on live interfaces look at what comes.
 pub fn hand_merged<F: Read + Drop>(rt: &impl Wait, files: Vec<MergedFile<F>>) {
     let mut files = files;
     'rounds: for _ in rt.forever() {

@@ -5,7 +5,6 @@ mod checks;
 mod command_line_words;
 mod comparisons;
 mod devices;
-mod digits;
 mod explained_packets;
 mod hits_and_sessions;
 mod input_parts;

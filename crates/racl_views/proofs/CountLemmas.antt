@@ -7,7 +7,7 @@ use Rattle.session_state.specs.declared.verdict.Verdict.{Verdict}
 use Rattle.racl_io.proofs.LeftLemmas.{drop_one}
 use Rattle.racl_views.specs.Deciding.{AreDecided, IsDecided, decided_by, hits_on}
 use Rattle.racl_views.specs.Hits.{is_entry, latest_second}
-use Rattle.racl_views.specs.declared.rule_name.RuleName.{RuleName}
+use Rattle.racl_views.specs.declared.rule_numbering.RuleName.{RuleName}
 
 -- before what is left stands the last one that was taken
 pub drop_before : {A : Type 0} (xs : List A) (i : ℕ) (d : A) → 0 < i → i ≤ length xs → drop (i - 1) xs ≡ get_or xs (i - 1) d ∷ drop i xs

@@ -6,7 +6,7 @@ use Rattle.session_state.specs.declared.verdict.Verdict.{Verdict}
 use Rattle.racl_io.proofs.LeftLemmas.{drop_one}
 use Rattle.racl_io.proofs.LineLemmas as line
 use Rattle.packet_words.proofs.ViewLemmas.{at_seen}
-use Rattle.racl_views.specs.declared.rule_name.RuleLine.{RuleLine}
+use Rattle.racl_views.specs.declared.rule_numbering.RuleLine.{RuleLine}
 use Rattle.racl_views.specs.Entries.{AreEntries, EntryFacts}
 use Rattle.racl_views.specs.RuleLines.{AreRules}
 use Rattle.racl_views.specs.RunEntries.{HasEntries, RunFacts, told_from}

@@ -10,7 +10,7 @@ use Rattle.acl_policy.specs.Policies.{AreAllSections, AreLines, AreSections, IsP
 use Rattle.acl_policy.proofs.LineLaws.{line_in-complete}
 use Rattle.racl_io.proofs.LeftLemmas.{drop_one}
 use Rattle.racl_views.specs.RuleLines.{AreRules, rule_here, rules_behind, rules_from}
-use Rattle.racl_views.specs.declared.rule_name.RuleLine.{RuleLine}
+use Rattle.racl_views.specs.declared.rule_numbering.RuleLine.{RuleLine}
 use Rattle.racl_views.specs.inner.Spots.{said}
 
 said_of : (line : List ℕ) (reading : LineFacts) → IsLine line reading → said line ≡ reading

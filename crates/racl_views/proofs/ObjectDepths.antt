@@ -21,9 +21,9 @@ use Rattle.racl_views.specs.Hits.{hit_object}
 use Rattle.racl_views.specs.Objects.{Field, ReadsBack, members_of, object_of}
 use Rattle.racl_views.specs.PacketObjects.{carried_fields, decided_fields, dest_fields, frame_way, line_fields, packet_object, rule_fields, source_fields, totals_object, truncation_object, verdict_fields, way_field}
 use Rattle.racl_views.specs.SessionLines.{FlowFacts, end_fields, ends_field, has_ports, is_tcp, session_object}
-use Rattle.racl_views.specs.declared.hit.Hit.{Hit}
-use Rattle.racl_views.specs.declared.hit.Hit.TheVariants as hit
-use Rattle.racl_views.specs.declared.rule_name.RuleLine.{RuleLine}
+use Rattle.racl_views.specs.declared.hit_counts.Hit.{Hit}
+use Rattle.racl_views.specs.declared.hit_counts.Hit.TheVariants as hit
+use Rattle.racl_views.specs.declared.rule_numbering.RuleLine.{RuleLine}
 use Rattle.racl_views.proofs.LineFeeds.{printed_line}
 
 -- the values of fields nest no deeper

@@ -1,29 +1,27 @@
 -- Packets that are told one part after the other are told as in the report.
-use Rattle.std.proofs.Common.{◌≡◌, ◌∙◌, ◌++◌, ◌+◌, ◌≤◌, ℕ, Bool, true, false, List, [], ◌∷◌, None, Some, append-nil, append_assoc, ap, ap₂, arith, length, map, refl, sym}
+use Rattle.std.proofs.Common.{◌≡◌, ◌∙◌, ◌++◌, ◌+◌, ◌≤◌, ℕ, Bool, true, false, List, [], ◌∷◌, None, Some, append-nil, append_assoc, ap, ap₂, arith, length, refl, sym}
 use Rattle.std.proofs.lemmas.List.{take_all}
 use Rattle.std.specs.Str.Lines.{lines}
 use Rattle.packet_view.specs.Captures.{PacketFacts}
-use Rattle.acl_policy.specs.Policies.{IsPolicyText, PolicyFacts}
+use Rattle.acl_policy.specs.Policies.{PolicyFacts}
 use Rattle.session_state.specs.declared.verdict.Verdict.{Verdict}
 use Rattle.racl_io.specs.declared.totals_and_truncation.Captured.{Captured}
 use Rattle.racl_io.specs.Reports.{totals_line, totals_of, truncation_line}
-use Rattle.racl_io.specs.Tellings.{Wording, end_text, lines_by, lines_in, told_alone}
+use Rattle.racl_io.specs.Tellings.{end_text, lines_by, lines_in, told_alone}
 use Rattle.racl_io.proofs.TellingLemmas.{alone_truncated, end_alone}
-use Rattle.racl_views.specs.declared.rule_name.RuleLine.{RuleLine}
+use Rattle.racl_views.specs.declared.rule_numbering.RuleLine.{RuleLine}
 use Rattle.racl_views.specs.Entries.{EntryFacts}
 use Rattle.racl_views.specs.ExplainedLines.{IsExplained, shown_line}
 use Rattle.racl_views.specs.Objects.{object_line, object_lines}
 use Rattle.racl_views.specs.PacketObjects.{IsToldInObjects, packet_objects, totals_object, truncation_objects}
 use Rattle.racl_views.specs.PartTellings.{AreExplainedLines, AreNamedLines, AreObjectLines, TellsLines, TellsRun, ToldBy, run_by}
-use Rattle.racl_views.specs.RuleLines.{AreRules, rules_from}
+use Rattle.racl_views.specs.RuleLines.{AreRules}
 use Rattle.racl_views.specs.RuleTexts.{rule_texts}
 use Rattle.racl_views.specs.RunEntries.{captures_told, told_from}
 use Rattle.racl_views.specs.inner.EntryLists.{entries_on, entry_on}
 use Rattle.racl_views.specs.inner.PartWordings.{captured_at, end_objects, explained_wording, objects_wording}
-use Rattle.racl_views.specs.inner.Spots.{said}
 use Rattle.racl_views.specs.inner.Tellings.{truncation_by}
 use Rattle.racl_views.proofs.EntryLemmas.{entries_by_rules}
-use Rattle.racl_views.proofs.LineLemmas.{policy_rules}
 use Rattle.racl_views.proofs.ObjectLemmas.{lines_from, object_lines-append}
 
 -- what is told of packets is told of their entries
@@ -145,21 +143,3 @@ explained_names_tell by rules are = record {
 pub objects_tell_lines : (by : ToldBy) (rules : List RuleLine) → AreRules by.text rules
     → TellsLines AreObjectLines by (objects_wording by.shown by.policy rules (rule_texts by.text))
 objects_tell_lines by rules are = let tells = objects_tell by rules are in record { lines = tells.lines }
-
--- ---- There is a way
-
--- the rules that a text says
-pub said_rules : (by : ToldBy) → IsPolicyText by.text by.policy → AreRules by.text (rules_from [] (map said (lines by.text)))
-said_rules by is = policy_rules by.text by.policy (rules_from [] (map said (lines by.text))) refl is
-
--- so a policy is told in explained lines
-pub some_explained : (by : ToldBy) → IsPolicyText by.text by.policy → (wording : Wording) × TellsRun AreExplainedLines IsExplained by wording
-some_explained by is = (_, explained_tells by _ (said_rules by is))
-
--- and in objects
-pub some_objects : (by : ToldBy) → IsPolicyText by.text by.policy → (wording : Wording) × TellsRun AreObjectLines IsToldInObjects by wording
-some_objects by is = (_, objects_tell by _ (said_rules by is))
-
--- in explained lines that name interfaces
-pub some_named : (by : ToldBy) → IsPolicyText by.text by.policy → (wording : Wording) × TellsLines AreNamedLines by wording
-some_named by is = (_, explained_names_tell by _ (said_rules by is))

@@ -6,7 +6,7 @@ use Rattle.acl_policy.specs.Policies.{PolicyFacts}
 use Rattle.flow_filter.specs.Readings.{IsSeen}
 use Rattle.session_state.specs.declared.verdict.Verdict.{Verdict}
 use Rattle.packet_words.specs.VerdictKinds.{rule_number}
-use Rattle.racl_views.specs.declared.rule_name.RuleName.{RuleName}
+use Rattle.racl_views.specs.declared.rule_numbering.RuleName.{RuleName}
 use Rattle.racl_views.specs.RuleLines.{same_way}
 
 -- the rule of the way that a packet goes

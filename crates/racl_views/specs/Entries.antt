@@ -6,8 +6,8 @@ use Rattle.acl_policy.specs.Policies.{PolicyFacts}
 use Rattle.flow_filter.specs.Readings.{IsSeen}
 use Rattle.session_state.specs.declared.verdict.Verdict.{Verdict}
 use Rattle.racl_views.specs.declared.packet_entry.Entry.{Entry}
-use Rattle.racl_views.specs.declared.rule_name.RuleLine.{RuleLine}
-use Rattle.racl_views.specs.declared.rule_name.RuleName.{RuleName}
+use Rattle.racl_views.specs.declared.rule_numbering.RuleLine.{RuleLine}
+use Rattle.racl_views.specs.declared.rule_numbering.RuleName.{RuleName}
 use Rattle.racl_views.specs.Deciding.{rule_on, same_rule}
 
 -- The verdict, where the packet was seen, in which second and how many microseconds after it began, how many bytes of it were kept, what its frame is there, and the line of the rule that decided it: 0 where

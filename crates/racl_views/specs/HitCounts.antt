@@ -7,8 +7,8 @@ use Rattle.racl_views.specs.Deciding.{AreDecided}
 use Rattle.racl_views.specs.Hits.{has_reason, is_entry, latest_second}
 use Rattle.racl_views.specs.declared.counting_reasons.ReasonCounts.{ReasonCounts}
 use Rattle.racl_views.specs.declared.hit_counts.HitCounts.{HitCounts}
-use Rattle.racl_views.specs.declared.reason_without_rule.NoRule.TheVariants as reason
-use Rattle.racl_views.specs.declared.rule_name.RuleName.{RuleName}
+use Rattle.racl_views.specs.declared.counting_reasons.NoRule.TheVariants as reason
+use Rattle.racl_views.specs.declared.rule_numbering.RuleName.{RuleName}
 use Rattle.racl_views.specs.inner.Counts.{Count}
 
 -- each reason has as many of these verdicts

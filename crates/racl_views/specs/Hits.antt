@@ -10,15 +10,15 @@ use Rattle.session_state.specs.Sessions.{is_expired_at}
 use Rattle.session_state.specs.declared.timeouts.Timeouts.{Timeouts}
 use Rattle.session_state.specs.declared.verdict.Verdict.{Verdict}
 use Rattle.session_state.specs.declared.verdict.Verdict.TheVariants as verdict
-use Rattle.racl_views.specs.declared.hit.Hit.{Hit}
-use Rattle.racl_views.specs.declared.hit.Hit.TheVariants as hit
-use Rattle.racl_views.specs.declared.reason_without_rule.NoRule.{NoRule}
-use Rattle.racl_views.specs.declared.reason_without_rule.NoRule.TheVariants as reason
-use Rattle.racl_views.specs.declared.rule_name.RuleLine.{RuleLine}
-use Rattle.racl_views.specs.declared.rule_name.RuleName.{RuleName}
+use Rattle.racl_views.specs.declared.hit_counts.Hit.{Hit}
+use Rattle.racl_views.specs.declared.hit_counts.Hit.TheVariants as hit
+use Rattle.racl_views.specs.declared.counting_reasons.NoRule.{NoRule}
+use Rattle.racl_views.specs.declared.counting_reasons.NoRule.TheVariants as reason
+use Rattle.racl_views.specs.declared.rule_numbering.RuleLine.{RuleLine}
+use Rattle.racl_views.specs.declared.rule_numbering.RuleName.{RuleName}
 use Rattle.racl_views.specs.declared.session_counts.SessionCounts.{SessionCounts}
-use Rattle.racl_views.specs.declared.text_or_json.TextOrJson.{TextOrJson}
-use Rattle.racl_views.specs.declared.text_or_json.TextOrJson.TheVariants as form
+use Rattle.racl_views.specs.declared.sessions_as_text_and_json.TextOrJson.{TextOrJson}
+use Rattle.racl_views.specs.declared.sessions_as_text_and_json.TextOrJson.TheVariants as form
 use Rattle.racl_views.specs.Deciding.{AreDecided, hits_on}
 use Rattle.racl_views.specs.Objects.{number, object_line, object_of, string}
 use Rattle.racl_views.specs.PacketObjects.{line_fields, way_field}

@@ -5,7 +5,7 @@ use Rattle.packet_view.specs.declared.tuple.Direction.{Direction}
 use Rattle.packet_view.specs.declared.tuple.Direction.TheVariants.{Inbound, Outbound}
 use Rattle.acl_policy.specs.Lines.{Begins, Blank, LineFacts, Own, Ruled}
 use Rattle.acl_policy.specs.Policies.{AreLines}
-use Rattle.racl_views.specs.declared.rule_name.RuleLine.{RuleLine}
+use Rattle.racl_views.specs.declared.rule_numbering.RuleLine.{RuleLine}
 
 abbrev pub same_way : Direction → Direction → Bool
 same_way Inbound Inbound = true

@@ -3,7 +3,7 @@ use Rattle.std.specs.Prelude.{ℕ, Bool, ◌&&◌, ◌||◌, ◌==◌, List, [],
 use Rattle.std.specs.List.{list_all}
 use Rattle.std.specs.Str.Lines as split
 use Rattle.acl_policy.specs.Words.{is_blank, without_comment}
-use Rattle.racl_views.specs.declared.shown_rule_text.RuleText.{RuleText}
+use Rattle.racl_views.specs.declared.rule_table.RuleText.{RuleText}
 
 -- a text from its first word on
 abbrev pub from_word : List ℕ → List ℕ

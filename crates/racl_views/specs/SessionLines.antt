@@ -12,10 +12,10 @@ use Rattle.session_state.specs.declared.flow_end.End.{End}
 use Rattle.session_state.specs.declared.flow.FlowKey.{FlowKey}
 use Rattle.session_state.specs.declared.flow.FlowKey.TheVariants.{Four, Six}
 use Rattle.session_state.specs.declared.timeouts.Timeouts.{Timeouts}
-use Rattle.racl_views.specs.declared.stored_flow_end.FlowEnd.{FlowEnd}
+use Rattle.racl_views.specs.declared.stored_flow.FlowEnd.{FlowEnd}
 use Rattle.racl_views.specs.declared.stored_flow.StoredFlow.{StoredFlow}
-use Rattle.racl_views.specs.declared.text_or_json.TextOrJson.{TextOrJson}
-use Rattle.racl_views.specs.declared.text_or_json.TextOrJson.TheVariants as form
+use Rattle.racl_views.specs.declared.sessions_as_text_and_json.TextOrJson.{TextOrJson}
+use Rattle.racl_views.specs.declared.sessions_as_text_and_json.TextOrJson.TheVariants as form
 use Rattle.racl_views.specs.Objects.{Field, number, object_line, object_of, string}
 use Rattle.packet_words.specs.PacketWords.{address_text, flags_text, numbered, protocol_text}
 use Rattle.racl_views.specs.Stored.{StoredFacts}

@@ -1,6 +1,6 @@
 -- The sessions that stand in tables, as their pairs.
 use Rattle.std.specs.Prelude.{ℕ, List}
-use Rattle.racl_views.specs.declared.stored_pairs.StoredPairs.{StoredPairs}
+use Rattle.racl_views.specs.declared.session_counts.StoredPairs.{StoredPairs}
 
 -- `StoredPairs` as a value
 pub record StoredFacts : Type 0 where

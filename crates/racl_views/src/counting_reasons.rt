@@ -4,8 +4,20 @@ ghost use Rattle.session_state.specs.declared.verdict.Verdict as said;
 ghost use Rattle.racl_views.specs.HitCounts.{CountReasons};
 ghost use Rattle.racl_views.specs.Hits;
 
-use crate::reason_without_rule::NoRule;
 use session_state::Verdict;
+
+/// Why a packet met a verdict that is no rule's.
+#[derive(Clone, Copy)]
+pub enum NoRule {
+    Session,
+    ByDefault,
+    Full,
+    Worn,
+    NoPages,
+    NotIp,
+    Malformed,
+    Short,
+}
 
 // Whether a packet with this verdict is counted for this reason.
 fn has_reason(reason: NoRule, verdict: Verdict) -> bool

@@ -6,7 +6,7 @@ ghost use Rattle.packet_view.specs.Frames.{frame_facts};
 ghost use Rattle.racl_views.specs.Deciding;
 ghost use Rattle.racl_views.specs.Deciding.{IsDecided};
 
-use crate::rule_name::RuleName;
+use crate::rule_numbering::RuleName;
 use acl_policy::Policy;
 use packet_view::{Frame, Packet};
 use packet_words::{packet_as_seen, rule_number};

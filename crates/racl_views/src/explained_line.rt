@@ -5,8 +5,8 @@ ghost use Rattle.racl_views.specs.ExplainedLines.{decided_text, explained_line, 
 ghost use Rattle.racl_views.specs.RuleTexts.{shown_of};
 
 use crate::packet_entry::{Entry, PacketPlace};
+use crate::rule_table::RuleText;
 use crate::rule_texts_in_policy::text_at;
-use crate::shown_rule_text::RuleText;
 use packet_words::{push_numbered, push_packet, push_verdict};
 use racl_io::{Numeral, Piece, push_name};
 use session_state::Verdict;

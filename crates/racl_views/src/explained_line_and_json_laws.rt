@@ -13,7 +13,7 @@ ghost use Rattle.racl_views.specs.Hits.{hit_object};
 ghost use Rattle.racl_views.specs.Objects.{ReadsBack};
 ghost use Rattle.racl_views.specs.PacketObjects.{packet_object, totals_object, truncation_object};
 ghost use Rattle.racl_views.specs.SessionLines.{FlowFacts, session_object};
-ghost use Rattle.racl_views.specs.declared.hit.Hit.{Hit};
+ghost use Rattle.racl_views.specs.declared.hit_counts.Hit.{Hit};
 
 /// The form of the report in explained lines: each begins with the plain report's line, up to its line feed.
 pub fn explained_lines_begin_as_the_report()

@@ -4,7 +4,7 @@ ghost use Rattle.racl_views.specs.inner.Tellings.{entry_by, line_named};
 
 use crate::explained_line::push_explained;
 use crate::packet_entry::{PacketPlace, entry_of};
-use crate::packet_telling::Telling;
+use crate::run_and_verdicts::Telling;
 use packet_view::Packet;
 use racl_io::{PacketLine, Piece};
 use session_state::{Verdict, has_line};

@@ -8,8 +8,7 @@ ghost use Rattle.session_state.specs.declared.flow.Flow.{Flow};
 ghost use Rattle.racl_views.specs.SessionLines as line;
 ghost use Rattle.racl_views.specs.SessionLines.{SaysPacket, flow_facts, flow_of_key};
 
-use crate::stored_flow::StoredFlow;
-use crate::stored_flow_end::FlowEnd;
+use crate::stored_flow::{FlowEnd, StoredFlow};
 use packet_view::Family;
 
 // The flow between two addresses, where the last word of its key is this.

@@ -1,18 +1,18 @@
-//! Counts of packets, of which hits are told.
+//! Counts of packets, and the hits that are told of them.
 ghost use Rattle.std.specs.Prelude.{◌≡◌, ◌+◌, ◌-◌, ◌<◌, ◌≤◌, ◌==◌, ◌^◌, ℕ, [], IfSome, OnOk, count_by, get_or, if◌then◌else◌, length, max};
 ghost use Rattle.packet_view.specs.CheckedCaptures.{remaining};
 ghost use Rattle.acl_policy.specs.Policies.{PolicyFacts, policy_facts};
-ghost use Rattle.racl_views.specs.declared.rule_name.RuleName as code;
+ghost use Rattle.racl_views.specs.declared.rule_numbering.RuleName as code;
 ghost use Rattle.racl_views.specs.inner.Places.{place_of};
 ghost use Rattle.racl_views.specs.inner.Counts.{AreCountedOn};
 ghost use Rattle.racl_views.specs.Deciding.{decided_by};
 ghost use Rattle.racl_views.specs.HitCounts.{HaveCounted, HaveCountedOn, MayCount};
 ghost use Rattle.racl_views.specs.Hits;
 
-use crate::counting_reasons::{ReasonCounts, count_reasons, no_reasons};
+use crate::counting_reasons::{NoRule, ReasonCounts, count_reasons, no_reasons};
 use crate::deciding_rule::deciding_rule;
 use crate::place_of_rule::{place, reach_rule_place};
-use crate::rule_name::RuleName;
+use crate::rule_numbering::{RuleLine, RuleName};
 use acl_policy::Policy;
 use packet_view::Packets;
 use session_state::Verdict;
@@ -28,6 +28,21 @@ pub struct HitCounts {
     pub entered: u64,
     /// The latest second of any.
     pub latest: u32,
+}
+
+/// How many packets or sessions there are of a kind.
+#[derive(Clone, Copy)]
+pub enum Hit {
+    /// Packets that a rule decided.
+    Rule(RuleLine, u64),
+    /// Packets whose verdict is no rule's, for this reason.
+    Unruled(NoRule, u64),
+    /// Sessions that were entered.
+    Entered(u64),
+    /// Packets that these let through.
+    Matched(u64),
+    /// Sessions that were entered and have expired.
+    Expired(u64),
 }
 
 // Counts one packet more at the place of a rule.

@@ -11,27 +11,22 @@ ghost use Rattle.packet_words.specs.PacketWords.{numbered};
 ghost use Rattle.racl_views.specs.RuleTexts.{shown_of};
 ghost use Rattle.racl_views.specs.RunEntries.{RunFacts, run_facts};
 ghost use Rattle.racl_views.specs.Stored.{stored_facts};
-ghost use Rattle.racl_views.specs.declared.hit.Hit.TheVariants.{Rule, Unruled};
-ghost use Rattle.racl_views.specs.declared.rule_name.RuleName.{RuleName};
+ghost use Rattle.racl_views.specs.declared.hit_counts.Hit.TheVariants.{Rule, Unruled};
+ghost use Rattle.racl_views.specs.declared.rule_numbering.RuleName.{RuleName};
 ghost use Rattle.racl_views.specs.inner.Counts.{Count};
 
-use crate::appended_line::append_line_text;
-use crate::counting_reasons::ReasonCounts;
-use crate::hit::Hit;
-use crate::hit_counts::HitCounts;
+use crate::counting_reasons::{NoRule, ReasonCounts};
+use crate::hit_counts::{Hit, HitCounts};
 use crate::json_fields::{
     add_line, add_number, add_string, add_way, begin_json_object, end_json_object,
 };
 use crate::place_of_rule::number_at;
-use crate::reason_without_rule::NoRule;
-use crate::rule_name::RuleLine;
-use crate::rule_numbering::numbered_rules;
+use crate::rule_numbering::{RuleLine, numbered_rules};
+use crate::rule_table::RuleText;
 use crate::rule_texts_in_policy::{text_at, texts_of};
 use crate::run_and_verdicts::Run;
-use crate::session_counts::{SessionCounts, count_sessions};
-use crate::shown_rule_text::RuleText;
-use crate::stored_pairs::StoredPairs;
-use crate::text_or_json::TextOrJson;
+use crate::session_counts::{SessionCounts, StoredPairs, count_sessions};
+use crate::sessions_as_text_and_json::{TextOrJson, append_line_text};
 use packet_view::Direction;
 use packet_words::push_numbered;
 use racl_io::Piece;

@@ -9,8 +9,8 @@ ghost use Rattle.packet_words.specs.PacketWords.{address_text};
 ghost use Rattle.racl_views.specs.RuleTexts.{shown_of};
 ghost use Rattle.racl_views.specs.inner.Fields.{HasAdded, fields_tokens};
 
+use crate::rule_table::RuleText;
 use crate::rule_texts_in_policy::text_at;
-use crate::shown_rule_text::RuleText;
 use json::Writer;
 use packet_view::{Direction, Family};
 use std::alloc::AllocError;

@@ -15,7 +15,7 @@ use crate::json_fields::{
     end_json_object,
 };
 use crate::packet_entry::Entry;
-use crate::shown_rule_text::RuleText;
+use crate::rule_table::RuleText;
 use json::Writer;
 use packet_view::{Family, Fields, Frame, Tuple};
 use packet_words::has_fields;

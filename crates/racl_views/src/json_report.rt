@@ -14,10 +14,9 @@ ghost use Rattle.racl_views.specs.inner.Tellings.{IsTableOf, entries_by, entry_b
 
 use crate::json_objects::{push_packet, push_totals, push_truncation};
 use crate::packet_entry::entry_of;
-use crate::packet_telling::Telling;
 use crate::rule_lines_by_place::rule_table_by_place;
 use crate::rule_table::RuleTable;
-use crate::run_and_verdicts::Run;
+use crate::run_and_verdicts::{Run, Telling};
 use acl_policy::Policy;
 use packet_view::{Packet, Packets};
 use racl_io::{Captured, Fault, Sink, Teller, Totals, passed, totals_on, write_all};

@@ -2,7 +2,6 @@
 //! chosen packets as a capture.
 #![tactic(auto)]
 
-mod appended_line;
 mod byte_batch;
 mod capture_bytes;
 mod capture_of_chosen;
@@ -13,31 +12,21 @@ mod explained_line;
 mod explained_line_and_json_laws;
 mod explained_packet_line;
 mod flow_key;
-mod hit;
 mod hit_counts;
 mod hits_as_text_and_json;
 mod json_fields;
 mod json_objects;
 mod json_report;
-mod line_room;
 mod packet_entry;
-mod packet_telling;
 mod place_of_rule;
-mod reason_without_rule;
 mod rule_lines_by_place;
-mod rule_name;
 mod rule_numbering;
 mod rule_table;
 mod rule_texts_in_policy;
 mod run_and_verdicts;
 mod session_counts;
 mod sessions_as_text_and_json;
-mod shown_rule_text;
-mod spot_between_rules;
 mod stored_flow;
-mod stored_flow_end;
-mod stored_pairs;
-mod text_or_json;
 mod writing_explained_lines;
 
 pub use capture_bytes::{CaptureBytes, packets_in};
@@ -49,12 +38,10 @@ pub use hit_counts::HitCounts;
 pub use hits_as_text_and_json::{counted_hits_text, hits_text};
 pub use json_report::{ObjectLines, write_object_ends, write_objects};
 pub use rule_lines_by_place::{line_of, rule_table_by_place};
-pub use rule_name::{RuleLine, RuleName};
-pub use rule_numbering::numbered_rules;
+pub use rule_numbering::{RuleLine, RuleName, numbered_rules};
 pub use rule_table::RuleTable;
 pub use rule_texts_in_policy::text_at;
 pub use run_and_verdicts::Run;
-pub use sessions_as_text_and_json::sessions_text;
-pub use stored_pairs::StoredPairs;
-pub use text_or_json::TextOrJson;
+pub use session_counts::StoredPairs;
+pub use sessions_as_text_and_json::{TextOrJson, sessions_text};
 pub use writing_explained_lines::{ExplainedLines, write_explained};

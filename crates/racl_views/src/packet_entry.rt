@@ -2,7 +2,7 @@
 ghost use Rattle.std.specs.Prelude.{◌≡◌, List};
 ghost use Rattle.packet_view.specs.Captures.{packet_facts};
 ghost use Rattle.acl_policy.specs.Policies.{policy_facts};
-ghost use Rattle.racl_views.specs.declared.rule_name.RuleLine as code;
+ghost use Rattle.racl_views.specs.declared.rule_numbering.RuleLine as code;
 ghost use Rattle.racl_views.specs.Entries.{entry_facts};
 ghost use Rattle.racl_views.specs.inner.EntryLists.{AreAtPlaces, entry_on};
 

@@ -3,7 +3,7 @@ ghost use Rattle.std.specs.Prelude.{◌≡◌, ◌<◌, ◌^◌, ℕ, OnOk, get_
 ghost use Rattle.racl_views.specs.inner.Places;
 ghost use Rattle.racl_views.specs.inner.Places.{place_of};
 
-use crate::rule_name::RuleName;
+use crate::rule_numbering::RuleName;
 use packet_view::Direction;
 use std::alloc::AllocError;
 

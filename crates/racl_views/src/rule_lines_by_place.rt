@@ -1,13 +1,12 @@
 //! The lines of rules, each at its rule's place.
 ghost use Rattle.std.specs.Prelude.{◌≡◌, ◌<◌, ◌==◌, ◌^◌, ◌∷◌, ℕ, List, IfOk, IfSome, OnOk, get_or, if◌then◌else◌};
-ghost use Rattle.racl_views.specs.declared.rule_name.RuleLine as code;
+ghost use Rattle.racl_views.specs.declared.rule_numbering.RuleLine as code;
 ghost use Rattle.racl_views.specs.Entries.{line_deciding};
 ghost use Rattle.racl_views.specs.inner.EntryLists.{AreAtPlaces};
 ghost use Rattle.racl_views.specs.inner.Tellings.{IsTableOf};
 
 use crate::place_of_rule::{number_at, place, reach_rule_place};
-use crate::rule_name::{RuleLine, RuleName};
-use crate::rule_numbering::numbered_rules;
+use crate::rule_numbering::{RuleLine, RuleName, numbered_rules};
 use crate::rule_table::RuleTable;
 use crate::rule_texts_in_policy::texts_of;
 use std::alloc::{AllocError, Global};

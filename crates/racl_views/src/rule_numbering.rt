@@ -1,4 +1,4 @@
-//! The rules of a policy's text, with their numbers and lines.
+//! The rules of a policy's text, with their names, numbers and lines.
 ghost use Rattle.std.specs.Prelude.{◌≡◌, ◌+◌, ◌<◌, ◌++◌, [], ◌∷◌, List, IfOk, OnOk, length, map};
 ghost use Rattle.std.specs.Str.Lines.{lines};
 ghost use Rattle.acl_policy.specs.Lines.{LineFacts};
@@ -7,11 +7,34 @@ ghost use Rattle.acl_policy.specs.inner.Reading.Lines.{line_facts};
 ghost use Rattle.racl_views.specs.RuleLines.{AreRules, rule_here, rules_from};
 ghost use Rattle.racl_views.specs.inner.Spots.{IsBehind, IsShort, listed, said};
 
-use crate::rule_name::{RuleLine, RuleName};
-use crate::spot_between_rules::Spot;
 use acl_policy::{Line, line_of};
 use packet_view::Direction;
 use std::alloc::{AllocError, Global};
+
+/// A rule of a policy. Rules are numbered from 1 in each direction of an interface's section.
+#[derive(Clone, Copy, Debug, PartialEq, Eq)]
+pub struct RuleName {
+    pub interface: u8,
+    pub direction: Direction,
+    pub number: u64,
+}
+
+/// A rule, and the line of the policy's text where it stands, counted from 1.
+#[derive(Clone, Copy, Debug, PartialEq, Eq)]
+pub struct RuleLine {
+    pub rule: RuleName,
+    pub line: u64,
+}
+
+/// What the lines before a spot say of the rules behind it.
+#[derive(Clone, Copy)]
+pub struct Spot {
+    /// The interface whose section goes on.
+    pub interface: u8,
+    /// How many rules of each direction its section has so far.
+    pub inbound: u64,
+    pub outbound: u64,
+}
 
 // Numbers a rule of the section that goes on at the spot, in the line with this number.
 fn numbered(spot: &Spot, direction: Direction, others: u64, line: u64) -> RuleLine

@@ -1,8 +1,15 @@
-//! What is looked up of a policy's rules.
+//! What is looked up of a policy's rules: their lines, and what is shown of each.
+ghost use Rattle.std.specs.Prelude.{◌≤◌, length};
 ghost use Rattle.racl_views.specs.inner.EntryLists.{AreAtPlaces};
 
-use crate::rule_name::RuleLine;
-use crate::shown_rule_text::RuleText;
+use crate::rule_numbering::RuleLine;
+
+/// The text of a rule, as it is shown: few bytes of one line.
+#[derive(Clone, Copy)]
+pub struct RuleText<'a> {
+    pub text: &'a str,
+    pub ghost short: { length text.now ≤ 200 },
+}
 
 /// The rules of a policy's text, the line of each at its place, and what is shown of each line.
 #[derive(Drop)]

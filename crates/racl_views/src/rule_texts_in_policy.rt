@@ -6,7 +6,7 @@ ghost use Rattle.acl_policy.specs.Words.{without_comment};
 ghost use Rattle.racl_views.specs.RuleTexts;
 ghost use Rattle.racl_views.specs.RuleTexts.{from_word, rule_texts, shown_of, shown_or, without_end};
 
-use crate::shown_rule_text::RuleText;
+use crate::rule_table::RuleText;
 use acl_policy::{before_comment, is_blank, word_start};
 use std::alloc::{AllocError, Global};
 

@@ -1,5 +1,5 @@
-//! What a run had, and what came of it.
-
+//! What a run had and what came of it, and how its packets are told.
+use crate::rule_table::RuleTable;
 use acl_policy::Policy;
 use packet_view::Packets;
 use racl_io::Captured;
@@ -14,4 +14,12 @@ pub struct Run<'a> {
     pub verdicts: &'a [Verdict],
     pub captures: &'a [Captured],
     pub shown: Shown,
+}
+
+/// How packets are told: which of them, and under which policy, whose rules stand in the table.
+#[derive(Clone, Copy)]
+pub struct Telling<'a, 'b> {
+    pub shown: Shown,
+    pub policy: &'a Policy,
+    pub table: &'b RuleTable<'a>,
 }

@@ -1,4 +1,4 @@
-//! Counts of sessions: how many were entered, how many packets they let through, and how many have expired.
+//! The sessions that stand in tables, and how many were entered, let packets through, and have expired.
 ghost use Rattle.std.specs.Prelude.{◌≡◌, not};
 ghost use Rattle.session_state.specs.Sessions.{is_expired_at};
 ghost use Rattle.racl_views.specs.Hits.{live_among};
@@ -6,7 +6,6 @@ ghost use Rattle.racl_views.specs.Stored.{stored_facts};
 ghost use Rattle.racl_views.specs.inner.CountedSessions.{sessions_by};
 
 use crate::hit_counts::HitCounts;
-use crate::stored_pairs::StoredPairs;
 use session_state::{Session, Timeouts};
 
 /// How many sessions a run entered, how many packets they let through, and how many have expired.
@@ -15,6 +14,14 @@ pub struct SessionCounts {
     pub entered: u64,
     pub matched: u64,
     pub expired: u64,
+}
+
+/// The pairs of the tables of both families: the words of a flow's key, and the word of its session. They are told
+/// in this order.
+#[derive(Drop)]
+pub struct StoredPairs {
+    pub four: Vec<([u64; 2], u64)>,
+    pub six: Vec<([u64; 5], u64)>,
 }
 
 // Whether the session in this word is counted as live at a moment.

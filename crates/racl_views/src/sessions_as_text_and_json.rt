@@ -10,19 +10,31 @@ ghost use Rattle.racl_views.specs.SessionLines.{end_facts, flow_facts, pair_told
 ghost use Rattle.racl_views.specs.Stored.{stored_facts};
 ghost use Rattle.racl_views.specs.inner.Fields.{HasAdded};
 
-use crate::appended_line::append_line_text;
 use crate::flow_key::{four_flow, six_flow};
 use crate::json_fields::{add_address, add_number, begin_json_object, end_json_object};
-use crate::line_room::Room;
-use crate::stored_flow::StoredFlow;
-use crate::stored_flow_end::FlowEnd;
-use crate::stored_pairs::StoredPairs;
-use crate::text_or_json::TextOrJson;
+use crate::session_counts::StoredPairs;
+use crate::stored_flow::{FlowEnd, StoredFlow};
 use json::Writer;
 use packet_words::{push_address, push_line_flags, push_line_protocol, push_numbered};
 use racl_io::Piece;
 use session_state::{Session, Timeouts};
 use std::alloc::{AllocError, Global};
+
+/// Room in which lines are made: a piece for a line of text, and for an object the text of an address.
+#[derive(Drop)]
+pub struct Room {
+    pub piece: Piece,
+    pub address: String,
+}
+
+/// In which form hits and sessions are told.
+#[derive(Clone, Copy)]
+pub enum TextOrJson {
+    /// Lines of text.
+    Text,
+    /// Objects of JSON, one a line.
+    Json,
+}
 
 // The port of an end in the text of a session, where the protocol has ports.
 fn push_flow_end_port(piece: &mut Piece, proto: u8, port: u16)
@@ -164,6 +176,15 @@ fn session_object(
     add_number(&mut object, "last", u64::from(session.last()))?;
     add_number(&mut object, "until", session_live_until(times, session))?;
     end_json_object(object, text)
+}
+
+/// Puts the line that is in the piece behind the text of those before it. An `Err` says that memory ran out.
+pub fn append_line_text(text: Vec<u8>, piece: &Piece) -> Result<Vec<u8>, AllocError>
+    ensures { IfOk result (λ new. new.items ≡ text.items ++ piece.now) }
+{
+    let mut text = text;
+    text.extend_from_slice(piece.as_slice())?;
+    Ok(text)
 }
 
 // What is told of a session behind a text.

@@ -2,8 +2,14 @@
 ghost use Rattle.std.specs.Prelude.{◌<◌};
 ghost use Rattle.packet_view.specs.Addresses.{address_limit};
 
-use crate::stored_flow_end::FlowEnd;
 use packet_view::Family;
+
+/// One end of a flow, in host order. Without ports its port is 0.
+#[derive(Clone, Copy)]
+pub struct FlowEnd {
+    pub address: u128,
+    pub port: u16,
+}
 
 /// A flow at the interface with this number, and its ends in the order of its key: of an echo the one that asks first.
 #[derive(Clone, Copy)]

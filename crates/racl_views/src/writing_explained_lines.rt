@@ -12,10 +12,9 @@ ghost use Rattle.racl_views.specs.inner.PartWordings.{explained_wording};
 ghost use Rattle.racl_views.specs.inner.Tellings.{IsTableOf, entries_by, line_by};
 
 use crate::explained_packet_line::ExplainedLine;
-use crate::packet_telling::Telling;
 use crate::rule_lines_by_place::rule_table_by_place;
 use crate::rule_table::RuleTable;
-use crate::run_and_verdicts::Run;
+use crate::run_and_verdicts::{Run, Telling};
 use acl_policy::Policy;
 use packet_view::Packets;
 use racl_io::{

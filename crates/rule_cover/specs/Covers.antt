@@ -6,8 +6,8 @@ use Rattle.packet_view.specs.declared.tuple.Fields.{Fields}
 use Rattle.packet_view.specs.declared.tuple.Fields.TheVariants.{Absent, Ports, Tcp, Icmp}
 use Rattle.acl_policy.specs.Matching.{DecidesByDefault, Matches}
 use Rattle.acl_policy.specs.Rules.{RuleFacts}
-use Rattle.rule_cover.specs.declared.answer.Cover.{Cover}
-use Rattle.rule_cover.specs.declared.answer.Cover.TheVariants.{Left, Taken, Unknown}
+use Rattle.rule_cover.specs.declared.uncovered_packets.Cover.{Cover}
+use Rattle.rule_cover.specs.declared.uncovered_packets.Cover.TheVariants.{Left, Taken, Unknown}
 
 -- Ports are numbers of 16 bits; flags, types and codes are bytes.
 abbrev pub AreSmall : Fields → Type 0

@@ -1,7 +1,6 @@
 //! What rules leave of the packets that others match: one packet that none of them matches, or that there is none.
 #![tactic(auto)]
 
-mod answer;
 mod flag_cuts;
 mod numbers_of_rule;
 mod packet_in_region;
@@ -12,5 +11,4 @@ mod region_cuts;
 mod region_of_rule;
 mod uncovered_packets;
 
-pub use answer::Cover;
-pub use uncovered_packets::uncovered;
+pub use uncovered_packets::{Cover, uncovered};

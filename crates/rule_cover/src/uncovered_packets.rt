@@ -5,7 +5,6 @@ ghost use Rattle.acl_policy.specs.Rules.{rule_facts};
 ghost use Rattle.rule_cover.specs.Covers.{IsCover};
 ghost use Rattle.rule_cover.specs.inner.Pieces.{AddsShown, AreFirst};
 
-use crate::answer::Cover;
 use crate::packet_in_region::packet_in;
 use crate::packet_set::{PacketSet, Parting};
 use crate::piece_meeting::first_meeting;
@@ -13,7 +12,20 @@ use crate::region::Shown;
 use crate::region_cuts::{both, is_apart};
 use crate::region_of_rule::region_of;
 use acl_policy::Rule;
+use packet_view::Tuple;
 use std::alloc::{AllocError, Global};
+
+/// What rules leave of the packets that two other rules match both.
+#[derive(Clone, Copy, Debug, PartialEq, Eq)]
+pub enum Cover {
+    /// This packet.
+    Left(Tuple),
+    /// None: the rules from the first of these places to the last, counted from 0, take all such packets. The places name no
+    /// rule where there is no such packet.
+    Taken(usize, usize),
+    /// It was not found out in so many steps.
+    Unknown,
+}
 
 // Adds the packets that show this and that both rules match, whose uncovered ones are looked for.
 fn add_shown(

@@ -5,7 +5,7 @@ use Rattle.std.proofs.lemmas.List.{get_or_default, get_or-drop, get_or-set_other
 use Rattle.std.proofs.Math.Seq.{take-append_seam}
 use Rattle.std.proofs.lemmas.Option.{slice_get_read, slice_get-get_or, slice_get_within}
 use Rattle.rule_index.specs.declared.column.Column.{Column}
-use Rattle.rule_index.specs.declared.dimension.Dimension.{Dimension}
+use Rattle.rule_index.specs.declared.ranges_of_rules.Dimension.{Dimension}
 use Rattle.rule_index.specs.Rows.{bit_in}
 use Rattle.rule_index.specs.inner.Columns.{Holds}
 use Rattle.rule_index.specs.Dimensions.{Span}

@@ -5,7 +5,7 @@ use Rattle.std.proofs.lemmas.Bool.{cases_lt}
 use Rattle.std.proofs.lemmas.List.{get_or_append_left, length-append}
 use Rattle.std.proofs.lemmas.Option.{get_or_from_slice_get, slice_get-get_or, slice_get_within}
 use Rattle.std.proofs.Math.Seq.{get_or-append_seam}
-use Rattle.rule_index.specs.declared.dimension.Dimension.{Dimension}
+use Rattle.rule_index.specs.declared.ranges_of_rules.Dimension.{Dimension}
 use Rattle.rule_index.specs.Dimensions.{Spans}
 use Rattle.acl_policy.specs.Rules.{RuleFacts}
 

@@ -5,8 +5,8 @@ use Rattle.packet_view.specs.declared.tuple.Family.TheVariants.{V4, V6}
 use Rattle.packet_view.specs.declared.tuple.Fields.{Fields}
 use Rattle.packet_view.specs.declared.tuple.Fields.TheVariants.{Absent, Ports, Tcp, Icmp}
 use Rattle.packet_view.specs.Tuples.{TupleFacts}
-use Rattle.rule_index.specs.declared.dimension.Dimension.{Dimension}
-use Rattle.rule_index.specs.declared.dimension.Dimension.TheVariants.{Source, Dest, Protocol, First, Second}
+use Rattle.rule_index.specs.declared.ranges_of_rules.Dimension.{Dimension}
+use Rattle.rule_index.specs.declared.ranges_of_rules.Dimension.TheVariants.{Source, Dest, Protocol, First, Second}
 use Rattle.acl_policy.specs.Matching.{Matches}
 use Rattle.rule_index.specs.Rows.{IsWithin}
 use Rattle.acl_policy.specs.Rules.{RuleFacts}

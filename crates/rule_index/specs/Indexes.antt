@@ -2,7 +2,7 @@
 use Rattle.std.specs.Prelude.{◌≡◌, ◌<◌, ℕ, ◌+◌, ◌/◌, ◌^◌, List, length, slice_get, Some}
 use Rattle.packet_view.specs.Tuples.{TupleFacts}
 use Rattle.rule_index.specs.declared.column.Column.{Column}
-use Rattle.rule_index.specs.declared.dimension.Dimension.{Dimension}
+use Rattle.rule_index.specs.declared.ranges_of_rules.Dimension.{Dimension}
 use Rattle.rule_index.specs.Dimensions.{IsAt}
 use Rattle.acl_policy.specs.Matching.{Matches}
 use Rattle.rule_index.specs.Numbered.{numbered_bit}

@@ -6,9 +6,21 @@ ghost use Rattle.packet_view.specs.Tuples.{TupleFacts, tuple_facts};
 ghost use Rattle.rule_index.specs.inner.Candidates.{AllSift, AreLong};
 ghost use Rattle.rule_index.specs.inner.Sieves.{KeepsMatches, MatchesAt, NoneBefore, NotAt};
 
-use crate::candidate_rows::Candidates;
+use crate::numbered_row::Row;
 use acl_policy::{Action, Rule, is_match};
 use packet_view::Tuple;
+
+/// For one packet, a row of each kind: a rule that matches has its bit in all of them.
+#[derive(Clone, Copy)]
+pub struct Candidates<'a> {
+    pub source: Row<'a>,
+    pub dest: Row<'a>,
+    pub protocol: Row<'a>,
+    pub first: Row<'a>,
+    pub second: Row<'a>,
+    /// That of its flags, where it has them.
+    pub flags: Option<&'a [u64]>,
+}
 
 /// What the candidate at a place of the rules does, where it matches.
 fn match_at(rules: &[Rule], tuple: &Tuple, place: usize) -> Option<Action>

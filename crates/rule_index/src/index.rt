@@ -1,22 +1,21 @@
-//! Rules prepared for many packets, and the rule of a packet found by them.
-ghost use Rattle.std.specs.Prelude.{◌≡◌, ◌≤◌, ◌<◌, ℕ, IfOk, IfSome, Option, length, map};
+//! Rules prepared for many packets, when to prepare them, and the rule of a packet found by them.
+ghost use Rattle.std.specs.Prelude.{◌≡◌, ◌≤◌, ◌<◌, ◌↔◌, ℕ, IfOk, IfSome, Option, length, map, IsTrue};
 ghost use Rattle.acl_policy.specs.declared.rule.Action.{Action};
 ghost use Rattle.acl_policy.specs.Matching.{IsRuling};
 ghost use Rattle.acl_policy.specs.Rules.{most_rules, rule_facts};
 ghost use Rattle.packet_view.specs.Tuples.{tuple_facts};
 ghost use Rattle.rule_index.specs.inner.Candidates.{AllSift};
-ghost use Rattle.rule_index.specs.declared.dimension.Dimension.TheVariants.{Dest, First, Protocol, Second, Source};
+ghost use Rattle.rule_index.specs.declared.ranges_of_rules.Dimension.TheVariants.{Dest, First, Protocol, Second, Source};
 ghost use Rattle.rule_index.specs.Dimensions.{IsAt, IsFirst, IsSecond};
 ghost use Rattle.rule_index.specs.FlagBits.{SievesFlags};
 ghost use Rattle.rule_index.specs.Flagged.{IsFlagsOf};
 ghost use Rattle.rule_index.specs.Indexes.{Sieves};
+ghost use Rattle.rule_index.specs.inner.Worth.{IsWorthPreparing};
 
-use crate::candidate_rows::Candidates;
 use crate::column::Column;
-use crate::dimension::Dimension;
-use crate::first_candidate::first_of;
+use crate::first_candidate::{Candidates, first_of};
 use crate::flag_rows::FlagRows;
-use crate::ranges_of_rules::base_of;
+use crate::ranges_of_rules::{Dimension, base_of};
 use acl_policy::{Action, Rule};
 use packet_view::{Fields, Tuple};
 use std::alloc::{AllocError, Global};
@@ -127,4 +126,14 @@ impl RuleIndex {
     {
         first_of(&self.rules, tuple, &self.candidates(tuple))
     }
+}
+
+/// Whether rules are to be prepared for this many packets.
+///
+/// Up to 64 rules are searched one by one as fast. More are prepared in the time in which this many packets are searched
+/// one by one, as `bench/measure_rules` measures it.
+pub fn worth_preparing(rules: usize, packets: usize) -> bool
+    ensures { IsTrue result ↔ IsWorthPreparing rules packets }
+{
+    rules > 64 && packets > rules / 2 && packets - rules / 2 > 2500
 }

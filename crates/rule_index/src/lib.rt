@@ -8,16 +8,12 @@
 #![tactic(auto)]
 
 mod bit_rows;
-mod candidate_rows;
 mod column;
-mod dimension;
 mod first_candidate;
 mod flag_rows;
 mod index;
 mod numbered_row;
 mod numbered_words;
 mod ranges_of_rules;
-mod when_to_prepare;
 
-pub use index::RuleIndex;
-pub use when_to_prepare::worth_preparing;
+pub use index::{RuleIndex, worth_preparing};

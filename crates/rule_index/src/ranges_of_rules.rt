@@ -6,12 +6,24 @@ ghost use Rattle.rule_index.specs.Rows.{IsWithin};
 ghost use Rattle.acl_policy.specs.Rules.{rule_facts};
 ghost use Rattle.acl_policy.specs.Widths.{width};
 
-use crate::dimension::Dimension;
 use acl_policy::{Rule, width_of};
 use packet_view::Family;
 use std::alloc::{AllocError, Global};
 
 const EVERY: (u128, u128) = (0, u128::MAX);
+
+/// A number of a packet.
+#[derive(Clone, Copy)]
+pub enum Dimension {
+    Source,
+    Dest,
+    /// The protocol and the family.
+    Protocol,
+    /// The source port, or the type of ICMP.
+    First,
+    /// The destination port, or the code of ICMP.
+    Second,
+}
 
 /// The range of the addresses that begin as a prefix does.
 #[tactic(auto, using(crate::proofs::RangeLemmas::in_block))]

@@ -1,5 +1,5 @@
 -- Which packets are of a shard, as a test.
-use Rattle.std.specs.Prelude.{◌≡◌, ◌+◌, ◌-◌, ◌%◌, ◌^◌, ◌==◌, ℕ, Option, Some, None}
+use Rattle.std.specs.Prelude.{◌≡◌, ◌+◌, ◌-◌, ◌%◌, ◌^◌, ◌==◌, ℕ, true, Option, Some, None}
 use Rattle.std.specs.Option.{ForSome}
 use Rattle.packet_view.specs.Captures.{PacketFacts}
 use Rattle.packet_view.specs.inner.FrameSteps.{view_of}
@@ -34,3 +34,8 @@ place_in shard number (Some flow) = bucket_in shard flow.key
 -- the packets of the shard
 abbrev pub own_of : Shard → Own
 own_of shard number packet = place_in shard number (flow_seen packet) % shard.count + 1 == shard.number
+
+-- those of the shard, or all where there is none
+abbrev pub own_among : Option Shard → Own
+own_among None = λ number packet. true
+own_among (Some shard) = own_of shard

@@ -21,8 +21,8 @@ use Rattle.capture_stream.specs.Histories.{AreRight, Follows}
 use Rattle.capture_stream.specs.Lives.{most_live}
 use Rattle.capture_stream.specs.Turns.{AreTurns, AreTurnsToLong, HasCaptureEnded, HaveCome, HaveComeToLong, Turn, cuts_of, packets_of}
 use Rattle.capture_stream.specs.inner.Lanes.{AreLanes, IsHeadFault, IsLane, IsShort}
-use Rattle.capture_stream.specs.declared.arrival.Arrival.{Arrival}
-use Rattle.capture_stream.specs.declared.arrival.FaultAt.{FaultAt}
+use Rattle.capture_stream.specs.declared.arrivals.Arrival.{Arrival}
+use Rattle.capture_stream.specs.declared.arrivals.FaultAt.{FaultAt}
 use Rattle.capture_stream.specs.declared.lane.Lane.{Lane}
 use Rattle.capture_stream.specs.declared.live_telling.Live.{Live}
 use Rattle.capture_stream.specs.declared.arrivals_telling.Coming.{Coming}

@@ -4,7 +4,7 @@ use Rattle.acl_policy.specs.Policies.{PolicyFacts}
 use Rattle.packet_words.specs.inner.ViewedPackets.{view_at}
 use Rattle.compared_verdicts.specs.Changes.{ChangeFacts, change_facts}
 use Rattle.compared_verdicts.specs.ChangeReports.{line_of}
-use Rattle.compared_verdicts.specs.declared.change.Change.{Change}
+use Rattle.compared_verdicts.specs.declared.change_lines.Change.{Change}
 
 abbrev pub line_by : PolicyFacts → ChangeFacts → List ℕ
 line_by policy change = line_of change (view_at policy change.packet)

@@ -18,7 +18,7 @@ use Rattle.capture_stream.specs.declared.windows_of_records.Found.{Found}
 use Rattle.compared_verdicts.specs.Changes.{ChangeFacts, PairFacts, changes_from}
 use Rattle.compared_verdicts.specs.ChangeReports.{totals_of, with_changes}
 use Rattle.compared_verdicts.specs.Comparing.{HasToldSome, changes_in}
-use Rattle.compared_verdicts.specs.declared.comparison.Comparison.{Comparison}
+use Rattle.compared_verdicts.specs.declared.compared_capture.Comparison.{Comparison}
 use Rattle.compared_verdicts.specs.inner.ChangeLines.{lines_by}
 
 -- where comparing may go on from: no more packets were compared than bytes were read before those that wait

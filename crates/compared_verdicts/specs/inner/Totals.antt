@@ -1,6 +1,6 @@
 -- Counts that so many packets may be added to.
 use Rattle.std.specs.Prelude.{◌+◌, ◌<◌, ◌^◌, ℕ}
-use Rattle.compared_verdicts.specs.declared.totals.ChangeTotals.{ChangeTotals}
+use Rattle.compared_verdicts.specs.declared.change_totals.ChangeTotals.{ChangeTotals}
 
 pub record HasRoom (totals : ChangeTotals) (more : ℕ) : Type 0 where
   pub changed : totals.changed + more < 2 ^ 64

@@ -6,10 +6,10 @@ use Rattle.acl_policy.specs.Matching.{DecidesByDefault, Matches}
 use Rattle.acl_policy.specs.Policies.{PolicyFacts}
 use Rattle.acl_policy.specs.Rules.{RuleFacts, rule_facts}
 use Rattle.rule_cover.specs.Covers.{IsPacket}
-use Rattle.rule_cover.specs.declared.answer.Cover.{Cover}
-use Rattle.rule_cover.specs.declared.answer.Cover.TheVariants.{Left, Taken, Unknown}
+use Rattle.rule_cover.specs.declared.uncovered_packets.Cover.{Cover}
+use Rattle.rule_cover.specs.declared.uncovered_packets.Cover.TheVariants.{Left, Taken, Unknown}
 use Rattle.policy_compare.specs.Comparisons.{AreApart, DifferBy, OwnDiffer, decider_at, rules_at}
-use Rattle.policy_compare.specs.declared.compared_rules.Sides.{Sides}
+use Rattle.policy_compare.specs.declared.taking_rules.Sides.{Sides}
 use Rattle.policy_compare.specs.declared.difference.Difference.{Difference}
 use Rattle.policy_compare.specs.declared.difference.Pair.{Pair}
 

@@ -2,7 +2,7 @@
 use Rattle.std.specs.Prelude.{◌≡◌, ◌≤◌, ◌<◌, ◌⊎◌, ℕ, ◌+◌, List, length, Option, Some, None, slice_get}
 use Rattle.acl_policy.specs.Rules.{RuleFacts}
 use Rattle.policy_check.specs.Remarks.{TakesAll}
-use Rattle.policy_compare.specs.declared.compared_rules.Limits.{Limits}
+use Rattle.policy_compare.specs.declared.taking_rules.Limits.{Limits}
 use Rattle.policy_compare.specs.inner.Found.{SidesFacts}
 
 -- The rule at this place takes all packets of another, or there is none; of no rule it is behind the last.

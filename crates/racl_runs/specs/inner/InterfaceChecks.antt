@@ -4,7 +4,7 @@ use Rattle.packet_view.specs.Captures.{PacketFacts}
 use Rattle.acl_policy.specs.Policies.{policy_facts}
 use Rattle.racl_options.specs.declared.settings.Options.{Options}
 use Rattle.racl_report.specs.InterfaceInputs.{AreTakenApart}
-use Rattle.racl_report.specs.declared.interface_input.InterfaceInput.{InterfaceInput}
+use Rattle.racl_report.specs.declared.interface_captures.InterfaceInput.{InterfaceInput}
 use Rattle.racl_runs.specs.Reads.{IsSaid}
 use Rattle.racl_runs.specs.declared.interface_run.RightInput.{RightInput}
 

@@ -4,8 +4,8 @@ use Rattle.packet_view.specs.Captures.{PacketFacts}
 use Rattle.acl_policy.specs.Policies.{PolicyFacts}
 use Rattle.session_state.specs.declared.verdict.Verdict.{Verdict}
 use Rattle.packet_words.specs.inner.ViewedPackets.{view_at}
-use Rattle.racl_views.specs.declared.rule_name.RuleLine.{RuleLine}
-use Rattle.racl_views.specs.declared.rule_name.RuleName.{RuleName}
+use Rattle.racl_views.specs.declared.rule_numbering.RuleLine.{RuleLine}
+use Rattle.racl_views.specs.declared.rule_numbering.RuleName.{RuleName}
 use Rattle.racl_views.specs.Deciding.{rule_on}
 use Rattle.racl_views.specs.Entries.{EntryFacts, line_among, line_deciding}
 use Rattle.racl_views.specs.inner.Places.{place_of}

@@ -5,7 +5,7 @@ use Rattle.acl_policy.specs.Policies.{PolicyFacts}
 use Rattle.racl_io.specs.declared.totals_and_truncation.Captured.{Captured}
 use Rattle.racl_io.specs.declared.totals_and_truncation.Totals.{Totals}
 use Rattle.racl_io.specs.Tellings.{Wording, end_text}
-use Rattle.racl_views.specs.declared.rule_name.RuleLine.{RuleLine}
+use Rattle.racl_views.specs.declared.rule_numbering.RuleLine.{RuleLine}
 use Rattle.racl_views.specs.Entries.{EntryFacts}
 use Rattle.racl_views.specs.ExplainedLines.{shown_line}
 use Rattle.racl_views.specs.Objects.{object_line, object_lines}

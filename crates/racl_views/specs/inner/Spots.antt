@@ -4,8 +4,8 @@ use Rattle.packet_view.specs.declared.tuple.Direction.TheVariants.{Inbound, Outb
 use Rattle.acl_policy.specs.Lines.{Blank, LineFacts}
 use Rattle.acl_policy.specs.inner.Reading.Lines.{line_in}
 use Rattle.racl_views.specs.RuleLines.{interface_behind, rules_behind}
-use Rattle.racl_views.specs.declared.rule_name.RuleLine.{RuleLine}
-use Rattle.racl_views.specs.declared.spot_between_rules.Spot.{Spot}
+use Rattle.racl_views.specs.declared.rule_numbering.RuleLine.{RuleLine}
+use Rattle.racl_views.specs.declared.rule_numbering.Spot.{Spot}
 
 -- what a line says, where it says something
 unfoldable pub said : List ℕ → LineFacts

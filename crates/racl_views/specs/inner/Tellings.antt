@@ -5,7 +5,7 @@ use Rattle.acl_policy.specs.Policies.{IsPolicyText, PolicyFacts, policy_facts}
 use Rattle.session_state.specs.declared.verdict.Verdict.{Verdict}
 use Rattle.racl_io.specs.declared.totals_and_truncation.Captured.{Captured}
 use Rattle.racl_views.specs.declared.rule_table.RuleTable.{RuleTable}
-use Rattle.racl_views.specs.declared.packet_telling.Telling.{Telling}
+use Rattle.racl_views.specs.declared.run_and_verdicts.Telling.{Telling}
 use Rattle.racl_views.specs.Entries.{EntryFacts}
 use Rattle.racl_views.specs.ExplainedLines.{shown_line}
 use Rattle.racl_views.specs.Objects.{object_lines}

@@ -2,7 +2,7 @@
 use Rattle.std.specs.Prelude.{◌≤◌, ℕ, List, length}
 use Rattle.acl_policy.specs.Rules.{RuleFacts}
 use Rattle.packet_view.specs.Tuples.{TupleFacts}
-use Rattle.rule_index.specs.declared.candidate_rows.Candidates.{Candidates}
+use Rattle.rule_index.specs.declared.first_candidate.Candidates.{Candidates}
 use Rattle.rule_index.specs.inner.NumberedRows.{words_of}
 use Rattle.rule_index.specs.inner.Sieves.{Sifts}
 use Rattle.std.specs.Option.{ForSome}

@@ -2,9 +2,9 @@
 use Rattle.std.proofs.Common.{◌≡◌, ◌∙◌, ap, sym}
 use Rattle.bihash_words.specs.Sizes.{bucket_of}
 use Rattle.bihash_c.specs.Kinds.{sizes_in, words_in}
-use Rattle.bihash_c.specs.declared.key.Key.{Key}
-use Rattle.bihash_c.specs.declared.table_kind.Kind.{Kind}
-use Rattle.bihash_c.specs.declared.table_kind.Kind.TheVariants.{Two, LargeTwo, Five, LargeFive}
+use Rattle.bihash_c.specs.declared.pair.Key.{Key}
+use Rattle.bihash_c.specs.declared.options.Kind.{Kind}
+use Rattle.bihash_c.specs.declared.options.Kind.TheVariants.{Two, LargeTwo, Five, LargeFive}
 use Rattle.bihash_c.proofs.bucket_of_key.bucket_in.Goals as goal
 
 of_kind : (key : Key) (kind met : Kind) → kind ≡ met

@@ -8,7 +8,7 @@ use Rattle.racl_io.specs.Sinks.{GotFront}
 use Rattle.capture_stream.specs.Histories.{AreRight, Follows, MayFollow}
 use Rattle.compared_verdicts.specs.Changes.{change_facts, changes_from, pair_facts}
 use Rattle.compared_verdicts.specs.ChangeReports.{with_changes}
-use Rattle.compared_verdicts.specs.declared.change.Change.{Change}
+use Rattle.compared_verdicts.specs.declared.change_lines.Change.{Change}
 use Rattle.compared_verdicts.specs.inner.ChangeLines.{lines_by, lines_told}
 use Rattle.compared_verdicts.specs.inner.Comparisons.{IsWaitingFault, changes_behind}
 use Rattle.compared_verdicts.specs.inner.Totals.{HasRoom}

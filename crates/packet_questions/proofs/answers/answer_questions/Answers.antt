@@ -6,7 +6,7 @@ use Rattle.session_state.specs.declared.verdict.Verdict.{Verdict}
 use Rattle.racl_io.specs.Reports.{totals_of}
 use Rattle.racl_views.specs.RunEntries.{RunFacts, run_facts}
 use Rattle.packet_questions.specs.Answers.{AreAnswers, answer_facts, asked_facts, packet_asked}
-use Rattle.packet_questions.specs.declared.asked_packet.AskedPacket.{AskedPacket}
+use Rattle.packet_questions.specs.declared.asked_packets.AskedPacket.{AskedPacket}
 use Rattle.packet_questions.proofs.answers.answer_questions.Goals as goal
 
 -- a run of these packets, of which so many are told

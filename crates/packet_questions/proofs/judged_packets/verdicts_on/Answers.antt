@@ -6,7 +6,7 @@ use Rattle.bihash_words.specs.contracts.flow_shapes.ShapeV4Shape.TheImpl as four
 use Rattle.bihash_words.specs.contracts.flow_shapes.ShapeV6Shape.TheImpl as six
 use Rattle.flow_filter.specs.OneThread.{layout_of}
 use Rattle.flow_dealing.specs.Dealings.{Deal}
-use Rattle.flow_dealing.specs.declared.dealing.Dealing.TheVariants.{Bucket}
+use Rattle.flow_dealing.specs.declared.worker_of_flow.Dealing.TheVariants.{Bucket}
 use Rattle.packet_questions.proofs.FewLaws.{pages_for_64}
 use Rattle.packet_questions.proofs.judged_packets.verdicts_on.Goals as goal
 

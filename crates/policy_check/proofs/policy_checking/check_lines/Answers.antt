@@ -8,7 +8,7 @@ use Rattle.acl_policy.specs.Policies.{SayPolicy}
 use Rattle.acl_policy.specs.inner.Reading.Policies.{DraftFacts, draft_facts}
 use Rattle.acl_policy.proofs.ReadingLaws.{nothing, nothing_said}
 use Rattle.policy_check.specs.Complaints.{AreSorted, ComplaintFacts, complaint_facts}
-use Rattle.policy_check.specs.declared.complaint.Complaint.{Complaint}
+use Rattle.policy_check.specs.declared.policy_checking.Complaint.{Complaint}
 use Rattle.policy_check.proofs.SortedLemmas.{AreAmid, amid_right, amid_wrong}
 use Rattle.policy_check.proofs.policy_checking.check_lines.Goals as goal
 

@@ -1,7 +1,7 @@
 use Rattle.std.proofs.Common.{List, arith, map, refl, subst, take}
 use Rattle.acl_policy.specs.Rules.{RuleFacts, rule_facts}
 use Rattle.rule_cover.specs.Covers.{AreTaken, IsCover}
-use Rattle.rule_cover.specs.declared.answer.Cover.{Cover}
+use Rattle.rule_cover.specs.declared.uncovered_packets.Cover.{Cover}
 use Rattle.policy_check.proofs.ShadowLemmas.{taken_in_list}
 use Rattle.policy_check.proofs.remarks_on_policy.shadow_of_several.Goals as goal
 

@@ -1,7 +1,7 @@
 use Rattle.std.proofs.Common.{List, map, subst}
 use Rattle.policy_expand.specs.Inclusions.{AllStand, AreOrdinary, StandsOnce, file_facts}
 use Rattle.policy_expand.specs.Sources.{source_facts}
-use Rattle.policy_expand.specs.declared.source_line.SourceLine.{SourceLine}
+use Rattle.policy_expand.specs.declared.file_lines.SourceLine.{SourceLine}
 use Rattle.policy_expand.proofs.InclusionLemmas.{whole_deeper, whole_ordinary}
 use Rattle.policy_expand.proofs.inclusion.included_lines.Goals as goal
 

@@ -1,7 +1,7 @@
 -- The judge that was made is behind the handle.
 use Rattle.std.proofs.Common.{◌∙◌, ap, inl, subst, sym}
 use Rattle.racl_c.specs.Contents.{IsNewBy}
-use Rattle.racl_c.specs.declared.place.Place.{Place}
+use Rattle.racl_c.specs.declared.handle.Place.{Place}
 use Rattle.racl_c.proofs.racl_calls.racl_new.Goals as goal
 
 pub returns-in-Ok-new : goal.returns-in-Ok-new

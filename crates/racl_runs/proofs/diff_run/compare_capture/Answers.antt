@@ -1,31 +1,24 @@
 use Rattle.std.proofs.Common.{refl, rules}
 use Rattle.std.proofs.lemmas.Result.{MatchResult-weaker}
-use Rattle.compared_verdicts.proofs.CompareLemmas.{all_as, fault_as, none_compared}
+use Rattle.compared_verdicts.proofs.CompareLemmas.{all_as, fault_as}
 use Rattle.racl_runs.specs.Crews.{orders_of}
 use Rattle.racl_runs.specs.DiffRuns.{policies_in}
 use Rattle.racl_runs.specs.LiveRuns.{ByOneWorker}
+use Rattle.racl_runs.proofs.DiffLemmas.{none_judged}
 use Rattle.racl_runs.proofs.LiveLemmas.{by_one_worker}
 use Rattle.racl_runs.proofs.diff_run.compare_capture.Goals as goal
 
 pub returns-in_default-clause-told : goal.returns-in_default-clause-told
-returns-in_default-clause-told g c =
-    let policies = policies_in c.args.head in let options = c.args.head.options.now in
-    none_compared policies (ByOneWorker options policies.before) (ByOneWorker options policies.after) c.args.head.order (g.R.Source.bytes c.args.reader.now) (g.W.Sink.bytes c.args.writer.now)
+returns-in_default-clause-told g c = none_judged c.args.head (g.R.Source.bytes c.args.reader.now) (g.W.Sink.bytes c.args.writer.now)
 
 pub returns-in_default-create_sized-clause-told : goal.returns-in_default-create_sized-clause-told
-returns-in_default-create_sized-clause-told g c =
-    let policies = policies_in c.args.head in let options = c.args.head.options.now in
-    none_compared policies (ByOneWorker options policies.before) (ByOneWorker options policies.after) c.args.head.order (g.R.Source.bytes c.args.reader.now) (g.W.Sink.bytes c.args.writer.now)
+returns-in_default-create_sized-clause-told g c = none_judged c.args.head (g.R.Source.bytes c.args.reader.now) (g.W.Sink.bytes c.args.writer.now)
 
 pub returns-in_default-new-clause-told : goal.returns-in_default-new-clause-told
-returns-in_default-new-clause-told g c =
-    let policies = policies_in c.args.head in let options = c.args.head.options.now in
-    none_compared policies (ByOneWorker options policies.before) (ByOneWorker options policies.after) c.args.head.order (g.R.Source.bytes c.args.reader.now) (g.W.Sink.bytes c.args.writer.now)
+returns-in_default-new-clause-told g c = none_judged c.args.head (g.R.Source.bytes c.args.reader.now) (g.W.Sink.bytes c.args.writer.now)
 
 pub returns-in_default-new-2-clause-told : goal.returns-in_default-new-2-clause-told
-returns-in_default-new-2-clause-told g c =
-    let policies = policies_in c.args.head in let options = c.args.head.options.now in
-    none_compared policies (ByOneWorker options policies.before) (ByOneWorker options policies.after) c.args.head.order (g.R.Source.bytes c.args.reader.now) (g.W.Sink.bytes c.args.writer.now)
+returns-in_default-new-2-clause-told g c = none_judged c.args.head (g.R.Source.bytes c.args.reader.now) (g.W.Sink.bytes c.args.writer.now)
 
 pub tell_changes-requires-clause-begun : goal.tell_changes-requires-clause-begun
 tell_changes-requires-clause-begun g c = (

@@ -3,7 +3,7 @@ use Rattle.acl_policy.specs.Policies.{policy_facts}
 use Rattle.racl_io.specs.declared.fault.Fault.TheVariants.{Memory}
 use Rattle.racl_io.specs.declared.totals_and_truncation.Totals.{Totals}
 use Rattle.racl_report.specs.InterfaceInputs.{placeless}
-use Rattle.racl_report.specs.declared.placed_fault.PlacedFault.{PlacedFault}
+use Rattle.racl_report.specs.declared.interface_captures.PlacedFault.{PlacedFault}
 use Rattle.racl_report.proofs.InterfaceLaws.{no_fault_apart}
 use Rattle.racl_runs.proofs.InterfaceLemmas.{fault_is_only, no_failed_write, one_outcome_apart, right_is_not_faulty}
 use Rattle.racl_runs.proofs.interface_run.run_interfaces.Goals as goal

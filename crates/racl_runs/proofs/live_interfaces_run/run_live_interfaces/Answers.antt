@@ -1,8 +1,8 @@
-use Rattle.std.proofs.Common.{◌∙◌, inl, refl, subst, sym}
-use Rattle.acl_policy.specs.Policies.{IsPolicyText, policy_facts}
-use Rattle.acl_policy.specs.declared.policy.Policy.{Policy}
+use Rattle.std.proofs.Common.{◌∙◌, inl, refl}
+use Rattle.acl_policy.specs.Policies.{policy_facts}
 use Rattle.capture_stream.proofs.ArrivalLemmas.{gives_none}
 use Rattle.racl_runs.proofs.LiveInterfaceLemmas.{run_ends, wrong_text}
+use Rattle.racl_runs.proofs.LiveLemmas.{ready_says}
 use Rattle.racl_runs.proofs.live_interfaces_run.run_live_interfaces.Goals as goal
 
 pub returns-in-Err-clause-told : goal.returns-in-Err-clause-told
@@ -15,12 +15,16 @@ returns-in_default-clause-told g c = inl (gives_none (g.A.Arrivals.parts c.args.
 pub returns-in_default-ready_with-clause-told : goal.returns-in_default-ready_with-clause-told
 returns-in_default-ready_with-clause-told g c = inl (gives_none (g.A.Arrivals.parts c.args.arrivals.now), refl, c.placeless-in_default-ready_with.ensures.1, inl c.placeless-in_default-ready_with.ensures.0)
 
-pub tell_captures_as_asked-requires-clause-says : goal.tell_captures_as_asked-requires-clause-says
-tell_captures_as_asked-requires-clause-says g c κs lives =
-    subst (λ (p : Policy). IsPolicyText c.args.asked.text.now (policy_facts p)) (sym c.in-Ok-ready_with.ensures.policy) c.in-Ok.ensures.ok
+pub returns-in_default-naming-clause-told : goal.returns-in_default-naming-clause-told
+returns-in_default-naming-clause-told g c = inl (gives_none (g.A.Arrivals.parts c.args.arrivals.now), refl, c.placeless-in_default-naming.ensures.1, inl c.placeless-in_default-naming.ensures.0)
+
+pub naming-requires : goal.naming-requires
+naming-requires g c = ready_says c.in-Ok-ready_with.ensures.policy c.in-Ok.ensures.ok
+
+pub tell_captures-requires-clause-says : goal.tell_captures-requires-clause-says
+tell_captures-requires-clause-says g c κs lives = ready_says c.in-Ok-ready_with.ensures.policy c.in-Ok.ensures.ok
 
 pub returns-clause-told : goal.returns-clause-told
 returns-clause-told g c =
-    let (wording, tells, told) = c.tell_captures_as_asked.ensures.told in
-    run_ends _ c.args.asked.options.now c.args.asked.text.now (policy_facts c.in-Ok-ready_with.ready.policy.now) _ _ _ _ wording c.tell_captures_as_asked.result
-    (subst (λ (p : Policy). IsPolicyText c.args.asked.text.now (policy_facts p)) (sym c.in-Ok-ready_with.ensures.policy) c.in-Ok.ensures.ok) tells told
+    run_ends _ c.args.asked.options.now c.args.asked.text.now (policy_facts c.in-Ok-ready_with.ready.policy.now) _ _ _ _ _ c.tell_captures.result
+    (ready_says c.in-Ok-ready_with.ensures.policy c.in-Ok.ensures.ok) c.in-Ok-naming.ensures c.tell_captures.ensures.told

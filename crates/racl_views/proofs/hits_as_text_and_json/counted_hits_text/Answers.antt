@@ -4,8 +4,8 @@ use Rattle.racl_views.specs.RuleLines.{AreRules}
 use Rattle.racl_views.specs.RuleTexts.{rule_texts, shown_of}
 use Rattle.racl_views.specs.Stored.{stored_facts}
 use Rattle.acl_policy.specs.Policies.{IsPolicyText}
-use Rattle.racl_views.specs.declared.hit.Hit.{Hit}
-use Rattle.racl_views.specs.declared.rule_name.RuleLine.{RuleLine}
+use Rattle.racl_views.specs.declared.hit_counts.Hit.{Hit}
+use Rattle.racl_views.specs.declared.rule_numbering.RuleLine.{RuleLine}
 use Rattle.racl_views.specs.declared.session_counts.SessionCounts.{SessionCounts}
 use Rattle.racl_views.proofs.hits_as_text_and_json.counted_hits_text.Goals as goal
 

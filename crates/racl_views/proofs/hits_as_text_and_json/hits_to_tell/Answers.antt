@@ -1,6 +1,6 @@
 use Rattle.std.proofs.Common.{◌∙◌, ◌++◌, List, ℕ, ap, append_assoc, subst, sym}
 use Rattle.racl_views.specs.Hits.{reason_hits, rule_hits, session_hits}
-use Rattle.racl_views.specs.declared.hit.Hit.{Hit}
+use Rattle.racl_views.specs.declared.hit_counts.Hit.{Hit}
 use Rattle.racl_views.specs.inner.Counts.{Count}
 use Rattle.racl_views.proofs.hits_as_text_and_json.hits_to_tell.Goals as goal
 

@@ -1,6 +1,6 @@
 use Rattle.std.proofs.Common.{◌≡◌, ◌++◌, List, Option, drop}
 use Rattle.racl_views.specs.Hits.{rule_hits}
-use Rattle.racl_views.specs.declared.rule_name.RuleName.{RuleName}
+use Rattle.racl_views.specs.declared.rule_numbering.RuleName.{RuleName}
 use Rattle.racl_views.specs.inner.Counts.{Count}
 use Rattle.racl_views.proofs.hits_as_text_and_json.push_rule_hits_to_tell.Given as goal
 

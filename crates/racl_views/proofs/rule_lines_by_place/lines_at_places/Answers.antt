@@ -1,5 +1,5 @@
 use Rattle.std.proofs.Common.{List, arith, drop, subst, sym}
-use Rattle.racl_views.specs.declared.rule_name.RuleLine.{RuleLine}
+use Rattle.racl_views.specs.declared.rule_numbering.RuleLine.{RuleLine}
 use Rattle.racl_views.specs.inner.EntryLists.{AreAtPlaces}
 use Rattle.racl_views.proofs.CountLemmas.{drop_before}
 use Rattle.racl_views.proofs.rule_lines_by_place.lines_at_places.Goals as goal

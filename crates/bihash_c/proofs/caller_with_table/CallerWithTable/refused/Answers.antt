@@ -1,7 +1,7 @@
 use Rattle.std.proofs.Common.{sym, subst}
 use Rattle.bihash_words.specs.Sizes.{sizes_of}
 use Rattle.bihash_c.specs.CallersWithTable.{IsEndTold}
-use Rattle.bihash_c.specs.declared.end_fault.EndFault.{EndFault}
+use Rattle.bihash_c.specs.declared.end_of_table.EndFault.{EndFault}
 use Rattle.bihash_c.proofs.LoneAnswers.{told_contended, told_strangers}
 use Rattle.bihash_c.proofs.caller_with_table.CallerWithTable.refused.Goals as goal
 use Rattle.bihash_c.proofs.caller_with_table.CallerWithTable.refused.Goals.{then-is_lone, else-is_lone}

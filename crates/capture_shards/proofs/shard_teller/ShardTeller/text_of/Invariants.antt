@@ -11,8 +11,8 @@ abbrev pub invariant-packets : goal.invariant-packets
 invariant-packets g l = record {
   counted : l.number + length l.left ≡ l.fn.others + length l.fn.verdicts;
   each : length l.left ≡ length (remaining l.packets);
-  told : l.text.inner.items ++ lines_in (shard_wording (own_of l.fn.self.shard) (g.L.Teller.wording l.fn.self.inner)) (l.number + 1) (remaining l.packets) l.left
-      ≡ lines_in (shard_wording (own_of l.fn.self.shard) (g.L.Teller.wording l.fn.self.inner)) (l.fn.others + 1) (remaining l.fn.packets) l.fn.verdicts;
+  told : l.text.inner.items ++ lines_in (shard_wording (own_of l.fn.shard) (g.L.Teller.wording l.fn.self.inner)) (l.number + 1) (remaining l.packets) l.left
+      ≡ lines_in (shard_wording (own_of l.fn.shard) (g.L.Teller.wording l.fn.self.inner)) (l.fn.others + 1) (remaining l.fn.packets) l.fn.verdicts;
   steady : l.text.failures ≡ 0;
   passing : l.passed + passed l.left ≡ passed l.fn.verdicts;
   same : g.L.Teller.wording l.self.inner ≡ g.L.Teller.wording l.fn.self.inner;

@@ -12,8 +12,8 @@ use Rattle.std.proofs.Crossing as heap
 use Rattle.std_alloc.proofs.SendSync.{quiet, lies}
 use Rattle.std_heap.proofs.Global.TheSendSync as handle
 use Rattle.racl_c.specs.Handles.{handle_owns}
-use Rattle.racl_c.specs.contracts.place.Place as Place
-use Rattle.racl_c.proofs.place.Place.TheSendSync.{the_send as place}
+use Rattle.racl_c.specs.contracts.handle.Place as Place
+use Rattle.racl_c.proofs.handle.Place.TheSendSync.{the_send as place}
 use Rattle.racl_c.specs.contracts.handle.Handle.{the_row, the_type}
 
 keyless : (a : Global) (p : Ptr) (m : Option Place.the_row.Denot) → Keyless (handle_owns a p m)

@@ -1,7 +1,7 @@
 -- `into_parts` moves two fields, and what they own goes with them.
 use mathlib.Core.Path.{◌≡◌, refl, sym, subst}
 use Rattle.std.specs.Prelude.{Option, Some}
-use Rattle.racl_c.specs.contracts.place.Place as Place
+use Rattle.racl_c.specs.contracts.handle.Place as Place
 use Rattle.racl_c.specs.contracts.handle.Handle as Handle
 use mathlib.Core.List.{List, [], ◌∷◌, ◌++◌}
 use seplogic.Ra.Ura.{Ura}

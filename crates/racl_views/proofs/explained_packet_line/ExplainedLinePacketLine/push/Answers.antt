@@ -1,7 +1,7 @@
 use Rattle.std.proofs.Common.{◌≡◌, ◌∙◌, ◌++◌, Bool, List, [], Option, ap, cond, map, rules, subst, sym, true, ℕ}
 use Rattle.packet_view.specs.Captures.{packet_facts}
 use Rattle.session_state.specs.Passes.{is_shown}
-use Rattle.racl_views.specs.declared.shown_rule_text.RuleText.{RuleText}
+use Rattle.racl_views.specs.declared.rule_table.RuleText.{RuleText}
 use Rattle.racl_views.specs.Entries.{EntryFacts, entry_facts}
 use Rattle.racl_views.specs.ExplainedLines.{explained_line}
 use Rattle.racl_views.specs.RuleTexts.{shown_of}

@@ -1,7 +1,7 @@
 use Rattle.std.proofs.Common.{map, refl}
 use Rattle.packet_view.specs.Tuples.{tuple_facts}
 use Rattle.acl_policy.specs.Rules.{rule_facts}
-use Rattle.rule_index.specs.declared.dimension.Dimension.TheVariants.{Dest, First, Protocol, Second, Source}
+use Rattle.rule_index.specs.declared.ranges_of_rules.Dimension.TheVariants.{Dest, First, Protocol, Second, Source}
 use Rattle.rule_index.specs.inner.NumberedRows.{words_of}
 use Rattle.rule_index.specs.inner.Sieves.{Sifts}
 use Rattle.rule_index.proofs.index.RuleIndex.candidates.Goals as goal
