@@ -79,6 +79,7 @@ pub fn judge_by_turns<A: Shape, B: Shape, R: Wait, G: Gate>(
     let mut packets = PacketBursts::new(batch.packets);
     let mut taken = 0;
     'packets: while let Some(packet) = packets.next() {
+        load_ahead_at(taken, batch.setup.tables, packets.found_ahead());
         let worker = judge_next(batch, taken, &packet, shares)?;
         judges.push(worker as u8)?;
         taken += 1;

@@ -44,7 +44,7 @@ where
     ensures { IfOk result (λ v. HaveAllSaid ⟦<A as Shape>⟧ ⟦<B as Shape>⟧ setup.entry (remaining packets.entry) v.items) }
 {
     match Workers::new(alloc, setup, callers) {
-        Ok(mut workers) => match workers.judge(alloc, packets) {
+        Ok(mut workers) => match workers.judge(alloc, packets, false) {
             Ok(()) => match workers.end(alloc) {
                 Ok((verdicts, _)) => Ok(verdicts),
                 Err(fault) => Err(fault),

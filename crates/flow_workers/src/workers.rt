@@ -100,9 +100,15 @@ where
     ghost use Rattle.std.specs.Prelude.{IfOk};
     ghost use Rattle.flow_workers.specs.Progress.{CanJudge, HaveJudged, HaveJudgedOn};
 
-    /// They judge these packets too, which follow those so far: each worker in a thread of its own where that pays. A worker
-    /// whose thread can't be made is run by the calling thread. `Memory`: memory was refused, and they judge no more.
-    pub fn judge(&mut self, alloc: Global, packets: Packets<'_>) -> Result<(), RunFault>
+    /// They judge these packets too, which follow those so far: each worker in a thread of its own, or by turns in the calling
+    /// thread where that is asked for or the packets are few. A worker whose thread can't be made is run by the calling thread.
+    /// `Memory`: memory was refused, and they judge no more.
+    pub fn judge(
+        &mut self,
+        alloc: Global,
+        packets: Packets<'_>,
+        by_turns: bool,
+    ) -> Result<(), RunFault>
         requires { CanJudge self.old packets }
         ensures { IfOk result (λ _. HaveJudged self.old packets.entry self.new) }
     {
@@ -117,7 +123,7 @@ where
             judge_by_one(&batch, &mut self.shares[0])?;
             return Ok(());
         }
-        let judged = if count < self.setup.many {
+        let judged = if by_turns || count < self.setup.many {
             judge_by_turns(alloc, &batch, &mut self.shares)
         } else {
             judge_in_threads(alloc, &batch, &mut self.shares, &mut self.rooms)
@@ -135,11 +141,12 @@ where
         &mut self,
         alloc: Global,
         packets: Packets<'_>,
+        by_turns: bool,
     ) -> Result<Vec<Verdict>, RunFault>
         requires { CanJudge self.old packets }
         ensures { IfOk result (λ verdicts. HaveJudgedOn self.old packets.entry self.new verdicts.items) }
     {
-        match self.judge(alloc, packets) {
+        match self.judge(alloc, packets, by_turns) {
             Ok(()) => Ok(self.hand_over(alloc)),
             Err(fault) => Err(fault),
         }

@@ -28,6 +28,7 @@ use std::io;
 use std::process::ExitCode;
 use std::sync::Wait;
 use std::thread::Threads;
+use std::time::Clock;
 
 fn main(rt: HostRuntime) -> ExitCode {
     let status = match status_of_main(&rt, &rt, rt.alloc()) {
@@ -39,7 +40,7 @@ fn main(rt: HostRuntime) -> ExitCode {
 
 // The main function's work: does what the program's words ask for, and answers the exit status. The workers' threads
 // come from `threads`.
-fn status_of_main<T: Threads + Wait + Sync + Copy + Send + 'static>(
+fn status_of_main<T: Clock + Threads + Wait + Sync + Copy + Send + 'static>(
     rt: &HostRuntime,
     threads: &T,
     alloc: Global,
@@ -92,7 +93,7 @@ fn is_told_early(asked: &Asked<'_>) -> bool {
 }
 
 // Runs the main program on all that standard input has, tells how that ended, and answers the exit status.
-fn status_of_standard<T: Threads + Wait + Sync>(
+fn status_of_standard<T: Clock + Threads + Wait + Sync>(
     rt: &HostRuntime,
     threads: &T,
     alloc: Global,
@@ -106,7 +107,7 @@ fn status_of_standard<T: Threads + Wait + Sync>(
 }
 
 // Runs the main program on the files of a policy and of a capture, tells how that ended, and answers the exit status.
-fn status_of_files<T: Threads + Wait + Sync>(
+fn status_of_files<T: Clock + Threads + Wait + Sync>(
     rt: &HostRuntime,
     threads: &T,
     alloc: Global,
@@ -140,7 +141,7 @@ fn status_of_files<T: Threads + Wait + Sync>(
 
 // Runs the main program from this source to standard output, and saves packets where that is asked for. Where these
 // can't be saved that is told, and None is answered.
-fn run_main_program<T: Threads + Wait + Sync, R: Source + Send>(
+fn run_main_program<T: Clock + Threads + Wait + Sync, R: Source + Send>(
     rt: &HostRuntime,
     threads: &T,
     alloc: Global,
@@ -177,7 +178,7 @@ fn run_main_program<T: Threads + Wait + Sync, R: Source + Send>(
 }
 
 // Runs the main program on captures of interfaces, tells how that ended, and answers the exit status.
-fn status_of_interfaces<T: Threads + Wait + Sync>(
+fn status_of_interfaces<T: Clock + Threads + Wait + Sync>(
     rt: &HostRuntime,
     threads: &T,
     alloc: Global,
@@ -205,7 +206,7 @@ fn status_of_interfaces<T: Threads + Wait + Sync>(
 
 // Runs the main program on the capture of a file, or on a shard of that, while it is read, saves packets where that is asked for,
 // tells how that ended, and answers the exit status. What was saved stays, however it ended.
-fn status_of_live<T: Threads + Wait + Sync>(
+fn status_of_live<T: Clock + Threads + Wait + Sync>(
     rt: &HostRuntime,
     threads: &T,
     alloc: Global,
@@ -254,7 +255,7 @@ fn status_of_live<T: Threads + Wait + Sync>(
 }
 
 // Runs the main program on captures of interfaces as they come, tells how that ended, and answers the exit status.
-fn status_of_live_interfaces<T: Threads + Wait + Sync + Copy + Send + 'static>(
+fn status_of_live_interfaces<T: Clock + Threads + Wait + Sync + Copy + Send + 'static>(
     rt: &HostRuntime,
     threads: &T,
     alloc: Global,
@@ -277,7 +278,7 @@ fn status_of_live_interfaces<T: Threads + Wait + Sync + Copy + Send + 'static>(
 
 // Compares the verdicts on the packets of a capture with those that the file of this name expects, tells how that ended, and
 // answers the exit status.
-fn status_of_expecting<T: Threads + Wait + Sync>(
+fn status_of_expecting<T: Clock + Threads + Wait + Sync>(
     rt: &HostRuntime,
     threads: &T,
     alloc: Global,
@@ -320,7 +321,7 @@ fn status_of_expecting<T: Threads + Wait + Sync>(
 
 // Compares the verdicts by two policies on the packets of a capture while it comes, tells how that ended, and answers the exit
 // status.
-fn status_of_diff<T: Threads + Wait + Sync>(
+fn status_of_diff<T: Clock + Threads + Wait + Sync>(
     rt: &HostRuntime,
     threads: &T,
     alloc: Global,

@@ -5,6 +5,7 @@ pub mod InterfaceRuns
 pub mod LiveInterfaceRuns
 pub mod LiveRuns
 pub mod LiveSaves
+pub mod Paces
 pub mod Reads
 pub mod Runs
 pub mod SavingRuns

@@ -16,6 +16,7 @@ ghost use Rattle.racl_runs.specs.inner.Plans.{HasReached, IsPlanFor, MayJudgeMar
 use crate::digit_captures::{Decoded, decode_captures};
 use crate::ended_workers::Ended;
 use crate::input_front::Marked;
+use crate::pace::Stopwatch;
 use crate::run_plan::plan_for;
 use crate::sized_tables_and_workers::{Manner, SizedWorkers, create_sized};
 use crate::stored_sessions::with_stored;
@@ -30,9 +31,10 @@ use racl_views::{CaptureBytes, packets_in};
 use std::alloc::Global;
 use std::sync::Wait;
 use std::thread::Threads;
+use std::time::Clock;
 
 // What these packets met, which workers judge in this manner. This is told of the captures that have them.
-fn judge_in_manner<T: Threads + Wait + Sync>(
+fn judge_in_manner<T: Clock + Threads + Wait + Sync>(
     rt: &T,
     alloc: Global,
     options: &Options,
@@ -52,7 +54,12 @@ fn judge_in_manner<T: Threads + Wait + Sync>(
     let Ok(workers) = SizedWorkers::new(rt, alloc, manner, &tables, callers) else {
         return Err(Fault::Memory);
     };
-    let mut crew = Crew { alloc, workers };
+    let watch = Stopwatch::new(rt);
+    let mut crew = Crew {
+        alloc,
+        workers,
+        watch,
+    };
     let Ok(_) = crew.judge(packets) else {
         return Err(Fault::Memory);
     };
@@ -69,7 +76,7 @@ fn judge_in_manner<T: Threads + Wait + Sync>(
 }
 
 /// What these packets met by this filter, by a plan for as many as they are. This is told of the captures that have them.
-pub fn judge_packets<T: Threads + Wait + Sync>(
+pub fn judge_packets<T: Clock + Threads + Wait + Sync>(
     rt: &T,
     alloc: Global,
     options: &Options,
@@ -97,7 +104,7 @@ pub fn judge_packets<T: Threads + Wait + Sync>(
 }
 
 // What the packets met of a capture where it stands, which is kept.
-fn judge_placed<T: Threads + Wait + Sync>(
+fn judge_placed<T: Clock + Threads + Wait + Sync>(
     rt: &T,
     alloc: Global,
     options: &Options,
@@ -123,7 +130,7 @@ fn judge_placed<T: Threads + Wait + Sync>(
 }
 
 // What the packets met of captures that were decoded, of which this is told.
-fn judge_decoded<T: Threads + Wait + Sync>(
+fn judge_decoded<T: Clock + Threads + Wait + Sync>(
     rt: &T,
     alloc: Global,
     options: &Options,
@@ -144,7 +151,7 @@ fn judge_decoded<T: Threads + Wait + Sync>(
 }
 
 // What the packets met of captures as digits, which are decoded, and kept.
-fn judge_digits<T: Threads + Wait + Sync>(
+fn judge_digits<T: Clock + Threads + Wait + Sync>(
     rt: &T,
     alloc: Global,
     options: &Options,
@@ -172,7 +179,7 @@ fn judge_digits<T: Threads + Wait + Sync>(
 }
 
 // What the packets met of all captures of an input, and these captures.
-fn judge_captures<T: Threads + Wait + Sync>(
+fn judge_captures<T: Clock + Threads + Wait + Sync>(
     rt: &T,
     alloc: Global,
     options: &Options,
@@ -194,7 +201,7 @@ fn judge_captures<T: Threads + Wait + Sync>(
 }
 
 /// What the packets of all captures met, of an input of which all was read; and what is kept of it.
-pub fn judge_at_hand<T: Threads + Wait + Sync>(
+pub fn judge_at_hand<T: Clock + Threads + Wait + Sync>(
     rt: &T,
     alloc: Global,
     options: &Options,

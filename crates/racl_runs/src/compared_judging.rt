@@ -9,6 +9,7 @@ use packet_view::Packets;
 use std::alloc::AllocError;
 use std::sync::Wait;
 use std::thread::Threads;
+use std::time::Clock;
 
 /// Workers, what is expected of their verdicts, how many packets they judged, and whether a verdict on one isn't as expected.
 #[derive(Drop)]
@@ -26,7 +27,7 @@ fn either(one: bool, other: bool) -> bool
     one || other
 }
 
-impl<'t, 'f, 'e, T: Threads + Wait + Sync> Judge for Comparing<'t, 'f, 'e, T> {
+impl<'t, 'f, 'e, T: Clock + Threads + Wait + Sync> Judge for Comparing<'t, 'f, 'e, T> {
     ghost use Rattle.std.specs.Thread.{IsSync};
     ghost use Rattle.racl_runs.specs.Crews.{AreSaidSoFar, orders_of};
     ghost use Rattle.racl_runs.specs.inner.Comparings.{HasComparedAfter};

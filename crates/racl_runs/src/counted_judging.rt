@@ -10,6 +10,7 @@ use racl_views::HitCounts;
 use std::alloc::{AllocError, Global};
 use std::sync::Wait;
 use std::thread::Threads;
+use std::time::Clock;
 
 /// Workers, the policy that they go by, and the counts of the packets that they judged.
 #[derive(Drop)]
@@ -21,7 +22,7 @@ pub struct Counted<'t, 'f, T: Wait> {
     pub counts: HitCounts,
 }
 
-impl<'t, 'f, T: Threads + Wait + Sync> Judge for Counted<'t, 'f, T> {
+impl<'t, 'f, T: Clock + Threads + Wait + Sync> Judge for Counted<'t, 'f, T> {
     ghost use Rattle.std.specs.Thread.{IsSync};
     ghost use Rattle.racl_runs.specs.Crews.{AreSaidSoFar, HaveCountedAfter, orders_of};
 

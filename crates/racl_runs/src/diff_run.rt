@@ -4,6 +4,7 @@ ghost use Rattle.racl_runs.specs.DiffRuns.{AreTimesOf, ComparesWith, EndsDiff, H
 
 use crate::capture_header_reading::read_header;
 use crate::live_run::EXPECTED;
+use crate::pace::Stopwatch;
 use crate::sized_tables_and_workers::{Manner, SizedWorkers, create_sized};
 use crate::workers_as_judges::HandingCrew;
 use acl_policy::{PolicyFault, read_policy};
@@ -16,6 +17,7 @@ use racl_options::Options;
 use std::alloc::Global;
 use std::sync::Wait;
 use std::thread::Threads;
+use std::time::Clock;
 
 /// The text of a policy, and of the one that is to take its place.
 #[derive(Clone, Copy)]
@@ -47,7 +49,7 @@ pub struct DiffHead<'t, 'f, 'u, 'g, 'o> {
 
 // Two workers judge the packets of the capture behind its header, each by a policy over tables of its own, while they come. The
 // tables cut blocks, and sessions that have ended are removed, as the run may never end.
-fn compare_capture<R: Source, W: Sink, T: Threads + Wait + Sync>(
+fn compare_capture<R: Source, W: Sink, T: Clock + Threads + Wait + Sync>(
     rt: &T,
     alloc: Global,
     head: DiffHead<'_, '_, '_, '_, '_>,
@@ -79,10 +81,15 @@ fn compare_capture<R: Source, W: Sink, T: Threads + Wait + Sync>(
         return Err(Fault::Memory);
     };
     let judges = (
-        HandingCrew { alloc, workers },
+        HandingCrew {
+            alloc,
+            workers,
+            watch: Stopwatch::new(rt),
+        },
         HandingCrew {
             alloc,
             workers: other_workers,
+            watch: Stopwatch::new(rt),
         },
     );
     let policies = PolicyPair {
@@ -96,7 +103,7 @@ fn compare_capture<R: Source, W: Sink, T: Threads + Wait + Sync>(
 /// than rules of other numbers: after each read of all packets whose records were read whole; and at its end the totals. One
 /// worker for each policy judges, over tables of its own, keeps no verdict and removes sessions that have ended, so that a
 /// capture may be of any length. A fault leaves what was written.
-pub fn run_diff<R: Source, W: Sink, T: Threads + Wait + Sync>(
+pub fn run_diff<R: Source, W: Sink, T: Clock + Threads + Wait + Sync>(
     rt: &T,
     alloc: Global,
     options: &Options,

@@ -9,6 +9,7 @@ ghost use Rattle.racl_runs.specs.ExpectingRuns.{ComparesAll, EndsExpecting};
 use crate::capture_header_reading::read_header;
 use crate::compared_judging::Comparing;
 use crate::live_run::EXPECTED;
+use crate::pace::Stopwatch;
 use crate::sized_tables_and_workers::{Manner, SizedWorkers, create_sized};
 use crate::workers_as_judges::HandingCrew;
 use acl_policy::read_policy;
@@ -22,6 +23,7 @@ use racl_options::Options;
 use std::alloc::Global;
 use std::sync::Wait;
 use std::thread::Threads;
+use std::time::Clock;
 
 /// What a run is asked for that compares verdicts with expected ones: its options, its policy's text, and what is expected.
 #[derive(Clone, Copy)]
@@ -68,7 +70,7 @@ fn tell_last<L: Teller, W: Sink>(
 }
 
 // One worker judges the packets of the capture behind its header, and its verdicts are compared, while they come.
-fn compare_all<R: Source, W: Sink, T: Threads + Wait + Sync>(
+fn compare_all<R: Source, W: Sink, T: Clock + Threads + Wait + Sync>(
     rt: &T,
     head: ExpectingHead<'_, '_>,
     reader: &mut R,
@@ -100,7 +102,11 @@ fn compare_all<R: Source, W: Sink, T: Threads + Wait + Sync>(
         return Err(Fault::Memory);
     };
     let judges = Comparing {
-        crew: HandingCrew { alloc, workers },
+        crew: HandingCrew {
+            alloc,
+            workers,
+            watch: Stopwatch::new(rt),
+        },
         expectations,
         judged: 0,
         unmet: false,
@@ -137,7 +143,7 @@ fn compare_all<R: Source, W: Sink, T: Threads + Wait + Sync>(
 /// expected: after each read of all packets whose records were read whole; and at its end what else isn't as expected, or
 /// that all is. One worker judges, keeps no verdict, and removes sessions that have ended where that is asked for. A
 /// capture may be of any length. A fault leaves what was written.
-pub fn run_expecting<R: Source, W: Sink, T: Threads + Wait + Sync>(
+pub fn run_expecting<R: Source, W: Sink, T: Clock + Threads + Wait + Sync>(
     rt: &T,
     alloc: Global,
     asked: ExpectingAsked<'_>,

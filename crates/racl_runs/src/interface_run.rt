@@ -18,6 +18,7 @@ use racl_views::{Run, packets_in};
 use std::alloc::Global;
 use std::sync::Wait;
 use std::thread::Threads;
+use std::time::Clock;
 
 /// A policy and captures of interfaces that were found right.
 #[derive(Drop)]
@@ -56,7 +57,7 @@ fn checked_interfaces(
 }
 
 // Filters captures that were found right, and writes the report.
-fn run_checked<W: Sink, T: Threads + Wait + Sync>(
+fn run_checked<W: Sink, T: Clock + Threads + Wait + Sync>(
     rt: &T,
     alloc: Global,
     options: &Options,
@@ -94,7 +95,7 @@ fn run_checked<W: Sink, T: Threads + Wait + Sync>(
 /// one, in the order of the captures behind the policy's.
 ///
 /// Nothing is written before all captures were judged.
-pub fn run_interfaces<W: Sink, T: Threads + Wait + Sync>(
+pub fn run_interfaces<W: Sink, T: Clock + Threads + Wait + Sync>(
     rt: &T,
     alloc: Global,
     options: &Options,

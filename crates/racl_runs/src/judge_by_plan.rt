@@ -10,6 +10,7 @@ ghost use Rattle.racl_runs.specs.inner.Streams.{HasEnded};
 ghost use Rattle.racl_runs.specs.Reads.{HasJudged, MayJudge};
 
 use crate::ended_workers::Ended;
+use crate::pace::Stopwatch;
 use crate::run_plan::{plan_for, threads_beside, window_size};
 use crate::sized_tables_and_workers::{Manner, SizedWorkers, create_sized};
 use crate::stored_sessions::with_stored;
@@ -22,6 +23,7 @@ use racl_report::Judged;
 use std::alloc::Global;
 use std::sync::Wait;
 use std::thread::Threads;
+use std::time::Clock;
 
 /// What workers leave who judged all packets of the only capture by a plan: the verdicts, what the report tells of it,
 /// and their callers.
@@ -35,7 +37,7 @@ pub fn end_capture_by_plan<T: Wait>(streamed: Streamed<Crew<'_, '_, T>>) -> Resu
         truncated,
         ..
     } = streamed;
-    let Crew { alloc, workers } = judges;
+    let Crew { alloc, workers, .. } = judges;
     let Ok((verdicts, callers)) = workers.end(alloc) else {
         return Err(Fault::Memory);
     };
@@ -54,7 +56,7 @@ pub fn end_capture_by_plan<T: Wait>(streamed: Streamed<Crew<'_, '_, T>>) -> Resu
 
 /// The verdicts on the packets of all records, which are judged while they are read, and the sessions behind them: by a
 /// plan for several workers, beside which the next window is read, where enough packets stand in the opening.
-pub fn judge_records<R: Source + Send, T: Threads + Wait + Sync>(
+pub fn judge_records<R: Source + Send, T: Clock + Threads + Wait + Sync>(
     rt: &T,
     alloc: Global,
     options: &Options,
@@ -86,7 +88,11 @@ pub fn judge_records<R: Source + Send, T: Threads + Wait + Sync>(
     let Ok(workers) = SizedWorkers::new(rt, alloc, manner, &tables, callers) else {
         return Err(Fault::Memory);
     };
-    let crew = Crew { alloc, workers };
+    let crew = Crew {
+        alloc,
+        workers,
+        watch: Stopwatch::new(rt),
+    };
     let size = window_size(are_several);
     let beside = threads_beside(rt, are_several);
     match judge_stream(beside, alloc, reader, crew, opening, size) {

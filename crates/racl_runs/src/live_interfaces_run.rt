@@ -20,6 +20,7 @@ use racl_report::{Behind, write_behind, write_captures_end};
 use std::alloc::Global;
 use std::sync::Wait;
 use std::thread::Threads;
+use std::time::Clock;
 
 // A fault that is of no capture.
 fn placeless(fault: Fault) -> FaultAt
@@ -51,7 +52,7 @@ fn tell_end_of_captures<W: Sink>(
 
 // In a live run on several interfaces workers judge the packets of all captures, and they are told, while they come. The
 // tables cut blocks, as sessions that have ended are removed.
-fn tell_captures<L: Teller, A: Arrivals, W: Sink, T: Threads + Wait + Sync>(
+fn tell_captures<L: Teller, A: Arrivals, W: Sink, T: Clock + Threads + Wait + Sync>(
     rt: &T,
     alloc: Global,
     way: LiveWay<'_, '_>,
@@ -103,7 +104,7 @@ fn tell_captures<L: Teller, A: Arrivals, W: Sink, T: Threads + Wait + Sync>(
 /// are asked for. As many workers as are asked for judge, who keep no verdict, but count, and remove sessions that have ended,
 /// so that captures may be of any length. A fault says of which interface's capture it is, where it is of one, and leaves what
 /// was written; but for Write no totals stand behind it.
-pub fn run_live_interfaces<A: Arrivals, W: Sink, T: Threads + Wait + Sync>(
+pub fn run_live_interfaces<A: Arrivals, W: Sink, T: Clock + Threads + Wait + Sync>(
     rt: &T,
     alloc: Global,
     asked: LiveAsked<'_>,

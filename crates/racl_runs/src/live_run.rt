@@ -19,6 +19,7 @@ use crate::asked_lines::AskedLines;
 use crate::capture_header_reading::keep_header;
 use crate::counted_judging::Counted;
 use crate::live_saves::LiveSaves;
+use crate::pace::Stopwatch;
 use crate::sized_tables_and_workers::{
     MANY_PACKETS, Manner, SizedCallers, SizedTables, SizedWorkers, create_sized,
 };
@@ -37,6 +38,7 @@ use racl_views::HitCounts;
 use std::alloc::{AllocError, Global};
 use std::sync::Wait;
 use std::thread::Threads;
+use std::time::Clock;
 
 /// For how many packets rules of a live run are prepared.
 pub const EXPECTED: usize = 16_777_216;
@@ -68,7 +70,7 @@ pub struct LiveHead<'t, 'f> {
 
 /// Workers over these tables, of whom as many as are asked for judge by this way, and who judged no packet. An error says that
 /// memory was refused.
-pub fn workers_over<'t, 'f, T: Threads + Wait + Sync>(
+pub fn workers_over<'t, 'f, T: Clock + Threads + Wait + Sync>(
     rt: &'t T,
     alloc: Global,
     way: LiveWay<'t, 'f>,
@@ -85,7 +87,11 @@ pub fn workers_over<'t, 'f, T: Threads + Wait + Sync>(
     let workers = SizedWorkers::new(rt, alloc, manner, tables, callers)?;
     let counts = HitCounts::new(alloc);
     Ok(Counted {
-        crew: HandingCrew { alloc, workers },
+        crew: HandingCrew {
+            alloc,
+            workers,
+            watch: Stopwatch::new(rt),
+        },
         policy: way.filter.policy,
         asked: way.options.hits,
         counts,
@@ -159,7 +165,7 @@ fn totals_over(totals: &Totals, own: u64) -> Totals
 
 /// Workers judge the packets of the capture behind its header, or the shard's where there is one, and they are told and saved
 /// while they come. The tables cut blocks where sessions that have ended are removed.
-pub fn tell_capture<L: Teller + Drop, K: Saver, R: Source, W: Sink, T: Threads + Wait + Sync>(
+pub fn tell_capture<L: Teller + Drop, K: Saver, R: Source, W: Sink, T: Clock + Threads + Wait + Sync>(
     rt: &T,
     head: LiveHead<'_, '_>,
     reader: &mut R,
@@ -229,7 +235,7 @@ pub fn tell_capture<L: Teller + Drop, K: Saver, R: Source, W: Sink, T: Threads +
 /// capture, after each read too. As many workers as are asked for judge, who keep no verdict, but count, and remove sessions
 /// that have ended, so that a capture may be of any length. A fault leaves what was written and saved; but for Write neither
 /// totals nor hits stand behind it.
-pub fn run_live<R: Source, W: Sink, S: Sink, T: Threads + Wait + Sync>(
+pub fn run_live<R: Source, W: Sink, S: Sink, T: Clock + Threads + Wait + Sync>(
     rt: &T,
     alloc: Global,
     asked: LiveAsked<'_>,

@@ -20,6 +20,7 @@ use racl_report::{Judged, Kept, Saves, keeps_input, save_packets, write_judged};
 use std::alloc::Global;
 use std::sync::Wait;
 use std::thread::Threads;
+use std::time::Clock;
 
 /// Where a run saves that has no file for packets.
 const NO_FILES: Saves<()> = Saves {
@@ -28,7 +29,7 @@ const NO_FILES: Saves<()> = Saves {
 };
 
 // What the packets met of an input that a run reads from its front to its end, and what is kept of it, where that is asked for.
-fn judge_source<R: Source + Send, T: Threads + Wait + Sync>(
+fn judge_source<R: Source + Send, T: Clock + Threads + Wait + Sync>(
     rt: &T,
     alloc: Global,
     options: &Options,
@@ -71,7 +72,7 @@ fn judge_source<R: Source + Send, T: Threads + Wait + Sync>(
 /// Reads an input, filters its captures by its policy, and writes the report.
 ///
 /// Nothing is written before the whole input was judged.
-pub fn run<R: Source + Send, W: Sink, T: Threads + Wait + Sync>(
+pub fn run<R: Source + Send, W: Sink, T: Clock + Threads + Wait + Sync>(
     rt: &T,
     alloc: Global,
     options: &Options,
@@ -114,7 +115,7 @@ pub fn run<R: Source + Send, W: Sink, T: Threads + Wait + Sync>(
 /// then saves packets of it.
 ///
 /// Nothing is written before the whole input was judged, and nothing is saved before the report is written.
-pub fn run_saving<R: Source + Send, W: Sink, S: Sink, T: Threads + Wait + Sync>(
+pub fn run_saving<R: Source + Send, W: Sink, S: Sink, T: Clock + Threads + Wait + Sync>(
     rt: &T,
     alloc: Global,
     options: &Options,

@@ -22,6 +22,7 @@ use std::alloc::Global;
 use std::mem::swap;
 use std::sync::Wait;
 use std::thread::Threads;
+use std::time::Clock;
 
 /// What a run over the packets of a shard is asked for.
 #[derive(Clone, Copy)]
@@ -73,7 +74,7 @@ fn saver_over<S>(shard: Shard) -> ShardSaver<LiveSaves<S>>
 /// who keep no verdict, so that a capture may be of any length. Where no verdict of all shards' runs says no-pages, and ageing is
 /// in time, the verdicts on each packet are those of the one run, and the totals of all shards add up to its own
 /// (`shards_give_one_report`). A fault leaves what was written and saved; but for Write no totals stand behind it.
-pub fn run_shard<R: Source, W: Sink, S: Sink + Drop, T: Threads + Wait + Sync>(
+pub fn run_shard<R: Source, W: Sink, S: Sink + Drop, T: Clock + Threads + Wait + Sync>(
     rt: &T,
     alloc: Global,
     asked: ShardRunAsked<'_>,

@@ -1,5 +1,6 @@
 //! Workers as those who judge the packets of a capture.
 
+use crate::pace::Stopwatch;
 use crate::sized_tables_and_workers::SizedWorkers;
 use capture_stream::Judge;
 use flow_workers::Verdict;
@@ -7,15 +8,17 @@ use packet_view::Packets;
 use std::alloc::{AllocError, Global};
 use std::sync::Wait;
 use std::thread::Threads;
+use std::time::Clock;
 
-/// Workers, and where they get memory.
+/// Workers, where they get memory, and what times them.
 #[derive(Drop)]
 pub struct Crew<'t, 'f, T: Wait> {
     pub alloc: Global,
     pub workers: SizedWorkers<'t, 'f, T>,
+    pub watch: Stopwatch<'t, T>,
 }
 
-impl<'t, 'f, T: Threads + Wait + Sync> Judge for Crew<'t, 'f, T> {
+impl<'t, 'f, T: Clock + Threads + Wait + Sync> Judge for Crew<'t, 'f, T> {
     ghost use Rattle.std.specs.Prelude.{⊤};
     ghost use Rattle.std.specs.Thread.{IsSync};
     ghost use Rattle.racl_runs.specs.Crews.{AreAfter, orders_of};
@@ -26,10 +29,13 @@ impl<'t, 'f, T: Threads + Wait + Sync> Judge for Crew<'t, 'f, T> {
 
     // The workers of either size of tables judge these packets, as judges of a capture, and keep the verdicts.
     fn judge(&mut self, packets: Packets<'_>) -> Result<Vec<Verdict>, AllocError> {
+        let began = self.watch.start(packets.count());
+        let by_turns = self.watch.pace.takes_turns();
         let judged = match &mut self.workers {
-            SizedWorkers::Standard(workers) => workers.judge(self.alloc, packets),
-            SizedWorkers::Large(workers) => workers.judge(self.alloc, packets),
+            SizedWorkers::Standard(workers) => workers.judge(self.alloc, packets, by_turns),
+            SizedWorkers::Large(workers) => workers.judge(self.alloc, packets, by_turns),
         };
+        self.watch.stop(began, packets.count());
         match judged {
             Ok(()) => Ok(Vec::new(self.alloc)),
             Err(_) => Err(AllocError),
@@ -37,14 +43,15 @@ impl<'t, 'f, T: Threads + Wait + Sync> Judge for Crew<'t, 'f, T> {
     }
 }
 
-/// Workers that hand over their verdicts, and where they get memory.
+/// Workers that hand over their verdicts, where they get memory, and what times them.
 #[derive(Drop)]
 pub struct HandingCrew<'t, 'f, T: Wait> {
     pub alloc: Global,
     pub workers: SizedWorkers<'t, 'f, T>,
+    pub watch: Stopwatch<'t, T>,
 }
 
-impl<'t, 'f, T: Threads + Wait + Sync> Judge for HandingCrew<'t, 'f, T> {
+impl<'t, 'f, T: Clock + Threads + Wait + Sync> Judge for HandingCrew<'t, 'f, T> {
     ghost use Rattle.std.specs.Thread.{IsSync};
     ghost use Rattle.racl_runs.specs.Crews.{AreSaidSoFar, HaveSaidAfter, orders_of};
 
@@ -54,10 +61,13 @@ impl<'t, 'f, T: Threads + Wait + Sync> Judge for HandingCrew<'t, 'f, T> {
 
     // The workers judge these packets, as judges of a capture, and hand over the verdicts.
     fn judge(&mut self, packets: Packets<'_>) -> Result<Vec<Verdict>, AllocError> {
+        let began = self.watch.start(packets.count());
+        let by_turns = self.watch.pace.takes_turns();
         let said = match &mut self.workers {
-            SizedWorkers::Standard(workers) => workers.judge_on(self.alloc, packets),
-            SizedWorkers::Large(workers) => workers.judge_on(self.alloc, packets),
+            SizedWorkers::Standard(workers) => workers.judge_on(self.alloc, packets, by_turns),
+            SizedWorkers::Large(workers) => workers.judge_on(self.alloc, packets, by_turns),
         };
+        self.watch.stop(began, packets.count());
         match said {
             Ok(said) => Ok(said),
             Err(_) => Err(AllocError),

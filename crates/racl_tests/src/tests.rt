@@ -9,6 +9,7 @@ mod explained_packets;
 mod hits_and_sessions;
 mod input_parts;
 mod joined_readers_and_first_bytes;
+mod pace;
 mod reports;
 mod runs;
 mod saved;

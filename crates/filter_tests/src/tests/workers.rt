@@ -187,10 +187,10 @@ fn verdicts_on_parts<R: Threads + Wait + Sync, G: Gate + Sync>(
     let Ok(mut workers) = Workers::new(alloc, setup, callers) else {
         return Err(RunFault::Memory);
     };
-    let Ok(mut verdicts) = workers.judge_on(alloc, Packets::Slice(first)) else {
+    let Ok(mut verdicts) = workers.judge_on(alloc, Packets::Slice(first), false) else {
         return Err(RunFault::Memory);
     };
-    let Ok(()) = workers.judge(alloc, Packets::Slice(second)) else {
+    let Ok(()) = workers.judge(alloc, Packets::Slice(second), false) else {
         return Err(RunFault::Memory);
     };
     let Ok((last, callers)) = workers.end(alloc) else {

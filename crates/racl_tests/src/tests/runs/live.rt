@@ -10,6 +10,7 @@ use std::alloc::Global;
 use std::sync::Wait;
 use std::test::Fail;
 use std::thread::Threads;
+use std::time::Clock;
 
 const POLICY: &[u8] = b"\
 mac 02:00:00:00:00:01
@@ -56,7 +57,7 @@ const CUTS: [(usize, &str, &str); 6] = [
 ];
 
 // For tests of live runs: what comes of one on the capture that this reader gives, which saves no packets.
-fn unsaved<T: Threads + Wait + Sync>(
+fn unsaved<T: Clock + Threads + Wait + Sync>(
     rt: &T,
     alloc: Global,
     options: &Options,
@@ -251,7 +252,7 @@ fn live_runs_count_while_packets_come(rt: HostRuntime) -> Result<(), Fail> {
 
 // For tests of live runs: what is saved of the capture's first bytes, where so many more writes go through to the file of
 // dropped packets; and what came of the run.
-fn saved_of<T: Threads + Wait + Sync>(
+fn saved_of<T: Clock + Threads + Wait + Sync>(
     rt: &T,
     alloc: Global,
     bytes: &[u8],
