@@ -88,10 +88,11 @@ pub fn judge_records<R: Source + Send, T: Clock + Threads + Wait + Sync>(
     let Ok(workers) = SizedWorkers::new(rt, alloc, manner, &tables, callers) else {
         return Err(Fault::Memory);
     };
+    let watch = Stopwatch::new(rt);
     let crew = Crew {
         alloc,
         workers,
-        watch: Stopwatch::new(rt),
+        watch,
     };
     let size = window_size(are_several);
     let beside = threads_beside(rt, are_several);

@@ -165,7 +165,13 @@ fn totals_over(totals: &Totals, own: u64) -> Totals
 
 /// Workers judge the packets of the capture behind its header, or the shard's where there is one, and they are told and saved
 /// while they come. The tables cut blocks where sessions that have ended are removed.
-pub fn tell_capture<L: Teller + Drop, K: Saver, R: Source, W: Sink, T: Clock + Threads + Wait + Sync>(
+pub fn tell_capture<
+    L: Teller + Drop,
+    K: Saver,
+    R: Source,
+    W: Sink,
+    T: Clock + Threads + Wait + Sync,
+>(
     rt: &T,
     head: LiveHead<'_, '_>,
     reader: &mut R,

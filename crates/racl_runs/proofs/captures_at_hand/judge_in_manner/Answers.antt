@@ -10,7 +10,7 @@ pub judge-requires : goal.judge-requires
 judge-requires g c =
     let fits = c.requires.fits in
     record {
-      begun = record { alloc = c.args.alloc; workers = c.in-Ok-new.workers };
+      begun = record { alloc = c.args.alloc; workers = c.in-Ok-new.workers; watch = c.new-watch.result };
       packets = [];
       said = [];
       stand = (search rules, record { given = refl; rest = c.in-Ok-new.ensures.rest });
@@ -19,27 +19,27 @@ judge-requires g c =
 
 pub end-requires : goal.end-requires
 end-requires g c =
-    let crew : Crew _ = record { alloc = c.args.alloc; workers = c.in-Ok-new.workers } in
+    let crew : Crew _ = record { alloc = c.args.alloc; workers = c.in-Ok-new.workers; watch = c.new-watch.result } in
     let stand = c.in-Ok-judge.ensures.follows crew [] [] (search rules, record { given = refl; rest = c.in-Ok-new.ensures.rest }) in
     (remaining c.args.packets, [], stand.1.rest)
 
 pub invariant_of-ended : goal.invariant_of-ended
 invariant_of-ended g c =
-    let crew : Crew _ = record { alloc = c.args.alloc; workers = c.in-Ok-new.workers } in
+    let crew : Crew _ = record { alloc = c.args.alloc; workers = c.in-Ok-new.workers; watch = c.new-watch.result } in
     let stand = c.in-Ok-judge.ensures.follows crew [] [] (search rules, record { given = refl; rest = c.in-Ok-new.ensures.rest }) in
     let said = c.in-Ok-end.ensures [] (remaining c.args.packets) stand.1.rest in
     record { counted = c.requires.told ∙ sym (judged_count _ _ _ (remaining c.args.packets) c.in-Ok-end.verdicts.items said.said.removals said.said.judged) }
 
 pub with_stored-requires : goal.with_stored-requires
 with_stored-requires g c =
-    let crew : Crew _ = record { alloc = c.args.alloc; workers = c.in-Ok-new.workers } in
+    let crew : Crew _ = record { alloc = c.args.alloc; workers = c.in-Ok-new.workers; watch = c.new-watch.result } in
     let stand = c.in-Ok-judge.ensures.follows crew [] [] (search rules, record { given = refl; rest = c.in-Ok-new.ensures.rest }) in
     let said = c.in-Ok-end.ensures [] (remaining c.args.packets) stand.1.rest in
     subst (λ (o : Orders). AreIdleOf o.tables c.in-Ok-end.callers) (stand.1.given ∙ c.in-Ok-new.ensures.given) said.idle
 
 pub returns-clause-ok : goal.returns-clause-ok
 returns-clause-ok g c =
-    let crew : Crew _ = record { alloc = c.args.alloc; workers = c.in-Ok-new.workers } in
+    let crew : Crew _ = record { alloc = c.args.alloc; workers = c.in-Ok-new.workers; watch = c.new-watch.result } in
     let stand = c.in-Ok-judge.ensures.follows crew [] [] (search rules, record { given = refl; rest = c.in-Ok-new.ensures.rest }) in
     let packets = remaining c.args.packets in
     let said =

@@ -12,7 +12,7 @@ pub judge_stream-requires-clause-may : goal.judge_stream-requires-clause-may
 judge_stream-requires-clause-may g c κs lives =
     let may = c.requires.may in
     record {
-      begun = record { alloc = c.args.alloc; workers = c.in-Ok-new.workers };
+      begun = record { alloc = c.args.alloc; workers = c.in-Ok-new.workers; watch = c.new-watch.result };
       others = [];
       said = [];
       stand = (search rules, record { given = refl; rest = c.in-Ok-new.ensures.rest });
@@ -26,14 +26,14 @@ judge_stream-requires-clause-may g c κs lives =
 pub end_capture_by_plan-requires : goal.end_capture_by_plan-requires
 end_capture_by_plan-requires g c =
     let s = c.in-Ok-judge_stream.ensures.streamed in
-    let crew : Crew _ = record { alloc = c.args.alloc; workers = c.in-Ok-new.workers } in
+    let crew : Crew _ = record { alloc = c.args.alloc; workers = c.in-Ok-new.workers; watch = c.new-watch.result } in
     let stand = s.judged crew [] [] (search rules, record { given = refl; rest = c.in-Ok-new.ensures.rest }) in
     (packets_at c.args.opening.interface s.packets, [], stand.1.rest)
 
 pub with_stored-requires : goal.with_stored-requires
 with_stored-requires g c =
     let s = c.in-Ok-judge_stream.ensures.streamed in
-    let crew : Crew _ = record { alloc = c.args.alloc; workers = c.in-Ok-new.workers } in
+    let crew : Crew _ = record { alloc = c.args.alloc; workers = c.in-Ok-new.workers; watch = c.new-watch.result } in
     let stand = s.judged crew [] [] (search rules, record { given = refl; rest = c.in-Ok-new.ensures.rest }) in
     idle_at_end _ c.in-Ok-ready_with.ready c.plan_for-expected.result.1 _ _ _ c.in-Ok-end_capture_by_plan.ended c.in-Ok-new.ensures.given
     (said_at_end _ _ _ _ c.in-Ok-end_capture_by_plan.ended stand.1 c.in-Ok-end_capture_by_plan.ensures.ok).0
@@ -42,7 +42,7 @@ pub returns-in-Ok-end_capture_by_plan-clause-ok : goal.returns-in-Ok-end_capture
 returns-in-Ok-end_capture_by_plan-clause-ok g c =
     let s = c.in-Ok-judge_stream.ensures.streamed in
     let ready = c.in-Ok-ready_with.ready in
-    let crew : Crew _ = record { alloc = c.args.alloc; workers = c.in-Ok-new.workers } in
+    let crew : Crew _ = record { alloc = c.args.alloc; workers = c.in-Ok-new.workers; watch = c.new-watch.result } in
     let stand = s.judged crew [] [] (search rules, record { given = refl; rest = c.in-Ok-new.ensures.rest }) in
     let at =
     subst (λ n. AreAfter (orders_of c.in-Ok-new.workers) (packets_at n s.packets) c.in-Ok-judge_stream.streamed.judges.workers) c.requires.may.unnamed stand.1 in
