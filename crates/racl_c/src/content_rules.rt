@@ -4,7 +4,6 @@ ghost use Rattle.acl_policy.specs.Policies.{IsPolicyFault};
 ghost use Rattle.acl_policy.specs.declared.policy.PolicyFault.TheVariants.{Memory};
 ghost use Rattle.racl_c.specs.RuleCounts.{CountsNothing, HasRules, RuleCountTold, RuleCounted};
 ghost use Rattle.racl_c.specs.RuleCounts as numbers;
-ghost use Rattle.racl_c.specs.RuleCounts;
 
 use crate::content_calls::Content;
 use acl_policy::{PolicyFault, read_policy};
@@ -14,7 +13,7 @@ use std::alloc::Global;
 
 /// The direction with this number.
 pub fn direction_of(number: u32) -> Option<Direction>
-    ensures { result ≡ RuleCounts.direction_of number }
+    ensures { result ≡ numbers.direction_of number }
 {
     match number {
         1 => Some(Direction::Inbound),
