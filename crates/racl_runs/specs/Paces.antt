@@ -6,7 +6,7 @@ use Rattle.racl_runs.specs.declared.pace.Pace.{Pace}
 
 -- in threads at first
 abbrev pub first_pace : Pace
-first_pace = record { by_turns = false; tries = false; left = 2; stretch = 8; took = 0 }
+first_pace = record { by_turns = false; tries = false; left = 2; stretch = 32; took = 0 }
 
 -- the other manner is tried, or the one that is kept goes on
 abbrev pub takes_turns : Pace → Bool
@@ -18,7 +18,7 @@ went_on pace took = record pace { tries = nat_le pace.left 1; left = pace.left -
 
 -- the other manner took less, and is kept
 abbrev changed : Pace → ℕ → Pace
-changed pace took = record { by_turns = not pace.by_turns; tries = false; left = 8; stretch = 8; took = took }
+changed pace took = record { by_turns = not pace.by_turns; tries = false; left = 32; stretch = 32; took = took }
 
 -- it didn't, and is tried again after twice as many batches, at most 64
 abbrev stayed : Pace → Pace

@@ -11,7 +11,7 @@ use std::time::{Clock, Instant};
 const BEFORE_TURNS: u32 = 2;
 
 /// For how many batches a manner is kept at first before the other is tried again.
-const FIRST_STRETCH: u32 = 8;
+const FIRST_STRETCH: u32 = 32;
 
 /// For how many batches a manner is kept at most before the other is tried again.
 const LONGEST_STRETCH: u32 = 64;

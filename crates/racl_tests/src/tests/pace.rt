@@ -48,18 +48,18 @@ fn the_faster_manner_is_kept(rt: HostRuntime) -> Result<(), Fail> {
     let pace = after(pace, 1, 60);
     assert!(rt; pace.takes_turns());
     let pace = after(pace, 1, 40);
-    // eight batches by turns, then one in threads, in which it takes more: sixteen by turns
-    assert!(rt; after(pace, 7, 41).takes_turns());
-    let pace = after(pace, 8, 41);
+    // 32 batches by turns, then one in threads, in which it takes more: 64 by turns
+    assert!(rt; after(pace, 31, 41).takes_turns());
+    let pace = after(pace, 32, 41);
     assert!(rt; !pace.takes_turns());
     let pace = after(pace, 1, 55);
-    assert!(rt; after(pace, 15, 42).takes_turns());
-    let pace = after(pace, 16, 42);
+    assert!(rt; after(pace, 63, 42).takes_turns());
+    let pace = after(pace, 64, 42);
     assert!(rt; !pace.takes_turns());
     // it takes less in threads now
     let pace = after(pace, 1, 30);
-    assert!(rt; !after(pace, 7, 30).takes_turns());
-    assert!(rt; after(pace, 8, 30).takes_turns());
+    assert!(rt; !after(pace, 31, 30).takes_turns());
+    assert!(rt; after(pace, 32, 30).takes_turns());
     Ok(())
 }
 
