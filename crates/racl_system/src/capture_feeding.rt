@@ -65,7 +65,8 @@ impl Feed {
         }
     }
 
-    /// Hands on all these bytes. Whether more is wanted.
+    /// Hands on all these bytes. Whether more is wanted. No clause can name what a channel holds: the live runs of
+    /// `tests/run` look at what comes.
     pub fn hand_all(&self, rt: &impl Wait, bytes: &[u8]) -> bool {
         let mut rest = bytes;
         'parts: while !rest.is_empty() {
@@ -78,7 +79,8 @@ impl Feed {
         true
     }
 
-    /// Hands on that the capture has ended.
+    /// Hands on that the capture has ended. No clause can name what a channel holds: the live runs of
+    /// `tests/run` look at what comes.
     pub fn end(&self, rt: &impl Wait) {
         let _ = self.hand(rt, &[]);
     }
@@ -94,12 +96,14 @@ impl Feed {
         }
     }
 
-    /// Hands on that the capture can't be read any further, or that memory ran out.
+    /// Hands on that the capture can't be read any further, or that memory ran out. No clause can name what a channel holds: the live runs of
+    /// `tests/run` look at what comes.
     pub fn fail(&self, rt: &impl Wait, fault: Fault) {
         let _ = self.to.send(rt, self.fed_of(fault));
     }
 
-    /// Hands on what a source has, as it comes, to its end.
+    /// Hands on what a source has, as it comes, to its end. No clause can name what a channel holds: the live runs of
+    /// `tests/run` look at what comes.
     pub fn hand_from<R: Source>(&self, rt: &impl Wait, source: &mut R)
         requires { R.failures source.old < 2 ^ 64 - 1 }
     {
