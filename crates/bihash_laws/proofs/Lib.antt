@@ -2,6 +2,7 @@ pub mod AnsweredCalls
 pub mod BucketOrders
 pub mod CommonHistories
 pub mod CommonSerializations
+pub mod Contention
 pub mod ExpiredPairs
 pub mod LogLaws
 pub mod LogOrders
@@ -10,3 +11,4 @@ pub mod LoggedCalls
 pub mod MapSteps
 pub mod OneWriter
 pub mod RealTime
+pub mod TwoCallers

@@ -1,5 +1,5 @@
 -- Calls in the order of time.
-use Rattle.std.specs.Prelude.{Ok, Err, Option, Result}
+use Rattle.std.specs.Prelude.{Ok, Err, IfOk, None, Option, Result, Some}
 use Rattle.std.proofs.Common.{◌≡◌, ◌⊎◌, ℕ, zero, suc, ◌+◌, ◌<◌, ◌≤◌, cond, nat_le, Bool, true, false, List, [], ◌∷◌, ◌++◌, length, refl, sym, ap, ◌∙◌, subst, inl, inr, arith, append_assoc, length-append, take, drop}
 use mathlib.Core.Logic.{dite}
 use mathlib.Core.Option.{some, some-ne-none, some-injective}
@@ -28,6 +28,7 @@ use Rattle.std.proofs.lemmas.List.{take-append-drop}
 use Rattle.bihash_steps.specs.Steps.{IsRefused, first_numbers, longer_log, other_numbers, parent, recounted, view_after_count}
 use Rattle.bihash_steps.specs.declared.split_fault.SplitFault.{SplitFault}
 use Rattle.bihash_steps.specs.declared.split_fault.SplitFault.TheVariants.{Memory, Numbers, Contended}
+use Rattle.bihash_table.specs.Ageing.{Ages, FindsNone, Look, LookInTurn, Sweeps, TellsExpire, TellsExpireTry}
 use Rattle.bihash_table.specs.Answers.{entry_of, recycled_update, search_of, with_locks}
 use Rattle.bihash_table.specs.Calls.{TellsLone, TellsRecycle, TellsRecycleTry, TellsSearch, TellsSearchTry, TellsUpdate, TellsUpdateTry}
 use Rattle.bihash_table.specs.Closing.{IsCloseRefused, LeavesStrangers, StaysWhole}
@@ -40,7 +41,7 @@ use Rattle.bihash_table.specs.declared.renew_fault.RenewFault.{RenewFault}
 use Rattle.bihash_table.specs.declared.renew_fault.RenewFault.TheVariants as renew
 use Rattle.bihash_laws.specs.CallRuns.{IsLawfulAnswer}
 use Rattle.bihash_laws.specs.LogLaws.{Continues, RowState, log_of}
-use Rattle.bihash_laws.specs.RealTime.{WasTried, GoesOn, IsKnownIn, IsYetToCall, StandInOrder, StandsIn, WasAnswered, entry_made, place_of}
+use Rattle.bihash_laws.specs.RealTime.{WasTried, GoesOn, IsKnownIn, IsYetToCall, StandInOrder, StandsIn, WasAnswered, WasLooked, WereLooked, entry_made, place_of}
 use Rattle.bihash_rule.specs.declared.view.Call.{Call}
 use Rattle.bihash_rule.specs.declared.view.Entry.{Entry}
 use Rattle.bihash_rule.specs.declared.view.Record.{Record}
@@ -415,3 +416,35 @@ module _ {A K : Type 0} {g : Ghosts A K} {s t : CallerState} {key : K} where
       (updated_over (sizes_of g) s t (g.words_of key) decision is_expired reply m.answered m.lawful)
   tried_recycle decision is_expired (Err refused) m =
       (tt, goes_contended (sizes_of g) s.view t.view (bucket_of (sizes_of g) (g.words_of key)) m.contended)
+
+-- ---- What looks tell
+
+module _ (z : Sizes) (is_expired : ℕ → Bool) where
+  looked : (v w : View) (b : ℕ) (found : Option Reply) → Ages z v w b is_expired found → IsLawfulCaller z w
+      → WasLooked z v w b is_expired found × GoesOn v w
+  looked v w b None none lawful = (none, goes_contended z v w b none.learned)
+  looked v w b (Some reply) a lawful = (
+    (a.key, a.value, a.expired, record { home = a.home; answered = a.answered; lawful = lawful }),
+    goes_answered z v w _ a.answered,
+  )
+
+  looked_in_turn : (v : View) (looks : List Look) (w : View) → LookInTurn z is_expired v looks w
+      → WereLooked z is_expired v looks w × GoesOn v w
+  looked_in_turn v [] w same = (same, subst (GoesOn v) (sym same) (goes_same v))
+  looked_in_turn v (look ∷ looks) w m =
+      let first = looked v m.0 look.bucket look.found m.1 m.2 in
+      let others = looked_in_turn m.0 looks w m.3 in
+      ((m.0, first.0, others.0), goes_through v m.0 w first.1 others.1)
+
+pub told_expire : (z : Sizes) (s t : CallerState) (b : ℕ) (is_expired : ℕ → Bool) (found : Option Reply) → TellsExpire z s t b is_expired found
+    → WasLooked z s.view t.view b is_expired found × GoesOn s.view t.view
+told_expire z s t b is_expired found m = looked z is_expired s.view t.view b found m.answered m.lawful
+
+pub tried_expire : (z : Sizes) (s t : CallerState) (b : ℕ) (is_expired : ℕ → Bool) (r : Result (Option Reply) contended.Contended)
+    → TellsExpireTry z s t b is_expired r → IfOk r (WasLooked z s.view t.view b is_expired) × GoesOn s.view t.view
+tried_expire z s t b is_expired (Ok found) m = looked z is_expired s.view t.view b found m.answered m.lawful
+tried_expire z s t b is_expired (Err refused) m = (tt, goes_contended z s.view t.view b m.contended)
+
+pub told_sweep : (z : Sizes) (s t : CallerState) (from to : ℕ) (is_expired : ℕ → Bool) (went : ℕ)
+    (m : Sweeps z s t from to is_expired went) → WereLooked z is_expired s.view m.looks t.view × GoesOn s.view t.view
+told_sweep z s t from to is_expired went m = looked_in_turn z is_expired s.view m.looks t.view m.ages

@@ -1,4 +1,5 @@
 pub mod CallRuns
+pub mod Contention
 pub mod LogLaws
 pub mod LogRuns
 pub mod Orders

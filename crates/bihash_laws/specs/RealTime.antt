@@ -1,15 +1,18 @@
 -- What the calls of callers say of the order of time. A state is one of the row between any two steps.
-use Rattle.std.specs.Prelude.{◌≡◌, ℕ, ◌<◌, List, length, Result, IfOk}
+use Rattle.std.specs.Prelude.{◌≡◌, ℕ, ◌<◌, Bool, true, List, [], ◌∷◌, length, Option, Some, None, Result, IfOk}
 use lib.ListN.{get_elem?}
 use mathlib.Core.Option.{some}
 use Rattle.bihash_words.specs.Maps.{Event}
 use Rattle.bihash_words.specs.Sizes.{Sizes}
+use Rattle.bihash_words.specs.declared.patch.Change.TheVariants.{Remove}
 use Rattle.bihash_words.specs.declared.patch.Reply.{Reply}
 use Rattle.bihash_rule.specs.Histories.{bucket_of}
 use Rattle.bihash_rule.specs.Callers.{HasNumber}
 use Rattle.bihash_rule.specs.Logs.{Begins}
+use Rattle.bihash_steps.specs.BucketCalls.{event}
 use Rattle.bihash_steps.specs.BucketSteps.{acting}
 use Rattle.bihash_steps.specs.Seats.{CallerState}
+use Rattle.bihash_table.specs.Ageing.{FindsNone, Look}
 use Rattle.bihash_table.specs.Answers.{entry_of}
 use Rattle.bihash_table.specs.declared.contended.Contended.{Contended}
 use Rattle.bihash_laws.specs.CallRuns.{IsLawfulAnswer}
@@ -48,6 +51,19 @@ pub record GoesOn (v w : View) : Type 0 where
 -- A try of a call on this key was answered so, or given up; either way its caller goes on.
 abbrev pub WasTried : Sizes → CallerState → CallerState → List ℕ → {A : Type 0} → (A → Reply) → Result A Contended → Type 0
 WasTried z s t key reply r = IfOk r (λ a. WasAnswered z s t key (reply a)) × GoesOn s.view t.view
+
+-- A look at bucket b was answered so. An expired pair was to go: an update of its key was answered, that found its value and
+-- was decided to remove it. Or there was none: no entry.
+abbrev pub WasLooked : Sizes → View → View → ℕ → (ℕ → Bool) → Option Reply → Type 0
+WasLooked z v w b is_expired None = FindsNone z v w b is_expired
+WasLooked z v w b is_expired (Some reply) = (key : List ℕ) × (value : ℕ) × (is_expired value ≡ true)
+    × IsLawfulAnswer z b v w (event key (Some value) Remove reply)
+
+-- looks one after the other, each answered so
+abbrev pub WereLooked : Sizes → (ℕ → Bool) → View → List Look → View → Type 0
+WereLooked z is_expired v [] w = w ≡ v
+WereLooked z is_expired v (look ∷ looks) w =
+    (u : View) × WasLooked z v u look.bucket is_expired look.found × WereLooked z is_expired u looks w
 
 -- Some caller knows of this log in that state, as does one that was answered and any that it met since.
 abbrev pub IsKnownIn : RowState → List Entry → Type 0

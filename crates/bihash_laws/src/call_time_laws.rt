@@ -1,24 +1,26 @@
 //! The order of time, of calls as their contracts tell of them: what was answered, and in which states of the row.
 //!
 //! The functions do nothing: their contracts are the laws.
-ghost use Rattle.std.specs.Prelude.{◌≡◌, ◌⊎◌, ℕ, ◌<◌, ◌≤◌, Bool, length, Option, Result};
+ghost use Rattle.std.specs.Prelude.{◌≡◌, ◌⊎◌, ℕ, ◌<◌, ◌≤◌, Bool, length, Option, Result, IfOk};
 ghost use lib.ListN.{get_elem?};
 ghost use mathlib.Core.Option.{some};
 ghost use Rattle.bihash_words.specs.Maps.{Event};
-ghost use Rattle.bihash_words.specs.Sizes.{Sizes, sizes_of};
+ghost use Rattle.bihash_words.specs.Sizes.{IsSound, Sizes, sizes_of};
 ghost use Rattle.bihash_words.specs.declared.patch.Change.{Change};
 ghost use Rattle.bihash_words.specs.declared.patch.Reply.{Reply};
 ghost use Rattle.bihash_words.specs.declared.patch.Reply.TheVariants.{Kept};
 ghost use Rattle.bihash_rule.specs.Callers.{HasNumber};
 ghost use Rattle.bihash_rule.specs.Logs.{Begins};
+ghost use Rattle.bihash_rule.specs.Views.{first_view};
 ghost use Rattle.bihash_rule.specs.WordRule.{WordRule};
 ghost use Rattle.bihash_steps.specs.BucketCalls.{FindsBucket, HasEntered, IsValidated, TriesLock};
 ghost use Rattle.bihash_steps.specs.BucketSteps.{acting, push_call, without_lock};
 ghost use Rattle.bihash_steps.specs.CallerCalls.{AreInformed, HasCounted, IsCut, IsJoined, TakesNumber};
 ghost use Rattle.bihash_steps.specs.Seats.{Becomes, CallerState, with_view};
 ghost use Rattle.bihash_steps.specs.StoreCalls.{TriesStoreLock};
-ghost use Rattle.bihash_steps.specs.Steps.{IsRefused, parent};
+ghost use Rattle.bihash_steps.specs.Steps.{IsRefused, newcomer, parent};
 ghost use Rattle.bihash_steps.specs.declared.split_fault.SplitFault.{SplitFault};
+ghost use Rattle.bihash_table.specs.Ageing.{Sweeps, TellsExpire, TellsExpireTry};
 ghost use Rattle.bihash_table.specs.Calls.{TellsLone, TellsRecycle, TellsRecycleTry, TellsSearch, TellsSearchTry, TellsUpdate, TellsUpdateTry};
 ghost use Rattle.bihash_table.specs.Closing.{IsCloseRefused};
 ghost use Rattle.bihash_table.specs.Promise.{IsAnswered, IsContended};
@@ -28,7 +30,7 @@ ghost use Rattle.bihash_table.specs.declared.contended.Contended.{Contended};
 ghost use Rattle.bihash_table.specs.declared.renew_fault.RenewFault.{RenewFault};
 ghost use Rattle.bihash_laws.specs.CallRuns.{IsLawfulAnswer};
 ghost use Rattle.bihash_laws.specs.LogLaws.{Continues, RowState, log_of};
-ghost use Rattle.bihash_laws.specs.RealTime.{GoesOn, IsKnownIn, IsYetToCall, StandInOrder, StandsIn, WasAnswered, WasTried, place_of};
+ghost use Rattle.bihash_laws.specs.RealTime.{GoesOn, IsKnownIn, IsYetToCall, StandInOrder, StandsIn, WasAnswered, WasLooked, WasTried, WereLooked, place_of};
 ghost use Rattle.bihash_rule.specs.declared.view.Call.{Call};
 ghost use Rattle.bihash_rule.specs.declared.view.View.{View};
 
@@ -73,6 +75,15 @@ pub fn callers_are_yet_to_call()
         → get_elem? s'.views j ≡ some v → 1 ≤ length v.records → IsYetToCall s v }
 {}
 
+/// There is a state with two callers at rest, as `order` asks it: the two that a split of caller 1 of a new table leaves, of
+/// which either is yet to call, and what the other knows is known.
+pub fn two_callers_come_to_rest()
+    ensures { (z : Sizes) → IsSound z → (s : RowState) × WordRule z s
+        × (get_elem? s.views 0 ≡ some (parent (first_view z) 1)) × (get_elem? s.views 1 ≡ some (newcomer (first_view z) 1))
+        × IsYetToCall s (parent (first_view z) 1) × IsYetToCall s (newcomer (first_view z) 1)
+        × IsKnownIn s (parent (first_view z) 1).log × IsKnownIn s (newcomer (first_view z) 1).log }
+{}
+
 /// Each call of a key leaves an answer, or a caller that goes on where it was given up.
 pub fn calls_are_answers<S: Shape>(key: &S::Key)
     ensures search { (s t : CallerState) (found : Option ℕ) → TellsSearch ⟦<S as Shape>⟧ s t key.now found
@@ -89,6 +100,16 @@ pub fn calls_are_answers<S: Shape>(key: &S::Key)
     ensures recycle_try { (s t : CallerState) (decision : Option ℕ → Change) (is_expired : ℕ → Bool) (r : Result Reply Contended)
         → TellsRecycleTry ⟦<S as Shape>⟧ s t key.now decision is_expired r
         → WasTried (sizes_of S.Shape) s t (S.words_of key.now) (λ reply. reply) r }
+{}
+
+/// Each look at a bucket leaves an answer, a sweep one for each look, and a look given up none. Either way the caller goes on.
+pub fn looks_are_answers()
+    ensures expire { (z : Sizes) (s t : CallerState) (b : ℕ) (is_expired : ℕ → Bool) (found : Option Reply)
+        → TellsExpire z s t b is_expired found → WasLooked z s.view t.view b is_expired found × GoesOn s.view t.view }
+    ensures expire_try { (z : Sizes) (s t : CallerState) (b : ℕ) (is_expired : ℕ → Bool) (r : Result (Option Reply) Contended)
+        → TellsExpireTry z s t b is_expired r → IfOk r (WasLooked z s.view t.view b is_expired) × GoesOn s.view t.view }
+    ensures sweep { (z : Sizes) (s t : CallerState) (from to : ℕ) (is_expired : ℕ → Bool) (went : ℕ)
+        (m : Sweeps z s t from to is_expired went) → WereLooked z is_expired s.view m.looks t.view × GoesOn s.view t.view }
 {}
 
 /// Each call of a table leaves its callers as ones that go on, and states in which each caller goes on continue one
