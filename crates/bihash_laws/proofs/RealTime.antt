@@ -28,7 +28,7 @@ use Rattle.std.proofs.lemmas.List.{take-append-drop}
 use Rattle.bihash_steps.specs.Steps.{IsRefused, first_numbers, longer_log, other_numbers, parent, recounted, view_after_count}
 use Rattle.bihash_steps.specs.declared.split_fault.SplitFault.{SplitFault}
 use Rattle.bihash_steps.specs.declared.split_fault.SplitFault.TheVariants.{Memory, Numbers, Contended}
-use Rattle.bihash_table.specs.Ageing.{Ages, FindsNone, Look, LookInTurn, Sweeps, TellsExpire, TellsExpireTry}
+use Rattle.bihash_table.specs.Ageing.{Ages, Look, LookInTurn, Sweeps, TellsExpire, TellsExpireTry}
 use Rattle.bihash_table.specs.Answers.{entry_of, recycled_update, search_of, with_locks}
 use Rattle.bihash_table.specs.Calls.{TellsLone, TellsRecycle, TellsRecycleTry, TellsSearch, TellsSearchTry, TellsUpdate, TellsUpdateTry}
 use Rattle.bihash_table.specs.Closing.{IsCloseRefused, LeavesStrangers, StaysWhole}
