@@ -17,7 +17,7 @@ use racl_runs::{
     run_expecting, run_interfaces, run_live, run_live_interfaces, run_saving, run_shard,
 };
 use racl_system::{
-    DiffInput, ExpectingInput, LiveFiles, LiveInterfaces, NamedPolicy, Output, Ran, SeenFiles, SystemFiles, Watched, check_file, expand_file, failure_status, mistyped_status, opened_diff, opened_expecting, opened_input, opened_live, opened_live_interfaces, read_interface_input, saves_to, say_capture_fault, say_end_of_interfaces, say_end_of_live, say_end_of_live_interfaces, say_end_of_run, say_outcome, say_policy_fault, say_unsaved, say_used_twice, say_wrong_expectations, settled, standard_source, task_or_status, texts_of, watched_where,
+    DiffInput, ExpectingInput, LiveFiles, LiveInterfaces, NamedPolicy, Output, Ran, SeenFiles, SystemFiles, Watched, Words, asked_or_status, check_file, expand_file, failure_status, mistyped_status, opened_diff, opened_expecting, opened_input, opened_live, opened_live_interfaces, read_interface_input, saves_to, say_capture_fault, say_end_of_interfaces, say_end_of_live, say_end_of_live_interfaces, say_end_of_run, say_outcome, say_policy_fault, say_unsaved, say_used_twice, say_wrong_expectations, settled, standard_source, texts_of, watched_where,
 };
 use std::alloc::Global;
 use std::env::args;
@@ -48,15 +48,15 @@ fn status_of_main<T: Clock + Threads + Wait + Sync + Copy + Send + 'static>(
     if let Some(status) = mistyped_status(rt, alloc, texts)? {
         return Ok(status);
     }
-    match task_or_status(rt, alloc, texts)? {
-        Ok(Task::Run(asked)) => status_of_run(rt, threads, alloc, &asked),
-        Ok(Task::Check(policy)) => {
+    match asked_or_status(rt, alloc, texts)? {
+        Ok(Words::Run(asked)) => status_of_run(rt, threads, alloc, &asked),
+        Ok(Words::Command(Task::Check(policy))) => {
             check_file(rt, alloc, policy, &mut Device::new(rt.standard_output()))
         }
-        Ok(Task::Expand(file)) => expand_file(rt, alloc, file),
-        Ok(Task::Ask(asked)) => status_of_ask(rt, threads, alloc, &asked),
-        Ok(Task::Diff(files)) => status_of_diff(rt, threads, alloc, &files),
-        Ok(Task::Compare(files)) => status_of_compare(rt, alloc, &files),
+        Ok(Words::Command(Task::Expand(file))) => expand_file(rt, alloc, file),
+        Ok(Words::Command(Task::Ask(asked))) => status_of_ask(rt, threads, alloc, &asked),
+        Ok(Words::Command(Task::Diff(files))) => status_of_diff(rt, threads, alloc, &files),
+        Ok(Words::Command(Task::Compare(files))) => status_of_compare(rt, alloc, &files),
         Err(status) => Ok(status),
     }
 }

@@ -1,5 +1,4 @@
--- What the words ask for in all: a run, or what the command does whose name is the first word after the program's (this project's
--- profile).
+-- What the words ask for that begin with the name of a command, the first behind the program's (this project's profile).
 use Rattle.std.specs.Prelude.{◌≡◌, ◌⊎◌, ◌+◌, ◌&&◌, ◌||◌, ℕ, Bool, true, false, List, [], ◌∷◌, map}
 use Rattle.std.specs.Prelude.{Option, None, Some, codes, if◌then◌else◌, is_some, nat_lt, option_and_then, option_map, slice_get}
 use Rattle.std.specs.List.{fold}
@@ -11,7 +10,6 @@ use Rattle.clap.specs.declared.builder.action.ArgAction.TheVariants.{Append, Set
 use Rattle.clap.specs.declared.error.Error.{Error}
 use Rattle.clap.specs.declared.error.kind.ErrorKind.{ErrorKind}
 use Rattle.clap.specs.declared.error.kind.ErrorKind.TheVariants.{DisplayVersion, ValueValidation}
-use Rattle.racl_options.specs.Asking.{AskForNothing, AskForRun, AskedFacts, asked_facts}
 use Rattle.racl_options.specs.Behind.{text_behind}
 use Rattle.racl_options.specs.CommandLine.{Values, long_rule, racl, values_of}
 use Rattle.racl_options.specs.Origins.{is_standard}
@@ -119,7 +117,6 @@ abbrev pub compare_facts : CompareFiles → CompareFacts
 compare_facts f = record { before = f.before.now; after = f.after.now }
 
 pub data TaskFacts : Type 0 where
-  RunTask : AskedFacts → TaskFacts
   CheckTask : Text → TaskFacts
   ExpandTask : Text → TaskFacts
   AskTask : AskFacts → TaskFacts
@@ -127,7 +124,6 @@ pub data TaskFacts : Type 0 where
   CompareTask : CompareFacts → TaskFacts
 
 abbrev pub task_facts : Task → TaskFacts
-task_facts (task.Run asked) = RunTask (asked_facts asked)
 task_facts (task.Check name) = CheckTask name.now
 task_facts (task.Expand name) = ExpandTask name.now
 task_facts (task.Ask a) = AskTask (ask_facts a)
@@ -191,23 +187,20 @@ named_command words = option_map (λ p. p.0) (subcommand_of racl_commands words)
 
 -- ---- words
 
-abbrev pub AskWhere : Bool → List Text → TaskFacts → Type 0
-AskWhere false words task = (asked : AskedFacts) × (task ≡ RunTask asked) × AskForRun words asked
-AskWhere true words task = (fault_of racl_commands words ≡ []) × (named_task words ≡ Some task)
-
--- the words ask for this: those that begin with a command's name for what it does, and others for a run
-abbrev pub AskForTask : List Text → TaskFacts → Type 0
-AskForTask words task = AskWhere (begins_with_command words) words task
+-- the words ask for this, or begin with no command
+abbrev pub AskForTask : List Text → Option TaskFacts → Type 0
+AskForTask words None = begins_with_command words ≡ false
+AskForTask words (Some task) = (begins_with_command words ≡ true) × (fault_of racl_commands words ≡ []) × (named_task words ≡ Some task)
 
 -- the kind of the error where a command's words have no fault and yet ask for nothing that it does
 abbrev pub kind_for : Option Text → ErrorKind
 kind_for name = if option_map_or (λ n. bytes_eq n (codes "version")) name false then DisplayVersion else ValueValidation
 
-abbrev pub RefuseWhere : Bool → List Text → Error → Type 0
-RefuseWhere false words e = HasKind (fault_of racl words) e ⊎ ((kind_of e ≡ ValueValidation) × AskForNothing words)
-RefuseWhere true words e = HasKind (fault_of racl_commands words) e
+-- the error has a kind of the words' fault, or they have none and yet ask for nothing, or memory ran out
+abbrev pub RefusesCommand : List Text → Error → Type 0
+RefusesCommand words e = HasKind (fault_of racl_commands words) e
     ⊎ ((fault_of racl_commands words ≡ []) × (named_task words ≡ None) × (kind_of e ≡ kind_for (named_command words)))
 
--- the error has a kind of the words' fault, or they have none and yet ask for nothing, or memory ran out
+-- so of words that begin with a command
 abbrev pub RefusesTask : List Text → Error → Type 0
-RefusesTask words e = RefuseWhere (begins_with_command words) words e
+RefusesTask words e = (begins_with_command words ≡ true) × RefusesCommand words e

@@ -14,6 +14,7 @@ ghost use Rattle.racl_options.specs.inner.Commands.{with_flags, with_lines, with
 use crate::asked_options::asked_by;
 use crate::named_files::Refusal;
 use crate::settings::Asked;
+use crate::task_words::with_whole_help;
 use clap::error::ErrorKind;
 use clap::{Arg, ArgAction, Command, Error, value_parser};
 use std::alloc::{AllocError, Global};
@@ -39,7 +40,7 @@ pub fn options<'a>(alloc: Global, words: &'a [&'a str]) -> Result<Asked<'a>, Err
     let mut command = command(alloc)?;
     let matches = match command.try_get_matches_from_mut(words) {
         Ok(matches) => matches,
-        Err(error) => return Err(error),
+        Err(error) => return Err(with_whole_help(alloc, error)),
     };
     match asked_by(alloc, &matches) {
         Ok(asked) => Ok(asked),

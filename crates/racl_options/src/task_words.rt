@@ -1,15 +1,12 @@
-//! The words of the command line, and what they ask for in all.
-ghost use Rattle.std.specs.Prelude.{◌≡◌, ◌∷◌, [], List, IfErr, IfOk, IfSome, MatchResult, Some, codes, false, option_map, slice_get, true};
-ghost use Rattle.clap.specs.Walk.{Text, texts};
+//! The words that begin with the name of a command, and what they ask for.
+ghost use Rattle.std.specs.Prelude.{◌≡◌, ◌∷◌, [], IfErr, IfOk, IfSome, MatchResult, None, Ok, Some, codes, false, option_map, slice_get};
+ghost use Rattle.clap.specs.Kinds.{Kinds};
+ghost use Rattle.clap.specs.Walk.{texts};
 ghost use Rattle.clap.specs.Words.{FailsBy, HasKind, fault_of, first_value, found_of, kind_of};
 ghost use Rattle.clap.specs.declared.error.kind.ErrorKind.TheVariants.{DisplayHelp, DisplayVersion};
-ghost use Rattle.racl_options.specs.Asking.{asked_facts};
-ghost use Rattle.racl_options.specs.Behind.{text_behind};
-ghost use Rattle.racl_options.specs.Options.{AreNames, AreSettings, Setting, Use, asked_as, values_of, words_as};
-ghost use Rattle.racl_options.specs.Origins.{Name, OriginFacts};
 ghost use Rattle.racl_options.specs.Tasks as tasks;
-ghost use Rattle.racl_options.specs.Tasks.{AskForTask, AskWhere, RefuseWhere, RefusesTask, AskTask, CheckTask, CompareTask, DiffTask, ExpandTask, RunTask, TaskFacts, begins_with_command};
-ghost use Rattle.racl_options.specs.Tasks.{ask_facts, compare_facts, diff_facts, task_facts, task_in, with_commands};
+ghost use Rattle.racl_options.specs.Tasks.{AskForTask, RefusesCommand, RefusesTask, begins_with_command, named_task, racl_commands, with_commands};
+ghost use Rattle.racl_options.specs.Tasks.{AskTask, CheckTask, CompareTask, DiffTask, ExpandTask, TaskFacts, task_facts, task_in};
 ghost use Rattle.racl_options.specs.inner.Commands.{without_options};
 ghost use Rattle.racl_options.specs.inner.Naming.{values_in};
 
@@ -28,24 +25,23 @@ static VERSION_WORDS: [&str; 2] = ["racl", "--version"];
 
 const NOT_ASKED: &str = "that can't be done: one file at most is standard input, `ask` takes --explain or --expect, and `import` is a script beside the program";
 
-/// Reads the words of the command line, of which the first is the program's name. An `Err` is a request for help or for the
-/// version, a mistake in the words, or that memory ran out, by its kind.
-pub fn task_of<'a>(alloc: Global, words: &'a [&'a str]) -> Result<Task<'a>, Error>
-    ensures ok { IfOk result (λ task. AskForTask (texts words.entry.now) (task_facts task)) }
+/// What the words ask for that begin with the name of a command, behind the program's. `None`: they begin with none. An `Err` is a
+/// request for help or for the version, a mistake in the words, or that memory ran out, by its kind.
+pub fn task_of<'a>(alloc: Global, words: &'a [&'a str]) -> Result<Option<Task<'a>>, Error>
+    ensures ok { IfOk result (λ task. AskForTask (texts words.entry.now) (option_map task_facts task)) }
 
-    // Words that ask for something, and those that a user writes for a run, are refused for want of memory alone.
-    ensures accepts { (task : TaskFacts) → AskForTask (texts words.entry.now) task
-        → MatchResult result (λ found. task_facts found ≡ task) (λ e. kind_of e ≡ ErrorKind.OutOfMemory) }
-    ensures written { (program : Text) (settings : List Setting) (uses : List Use) (names : List Text) (origin : OriginFacts)
-        → AreSettings settings → AreNames names → Name (slice_get names 0) (slice_get names 1) (values_of uses) origin
-        → texts words.entry.now ≡ program ∷ words_as settings uses names → begins_with_command (texts words.entry.now) ≡ false
-        → MatchResult result (λ found. task_facts found ≡ RunTask (asked_as settings origin)) (λ e. kind_of e ≡ ErrorKind.OutOfMemory) }
+    // Words that ask for something are refused for want of memory alone, and others aren't read.
+    ensures accepts { (task : Option TaskFacts) → AskForTask (texts words.entry.now) task
+        → MatchResult result (λ found. option_map task_facts found ≡ task) (λ e. kind_of e ≡ ErrorKind.OutOfMemory) }
+    ensures none { begins_with_command (texts words.entry.now) ≡ false → result ≡ Ok None }
     ensures refuses { IfErr result (RefusesTask (texts words.entry.now)) }
 {
-    if names_command(words) {
-        task_of_command(alloc, words)
-    } else {
-        task_of_run(alloc, words)
+    if !names_command(words) {
+        return Ok(None);
+    }
+    match task_of_command(alloc, words) {
+        Ok(task) => Ok(Some(task)),
+        Err(error) => Err(error),
     }
 }
 
@@ -67,28 +63,10 @@ fn is_command(word: &str) -> bool
                         || (word == "import" || (word == "version" || word == "help"))))))
 }
 
-// The run that words ask for which begin with no command.
-fn task_of_run<'a>(alloc: Global, words: &'a [&'a str]) -> Result<Task<'a>, Error>
-    ensures ok { IfOk result (λ task. AskWhere false (texts words.entry.now) (task_facts task)) }
-    ensures written { (program : Text) (settings : List Setting) (uses : List Use) (names : List Text) (origin : OriginFacts)
-        → AreSettings settings → AreNames names → Name (slice_get names 0) (slice_get names 1) (values_of uses) origin
-        → texts words.entry.now ≡ program ∷ words_as settings uses names
-        → MatchResult result (λ found. task_facts found ≡ RunTask (asked_as settings origin)) (λ e. kind_of e ≡ ErrorKind.OutOfMemory) }
-    ensures refuses { IfErr result (RefuseWhere false (texts words.entry.now)) }
-{
-    match options(alloc, words) {
-        Ok(asked) => Ok(Task::Run(asked)),
-        Err(error) => match error.kind() {
-            ErrorKind::DisplayHelp => Err(whole_help(alloc)),
-            _ => Err(error),
-        },
-    }
-}
-
 // What the command does that the words begin with.
 fn task_of_command<'a>(alloc: Global, words: &'a [&'a str]) -> Result<Task<'a>, Error>
-    ensures ok { IfOk result (λ task. AskWhere true (texts words.entry.now) (task_facts task)) }
-    ensures refuses { IfErr result (RefuseWhere true (texts words.entry.now)) }
+    ensures ok { IfOk result (λ task. (fault_of racl_commands (texts words.entry.now) ≡ []) × (named_task (texts words.entry.now) ≡ Some (task_facts task))) }
+    ensures refuses { IfErr result (RefusesCommand (texts words.entry.now)) }
 {
     let base = command(alloc)?;
     let mut command = with_subcommands(alloc, base)?;
@@ -104,6 +82,16 @@ fn task_of_command<'a>(alloc: Global, words: &'a [&'a str]) -> Result<Task<'a>, 
         Some(task) => Ok(task),
         None if name == "version" => Err(version_asked(alloc)),
         None => Err(command.error(ErrorKind::ValueValidation, NOT_ASKED)?),
+    }
+}
+
+/// An error of the run's words, of which a request for help gets that of the command line with all of its subcommands.
+pub fn with_whole_help(alloc: Global, error: Error) -> Error
+    ensures { (kinds : Kinds) → HasKind kinds error → HasKind kinds result }
+{
+    match error.kind() {
+        ErrorKind::DisplayHelp => whole_help(alloc),
+        _ => error,
     }
 }
 

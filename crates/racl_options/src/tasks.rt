@@ -1,5 +1,4 @@
-//! What the words of the command line ask for in all, as types.
-use crate::settings::Asked;
+//! What the words of the command line ask of a command, as types.
 
 /// Packets in words, of which it is asked what becomes of them.
 #[derive(Drop)]
@@ -32,10 +31,9 @@ pub struct CompareFiles<'a> {
     pub after: &'a str,
 }
 
-/// What the words of the command line ask for.
+/// What a command is asked to do.
 #[derive(Drop)]
 pub enum Task<'a> {
-    Run(Asked<'a>),
     /// The check of the policy in the file of this name.
     Check(&'a str),
     /// The plain policy of the one in the file of this name.

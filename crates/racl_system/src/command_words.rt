@@ -1,11 +1,11 @@
 //! The program's words, and what they ask for.
 ghost use Rattle.std.specs.Prelude.{◌≡◌, IfErr, IfOk, map, string_bytes};
 ghost use Rattle.clap.specs.Walk.{texts};
-ghost use Rattle.racl_options.specs.Tasks.{AskForTask, task_facts};
-ghost use Rattle.racl_system.specs.WordStatuses.{IsWordsStatus};
+ghost use Rattle.racl_system.specs.WordStatuses.{AskForWords, IsWordsStatus};
 
+use crate::asked_words::Words;
 use crate::say_and_answer_status::say_refused;
-use racl_options::{Task, doubtful_word, known_command, task_of};
+use racl_options::{doubtful_word, known_command, options, task_of};
 use std::alloc::Global;
 use std::fs::metadata;
 use std::io;
@@ -23,16 +23,20 @@ pub fn texts_of<'a>(alloc: Global, words: &'a [String]) -> io::Result<Vec<&'a st
 }
 
 /// What the words ask for. Where they are refused that is told, and the status is answered.
-pub fn task_or_status<'a>(
+pub fn asked_or_status<'a>(
     system: &(impl Print + Eprint),
     alloc: Global,
     words: &'a [&'a str],
-) -> io::Result<Result<Task<'a>, u8>>
-    ensures task { IfOk result (λ found. IfOk found (λ task. AskForTask (texts words.entry.now) (task_facts task))) }
+) -> io::Result<Result<Words<'a>, u8>>
+    ensures asked { IfOk result (λ found. IfOk found (AskForWords (texts words.entry.now))) }
     ensures status { IfOk result (λ found. IfErr found (IsWordsStatus (texts words.entry.now))) }
 {
     match task_of(alloc, words) {
-        Ok(task) => Ok(Ok(task)),
+        Ok(Some(task)) => Ok(Ok(Words::Command(task))),
+        Ok(None) => match options(alloc, words) {
+            Ok(asked) => Ok(Ok(Words::Run(asked))),
+            Err(error) => Ok(Err(say_refused(system, &error)?)),
+        },
         Err(error) => Ok(Err(say_refused(system, &error)?)),
     }
 }

@@ -2,6 +2,7 @@
 //! packets, shows progress, and says on standard error what there is to say.
 #![tactic(auto)]
 
+mod asked_words;
 mod capture_feeding;
 mod coming_captures;
 mod command_words;
@@ -27,8 +28,9 @@ mod say_policy_remarks;
 mod say_wrong_policy;
 mod system_files;
 
+pub use asked_words::Words;
 pub use coming_captures::{ComingCaptures, LiveInterfaces, opened_live_interfaces};
-pub use command_words::{mistyped_status, task_or_status, texts_of};
+pub use command_words::{asked_or_status, mistyped_status, texts_of};
 pub use diff_input::{DiffInput, opened_diff, say_capture_fault};
 pub use end_of_run::{
     Ran, SeenFiles, say_end_of_interfaces, say_end_of_live, say_end_of_live_interfaces,
