@@ -91,7 +91,17 @@ class Files(Case):
         self.compare(self.run_on(NAMES + line, CAPTURE), want, "one capture")
         files = [self.hold("policy", NAMES + line), f"--interface=7={self.hold('capture', CAPTURE)}"]
         self.compare(self.program.run(files), want, "an interface")
-        self.compare(self.run_on(b"in deny\n" + NAMES + line, CAPTURE), wanted(stderr=f"racl: {self.policy}: line 1 ends too early; see racl check\n", status=1))
+        self.compare(self.run_on(b"in deny\n" + NAMES + line, CAPTURE), wanted(stderr="racl: policy line 1 is wrong\n", status=1))
+
+    def test_wrong_policies(self):
+        """A wrong policy is told by its file, its line and the reason that a check has."""
+        for policy, told in ((b"in deny\n", "line 1 ends too early"), (NAMES + b"# one\nin permit ipv4 any any tpc\n", "line 4: `tpc` is no protocol: any, tcp, udp, icmp or a number up to 255"),
+                             (NAMES + NAMES, "line 3: `mac` stands in this section already"), (b"in deny ipv4 any any\n" * 4097, "line 4097: `in` is one rule too many: a direction has at most 4096")):
+            want = wanted(stderr=f"racl: {self.policy}: {told}; see racl check\n", status=1)
+            self.compare(self.run_on(policy, CAPTURE), want, told)
+            for words in (["--any-length", self.policy, self.capture], ["--shard", "1/2", self.policy, self.capture], [f"--interface=1={self.capture}", self.policy],
+                          ["--live", f"--interface=1={self.capture}", self.policy]):
+                self.compare(self.program.run(words), want, told, *words)
 
     def test_out_rules_without_an_own_address(self):
         got = self.run_on(NAMES.partition(b"\n")[2] + b"interface 7\n" + RULES, CAPTURE)
