@@ -85,6 +85,12 @@ WRONG_COMMANDS = [
 MISTYPED = [(["chek"], "check"), (["chek", "policy"], "check"), (["expnd", "rules"], "expand"), (["compar", "one", "two"], "compare"), (["one"], None)]
 
 
+def unknown(word, close):
+    """What is wanted where a word is no command, and that one is close to it."""
+    tip = f"\n  tip: a similar subcommand exists: '{close}'\n" if close else ""
+    return wanted(stderr=f"error: unrecognized subcommand '{word}'\n{tip}{USAGE}{MORE}", status=2)
+
+
 class Words(Case):
     def test_help(self):
         self.compare(self.program.run(["--help"]), wanted(bytes_of_file(f"{TOP}/tests/help.txt")))
@@ -118,8 +124,7 @@ class Words(Case):
 
     @each((f"words {words}", words, close) for words, close in MISTYPED)
     def mistyped(self, words, close):
-        tip = f"\n  tip: a similar subcommand exists: '{close}'\n" if close else ""
-        self.compare(self.program.run(words), wanted(stderr=f"error: unrecognized subcommand '{words[0]}'\n{tip}{USAGE}{MORE}", status=2))
+        self.compare(self.program.run(words), unknown(words[0], close))
 
     def test_files_with_names_like_commands(self):
         """A word that names a file is the policy, and a command's name is one only where it stands first."""
