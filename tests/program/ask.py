@@ -96,13 +96,15 @@ class Asked(Case):
         self.compare(got, wanted(stderr="racl: packet 1 can't go out: interface 1 has no mac line\n", status=2))
 
     def test_missing_words(self):
-        for words in (["ask"], ["ask", "-"], ["ask", "--explain", "-"]):
+        for words, missing in ((["ask"], "  <POLICY>\n  <PACKET>...\n"), (["ask", "-"], "  <PACKET>...\n"), (["ask", "--explain", "-"], "  <PACKET>...\n")):
             got = self.program.run(words, POLICY)
-            self.compare(got, wanted(stderr="racl: racl ask takes: [--explain | --expect FILE] POLICY PACKET ..\n", status=2), *words)
+            said = (f"error: the following required arguments were not provided:\n{missing}\n"
+                    "Usage: racl ask [--explain | --expect FILE] POLICY PACKET ..\n\nFor more information, try '--help'.\n")
+            self.compare(got, wanted(stderr=said, status=2), *words)
 
     def test_wrong_policy(self):
         got = self.program.run(["ask", "-", "in udp 10.0.0.1 1 10.0.0.2 2"], b"in\n")
-        self.compare(got, wanted(stderr="racl: policy line 1 is wrong\n", status=1))
+        self.compare(got, wanted(stderr="racl: -: line 1 ends too early; see racl check\n", status=1))
 
     @each(EXPECTED)
     def expected(self, expected, lines):

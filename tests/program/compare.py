@@ -46,9 +46,9 @@ PAIRS = [
 ]
 
 FAULTS = [
-    ("a wrong line", b"maybe\n", b"\n", "racl: policy line 1 is wrong\nracl: that is {old}\n"),
-    ("a wrong line of the other", b"\n", b"\nmaybe\n", "racl: policy line 2 is wrong\nracl: that is {new}\n"),
-    ("a wrong line of each", b"maybe\n", b"\nmaybe\n", "racl: policy line 1 is wrong\nracl: that is {old}\n"),
+    ("a wrong line", b"maybe\n", b"\n", "racl: {old}: line 1: `maybe` begins no line: in, out, mac and interface do; see racl check\n"),
+    ("a wrong line of the other", b"\n", b"\nmaybe\n", "racl: {new}: line 2: `maybe` begins no line: in, out, mac and interface do; see racl check\n"),
+    ("a wrong line of each", b"maybe\n", b"\nmaybe\n", "racl: {old}: line 1: `maybe` begins no line: in, out, mac and interface do; see racl check\n"),
 ]
 
 # What random policies have of each kind of word, and the packets on which they are tried.

@@ -31,10 +31,10 @@ CHANGES = [
 ]
 
 FAULTS = [
-    ("a wrong line", b"maybe\n", NAMES, CAPTURE, "racl: policy line 1 is wrong\nracl: that is {old}\n", 1),
-    ("a wrong line of the other", NAMES, b"maybe\n", CAPTURE, "racl: policy line 1 is wrong\nracl: that is {new}\n", 1),
-    ("a wrong line of each", b"maybe\n", b"\nmaybe\n", CAPTURE, "racl: policy line 1 is wrong\nracl: that is {old}\n", 1),
-    ("a wrong line of the other, and no capture", NAMES, b"\nmaybe\n", b"", "racl: policy line 2 is wrong\nracl: that is {new}\n", 1),
+    ("a wrong line", b"maybe\n", NAMES, CAPTURE, "racl: {old}: line 1: `maybe` begins no line: in, out, mac and interface do; see racl check\n", 1),
+    ("a wrong line of the other", NAMES, b"maybe\n", CAPTURE, "racl: {new}: line 1: `maybe` begins no line: in, out, mac and interface do; see racl check\n", 1),
+    ("a wrong line of each", b"maybe\n", b"\nmaybe\n", CAPTURE, "racl: {old}: line 1: `maybe` begins no line: in, out, mac and interface do; see racl check\n", 1),
+    ("a wrong line of the other, and no capture", NAMES, b"\nmaybe\n", b"", "racl: {new}: line 2: `maybe` begins no line: in, out, mac and interface do; see racl check\n", 1),
     ("no capture", NAMES, NAMES, b"", "racl: capture header is short\n", 1),
 ]
 

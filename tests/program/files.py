@@ -77,7 +77,13 @@ class Files(Case):
     @each((f"{name} as the policy", name, data) for name, data in [("pcap", CAPTURE), *((it[0], it[1]) for it in OTHERS)])
     def swapped(self, name, data):
         second = "" if name == "other" else SWAPPED
-        self.compare(self.run_on(data + b"\xff", NAMES), wanted(stderr=f"racl: policy is not UTF-8\n{second}", status=1))
+        got = self.run_on(data + b"\xff", NAMES)
+        try:
+            (data + b"\xff").decode()
+        except UnicodeDecodeError as broken:
+            number = data[:broken.start].count(b"\n") + 1
+        told = f"racl: {self.policy}: line {number} is not UTF-8; see racl check\n"
+        self.compare(got, wanted(stderr=told + second, status=1))
 
     @each([(f"a line {it.decode()!r} in the policy's file", it) for it in (b"pcap", b"hex\r\nd4\n", b"hex 0\n", b"hex 255\nin deny\n")])
     def marked_policy(self, line):
@@ -86,6 +92,16 @@ class Files(Case):
         files = [self.hold("policy", NAMES + line), f"--interface=7={self.hold('capture', CAPTURE)}"]
         self.compare(self.program.run(files), want, "an interface")
         self.compare(self.run_on(b"in deny\n" + NAMES + line, CAPTURE), wanted(stderr="racl: policy line 1 is wrong\n", status=1))
+
+    def test_wrong_policies(self):
+        """A wrong policy is told by its file, its line and the reason that a check has."""
+        for policy, told in ((b"in deny\n", "line 1 ends too early"), (NAMES + b"# one\nin permit ipv4 any any tpc\n", "line 4: `tpc` is no protocol: any, tcp, udp, icmp or a number up to 255"),
+                             (NAMES + NAMES, "line 3: `mac` stands in this section already"), (b"in deny ipv4 any any\n" * 4097, "line 4097: `in` is one rule too many: a direction has at most 4096")):
+            want = wanted(stderr=f"racl: {self.policy}: {told}; see racl check\n", status=1)
+            self.compare(self.run_on(policy, CAPTURE), want, told)
+            for words in (["--any-length", self.policy, self.capture], ["--shard", "1/2", self.policy, self.capture], [f"--interface=1={self.capture}", self.policy],
+                          ["--live", f"--interface=1={self.capture}", self.policy]):
+                self.compare(self.program.run(words), want, told, *words)
 
     def test_out_rules_without_an_own_address(self):
         got = self.run_on(NAMES.partition(b"\n")[2] + b"interface 7\n" + RULES, CAPTURE)
@@ -133,9 +149,10 @@ class Files(Case):
         self.compare(got, wanted(b"1 drop default\npackets 1 pass 0 drop 1\n"))
 
     def test_too_many_bytes(self):
-        for policy in (b" " * (MOST_BYTES - len(CAPTURE)), b"pcap\n" + b" " * MOST_BYTES):
+        longer = "racl: a capture of any length is read with --any-length\n"
+        for policy, step in ((b" " * (MOST_BYTES - len(CAPTURE)), longer), (b"pcap\n" + b" " * MOST_BYTES, "")):
             got = self.run_on(policy, CAPTURE)
-            self.compare(got, wanted(stderr="racl: input over 67108864 bytes\n", status=1))
+            self.compare(got, wanted(stderr=f"racl: input over 67108864 bytes\n{step}", status=1))
 
     @each(OTHERS)
     def others(self, data, fault, said):

@@ -211,7 +211,7 @@ class Live(Case):
         self.compare(got, wanted(stderr="racl: input over 67108864 bytes\n", status=1))
 
     def test_wrong_policy(self):
-        self.compare(self.run_on(b"in deny\n", CAPTURE), wanted(stderr="racl: policy line 1 is wrong\n", status=1))
+        self.compare(self.run_on(b"in deny\n", CAPTURE), wanted(stderr=f"racl: {self.policy}: line 1 ends too early; see racl check\n", status=1))
 
     def test_many_bytes(self):
         count = 1_250_000

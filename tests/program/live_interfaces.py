@@ -220,6 +220,8 @@ class LiveInterfaces(Case):
         told = {**wanted(None, None, 1), "stdout": got["stdout"]}
         self.compare(got, told)
         self.assertTrue(got["stderr"].startswith(f"racl: {said}\nracl: that is {self.folder}/2, the capture of interface 2\n".encode()), got["stderr"])
+        step = b"racl: a capture that is read is made by: tcpdump -i NAME -y EN10MB -w OUT\n"
+        self.assertEqual(got["stderr"].endswith(step), said.endswith("Ethernet"), got["stderr"])
         self.assertNotIn(b"packets", got["stdout"])
 
     def test_long_record_behind_others(self):
@@ -239,8 +241,9 @@ class LiveInterfaces(Case):
             self.assertEqual(whole["status"], 1)
 
     def test_wrong_policy(self):
-        got = self.program.run(["--live", *self.words_of(BOTH), self.hold("policy", b"in deny\n")])
-        self.compare(got, wanted(stderr="racl: policy line 1 is wrong\n", status=1))
+        policy = self.hold("policy", b"in deny\n")
+        got = self.program.run(["--live", *self.words_of(BOTH), policy])
+        self.compare(got, wanted(stderr=f"racl: {policy}: line 1 ends too early; see racl check\n", status=1))
 
     def test_reader_that_is_gone(self):
         """A run whose reader is gone ends."""

@@ -48,9 +48,9 @@ class Saved(Case):
                 os.remove(path)
 
     def test_wrong_policy(self):
-        self.hold("policy", b"in deny\n")
+        policy = self.hold("policy", b"in deny\n")
         got = self.program.run(["--drops", self.drops, *self.files])
-        self.compare(got, wanted(stderr="racl: policy line 1 is wrong\n", status=1), "the run")
+        self.compare(got, wanted(stderr=f"racl: {policy}: line 1 ends too early; see racl check\n", status=1), "the run")
         self.compare({"is there": os.path.exists(self.drops)}, {"is there": False}, "the file")
 
     def test_files_that_are_there(self):

@@ -1,17 +1,17 @@
 """The help, the version, and words that are refused."""
+from support.captures import CAPTURE, NAMES, REFLECTED
 from support.cases import TOP, Case, bytes_of_file, each, wanted
 
 MORE = "\nFor more information, try '--help'.\n"
 USAGE = ("\nUsage: racl [OPTIONS] POLICY CAPTURE\n       racl [OPTIONS] --interface N=CAPTURE .. POLICY\n"
-         "       racl [OPTIONS] < INPUT\n       racl check POLICY\n       racl expand FILE\n       racl ask [--explain | --expect FILE] POLICY PACKET ..\n       racl diff OLD NEW CAPTURE\n"
-         "       racl compare OLD NEW\n")
+         "       racl [OPTIONS] < INPUT\n       racl COMMAND ..\n")
 NOT_NAMED = "error: --interface takes N=CAPTURE: the number of an interface, 0 to 255, and its capture\n" + USAGE + MORE
 ONE_STREAM = "error: only one file can be standard input\n" + USAGE + MORE
 
 # Words that are refused with status 2, and what is said, where the whole of it is compared.
 WRONG_WORDS = [
     (["--workers", "17"], "error: invalid value '17' for '--workers <N>': 17 is not in 1..=16\n" + MORE),
-    (["one"], "error: POLICY alone names no capture: CAPTURE or --interface N=CAPTURE is missing\n" + USAGE + MORE),
+    (["/dev/null"], "error: POLICY alone names no capture: CAPTURE or --interface N=CAPTURE is missing\n" + USAGE + MORE),
     (["one", "two", "three"], "error: unexpected argument 'three' found\n" + USAGE + MORE),
     (["-", "-"], ONE_STREAM),
     (["--interface", "1=-", "-"], ONE_STREAM),
@@ -54,6 +54,42 @@ WRONG_WORDS = [
     (["--live"], None),
 ]
 
+# Each command: how it is used, and what it is about.
+COMMANDS = {
+    "check": ("racl check POLICY", "Tells every wrong line of a policy, and what in a right one is unlikely to be meant"),
+    "expand": ("racl expand FILE", "Writes the plain policy of one with named sets, lists, included files, and `ip` for both families"),
+    "ask": ("racl ask [--explain | --expect FILE] POLICY PACKET ..", "Tells what a policy does to packets that are written in words"),
+    "diff": ("racl diff [--age] OLD NEW CAPTURE", "Tells of which packets of a capture two policies say different things"),
+    "compare": ("racl compare OLD NEW", "Tells what two policies decide differently, with a packet for each difference"),
+    "import": ("racl import FORM [FILE]", "Writes a policy from another firewall's rules"),
+    "version": ("racl version", "Tells the version, as --version"),
+}
+
+# Words of commands that are refused with status 2, and what is said.
+WRONG_COMMANDS = [
+    (["check"], "error: the following required arguments were not provided:\n  <POLICY>\n\nUsage: racl check POLICY\n" + MORE),
+    (["check", "one", "two"], "error: unexpected argument 'two' found\n\nUsage: racl check POLICY\n" + MORE),
+    (["ask", "--json", "one", "two"], None),
+    (["ask", "one"], None),
+    (["ask", "--explain", "--expect", "one", "two", "three"], None),
+    (["compare", "one"], None),
+    (["compare", "-", "-"], None),
+    (["diff", "one", "two"], None),
+    (["diff", "-", "-", "three"], None),
+    (["expand", "--hits", "one"], None),
+    (["version", "one"], None),
+    (["help", "chek"], "error: unrecognized subcommand 'chek'\n" + USAGE + MORE),
+]
+
+# Words that may be mistyped commands and name no file, and the command that is close to each.
+MISTYPED = [(["chek"], "check"), (["chek", "policy"], "check"), (["expnd", "rules"], "expand"), (["compar", "one", "two"], "compare"), (["one"], None)]
+
+
+def unknown(word, close):
+    """What is wanted where a word is no command, and that one is close to it."""
+    tip = f"\n  tip: a similar subcommand exists: '{close}'\n" if close else ""
+    return wanted(stderr=f"error: unrecognized subcommand '{word}'\n{tip}{USAGE}{MORE}", status=2)
+
 
 class Words(Case):
     def test_help(self):
@@ -66,3 +102,35 @@ class Words(Case):
     @each((f"words {words}", words, said) for words, said in WRONG_WORDS)
     def wrong_words(self, words, said):
         self.compare(self.program.run(words), wanted(stderr=said, status=2))
+
+    def test_help_of_all(self):
+        for words in (["help"], ["-h"], ["--hits", "--help"], ["policy", "capture", "-h"]):
+            self.compare(self.program.run(words), wanted(bytes_of_file(f"{TOP}/tests/help.txt")), *words)
+
+    @each((name, name, *told) for name, told in COMMANDS.items())
+    def help_of(self, name, usage, about):
+        want = f"{about}\n\nUsage: {usage}\n"
+        for words in ([name, "--help"], [name, "-h"], ["help", name]):
+            got = self.program.run(words)
+            self.compare({"status": got["status"], "stderr": got["stderr"], "stdout": got["stdout"].decode().startswith(want)},
+                         {"status": 0, "stderr": b"", "stdout": True}, *words)
+
+    def test_version_as_a_command(self):
+        self.compare(self.program.run(["version"]), wanted(b"racl 0.1.0\n"))
+
+    @each((f"words {words}", words, said) for words, said in WRONG_COMMANDS)
+    def wrong_commands(self, words, said):
+        self.compare(self.program.run(words), wanted(stderr=said, status=2))
+
+    @each((f"words {words}", words, close) for words, close in MISTYPED)
+    def mistyped(self, words, close):
+        self.compare(self.program.run(words), unknown(words[0], close))
+
+    def test_files_with_names_like_commands(self):
+        """A word that names a file is the policy, and a command's name is one only where it stands first."""
+        for name, data in (("chek", NAMES), ("check", CAPTURE)):
+            self.hold(name, data)
+        for words in (["chek", "check"], ["--udp", "5", "chek", "check"]):
+            self.compare(self.program.run(words, cwd=self.folder), wanted(REFLECTED), *words)
+        got = self.program.run(["check", "check"], cwd=self.folder)
+        self.compare({"stderr": got["stderr"], "status": got["status"]}, {"stderr": b"", "status": 1}, "the check of a capture")

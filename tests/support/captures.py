@@ -74,6 +74,9 @@ def records_of(capture):
     return capture[:24], records
 
 
+# What is said of most captures of other frames than those of Ethernet.
+BY_NAME = "(link type %d); capture an Ethernet interface by its name: tcpdump -i NAME -w OUT"
+
 # Captures that are refused for what they are: name, first bytes, fault, and what the second line says.
 OTHERS = [
     ("pcapng", b"\x0a\x0d\x0d\x0a" + bytes(24), "not a pcap capture",
@@ -85,7 +88,16 @@ OTHERS = [
      "modified pcap; a capture that is read is made by: editcap -F pcap IN OUT"),
     ("cooked", header(link=276, order=">"), "capture is not Ethernet",
      "of Linux cooked frames; capture one interface by its name: tcpdump -i NAME -w OUT"),
-    ("raw", header(link=101), "capture is not Ethernet", None),
+    *((f"link {link}", header(link=link, order=order), "capture is not Ethernet", f"of {frames % link}")
+      for link, order, frames in [
+          (101, "<", f"IP packets without Ethernet headers {BY_NAME}"), (228, ">", f"IP packets without Ethernet headers {BY_NAME}"),
+          (0, "<", f"a loopback interface's packets without Ethernet headers {BY_NAME}"),
+          (108, ">", f"a loopback interface's packets without Ethernet headers {BY_NAME}"),
+          (127, "<", "Wi-Fi frames (link type %d); capture the interface while it isn't in monitor mode: tcpdump -i NAME -y EN10MB -w OUT"),
+          (105, ">", "Wi-Fi frames (link type %d); capture the interface while it isn't in monitor mode: tcpdump -i NAME -y EN10MB -w OUT"),
+          (9, "<", f"a serial line's frames {BY_NAME}"), (239, "<", f"packets that a firewall logged {BY_NAME}"),
+          (143, "<", "link type %d, not of Ethernet; capture an interface that has Ethernet frames: tcpdump -i NAME -y EN10MB -w OUT"),
+          (65535, ">", "link type %d, not of Ethernet; capture an interface that has Ethernet frames: tcpdump -i NAME -y EN10MB -w OUT")]),
     ("other", header(0x0D0A0D0A), "not a pcap capture", None),
 ]
 

@@ -13,7 +13,7 @@ ghost use Rattle.packet_questions.specs.Answers.{AreAnswers, HasAnswered, IsAnsw
 ghost use Rattle.packet_questions.specs.declared.question_fault.QuestionFault.TheVariants as told;
 
 use crate::asked_packets::packets_of;
-use crate::asking_words::Ask;
+use crate::asked_question::Ask;
 use crate::judged_packets::{Judged, filter_of, judged_in};
 use crate::question_fault::QuestionFault;
 use acl_policy::Policy;

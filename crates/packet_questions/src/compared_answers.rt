@@ -6,7 +6,7 @@ ghost use Rattle.packet_questions.specs.Asks.{texts};
 ghost use Rattle.packet_questions.specs.Answers.{HasCompared, IsAnswerFault, words_of_each};
 ghost use Rattle.packet_questions.specs.declared.question_fault.QuestionFault.TheVariants as told;
 
-use crate::asking_words::Ask;
+use crate::asked_question::Ask;
 use crate::judged_packets::{Judged, filter_of, judged_in};
 use crate::question_fault::QuestionFault;
 use bihash_words::{Shape, ShapeV4, ShapeV6};

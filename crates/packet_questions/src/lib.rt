@@ -3,7 +3,7 @@
 
 mod answers;
 mod asked_packets;
-mod asking_words;
+mod asked_question;
 mod carried;
 mod compared_answers;
 mod end;
@@ -17,7 +17,7 @@ mod question_words;
 mod word_numbers;
 
 pub use answers::answer_questions;
-pub use asking_words::{Ask, AskedAbout, asked_about};
+pub use asked_question::Ask;
 pub use compared_answers::compare_answers;
 pub use question_fault::{QuestionFault, answer_status};
 pub use question_form::Form;

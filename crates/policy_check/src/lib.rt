@@ -32,4 +32,4 @@ pub use remark_kinds::{Remark, Unruled};
 pub use remarks_on_policy::{no_mac, remarks_on, unruled};
 pub use shadowing_rules::takes_all;
 pub use source_checking::check_source;
-pub use told_lines::{Told, tell};
+pub use told_lines::{Told, tell, told_first};

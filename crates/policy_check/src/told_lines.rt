@@ -174,6 +174,19 @@ fn push_told_complaints(
     )
 }
 
+/// The line that tells the first complaint of the check of a policy's text, without its end. None: the text is a policy. An
+/// `Err` says that memory ran out.
+pub fn told_first(alloc: Global, text: &[u8]) -> Result<Option<Vec<u8>>, AllocError> {
+    let checked = check_policy(alloc, text)?;
+    let Some(first) = checked.complaints.first() else {
+        return Ok(None);
+    };
+    let mut out = Vec::new(alloc);
+    push_told_complaint(alloc, &mut out, first)?;
+    out.pop();
+    Ok(Some(out))
+}
+
 /// Tells line by line what a check of a policy's text found: what is wrong, or else what is remarked. An `Err` says
 /// that memory ran out.
 pub fn tell(alloc: Global, text: &[u8]) -> Result<Told, AllocError>

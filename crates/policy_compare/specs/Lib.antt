@@ -1,5 +1,4 @@
 pub mod ComparedTexts
-pub mod CompareWords
 pub mod ComparisonReports
 pub mod Comparisons
 pub mod Examples

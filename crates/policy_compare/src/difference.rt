@@ -28,20 +28,3 @@ pub struct Comparison {
     pub interfaces: Vec<u8>,
     pub differences: Vec<Difference>,
 }
-
-/// The names of the two policies' files.
-#[derive(Clone, Copy)]
-pub struct CompareFiles<'a> {
-    pub before: &'a str,
-    pub after: &'a str,
-}
-
-/// What the program's words ask of two policies.
-#[derive(Clone, Copy)]
-pub enum Compares<'a> {
-    /// Nothing.
-    Nothing,
-    /// Something, but not by the names of two files.
-    Unclear,
-    These(CompareFiles<'a>),
-}

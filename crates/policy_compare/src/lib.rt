@@ -4,7 +4,6 @@
 mod compared_policies;
 mod compared_sides;
 mod compared_texts;
-mod comparing_words;
 mod comparison_report;
 mod decider;
 mod difference;
@@ -15,5 +14,4 @@ mod taking_rules;
 
 pub use compared_policies::compare_policies;
 pub use compared_texts::{CompareFault, compare_texts};
-pub use comparing_words::compared_by;
-pub use difference::{CompareFiles, Compares, Comparison, Difference, Pair};
+pub use difference::{Comparison, Difference, Pair};

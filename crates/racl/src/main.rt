@@ -7,20 +7,17 @@ ghost use Rattle.std.specs.Prelude.{◌<◌, ◌-◌, ◌^◌};
 mod ask;
 mod compare;
 
+use ask::status_of_ask;
+use compare::status_of_compare;
 use compared_verdicts::{read_expectations, status_of_changes, status_of_expected};
 use racl_io::{Device, Fault, FrontKept, Source};
-use racl_options::{Asked, DiffFiles, Files, Interfaces, Options, Origin, diff_options};
+use racl_options::{Asked, DiffFiles, Files, Interfaces, Options, Origin, Task, diff_options};
 use racl_runs::{
     DiffFault, ExpectingAsked, LiveAsked, LiveSaves, PolicyTexts, ShardRunAsked, run, run_diff,
     run_expecting, run_interfaces, run_live, run_live_interfaces, run_saving, run_shard,
 };
 use racl_system::{
-    DiffInput, ExpectingInput, LiveFiles, LiveInterfaces, Output, Ran, SeenFiles, Watched,
-    asked_or_status, diff_or_status, expansion_status, failure_status, opened_diff,
-    opened_expecting, opened_input, opened_live, opened_live_interfaces, read_interface_input,
-    saves_to, say_capture_fault, say_end_of_interfaces, say_end_of_live,
-    say_end_of_live_interfaces, say_end_of_run, say_outcome, say_policy_fault, say_unsaved,
-    say_used_twice, say_wrong_expectations, settled, standard_source, texts_of, watched_where,
+    DiffInput, ExpectingInput, LiveFiles, LiveInterfaces, NamedPolicy, Output, Ran, SeenFiles, SystemFiles, Watched, Words, asked_or_status, check_file, expand_file, failure_status, mistyped_status, opened_diff, opened_expecting, opened_input, opened_live, opened_live_interfaces, read_interface_input, saves_to, say_capture_fault, say_end_of_interfaces, say_end_of_live, say_end_of_live_interfaces, say_end_of_run, say_outcome, say_policy_fault, say_unsaved, say_used_twice, say_wrong_expectations, settled, standard_source, texts_of, watched_where,
 };
 use std::alloc::Global;
 use std::env::args;
@@ -47,43 +44,45 @@ fn status_of_main<T: Clock + Threads + Wait + Sync + Copy + Send + 'static>(
 ) -> io::Result<u8> {
     let words: Vec<String> = args(rt)?.collect(alloc)?;
     let texts = texts_of(alloc, words.as_slice())?;
-    if let Some(status) = expansion_status(rt, alloc, texts.as_slice())? {
+    let texts = texts.as_slice();
+    if let Some(status) = mistyped_status(rt, alloc, texts)? {
         return Ok(status);
     }
-    match ask::answered(rt, threads, alloc, texts.as_slice()) {
-        Ok(None) => {}
-        Ok(Some(status)) => return Ok(status),
-        Err(error) => return Err(error),
+    match asked_or_status(rt, alloc, texts)? {
+        Ok(Words::Run(asked)) => status_of_run(rt, threads, alloc, &asked),
+        Ok(Words::Command(Task::Check(policy))) => {
+            check_file(rt, alloc, policy, &mut Device::new(rt.standard_output()))
+        }
+        Ok(Words::Command(Task::Expand(file))) => expand_file(rt, alloc, file),
+        Ok(Words::Command(Task::Ask(asked))) => status_of_ask(rt, threads, alloc, &asked),
+        Ok(Words::Command(Task::Diff(files))) => status_of_diff(rt, threads, alloc, &files),
+        Ok(Words::Command(Task::Compare(files))) => status_of_compare(rt, alloc, &files),
+        Err(status) => Ok(status),
     }
-    match compare::compared(rt, alloc, texts.as_slice()) {
-        Ok(None) => {}
-        Ok(Some(status)) => return Ok(status),
-        Err(error) => return Err(error),
-    }
-    match diff_or_status(rt, alloc, texts.as_slice())? {
-        Ok(Some(files)) => return status_of_diff(rt, threads, alloc, &files),
-        Ok(None) => {}
-        Err(status) => return Ok(status),
-    }
-    match asked_or_status(rt, alloc, texts.as_slice()) {
-        Ok(Ok(asked)) => match (&asked.origin, asked.expected) {
-            (Origin::Files(files), Some(name)) => {
-                status_of_expecting(rt, threads, alloc, &asked, files, name)
-            }
-            (Origin::Files(files), None) if is_told_early(&asked) => {
-                status_of_live(rt, threads, alloc, &asked, files)
-            }
-            (Origin::Files(files), None) => status_of_files(rt, threads, alloc, &asked, files),
-            (Origin::Interfaces(interfaces), _) if asked.options.live => {
-                status_of_live_interfaces(rt, threads, alloc, &asked.options, interfaces)
-            }
-            (Origin::Interfaces(interfaces), _) => {
-                status_of_interfaces(rt, threads, alloc, &asked.options, interfaces)
-            }
-            (Origin::Standard, _) => status_of_standard(rt, threads, alloc, &asked.options),
-        },
-        Ok(Err(status)) => Ok(status),
-        Err(error) => Err(error),
+}
+
+// Does the run that is asked for, and answers the exit status.
+fn status_of_run<T: Clock + Threads + Wait + Sync + Copy + Send + 'static>(
+    rt: &HostRuntime,
+    threads: &T,
+    alloc: Global,
+    asked: &Asked<'_>,
+) -> io::Result<u8> {
+    match (&asked.origin, asked.expected) {
+        (Origin::Files(files), Some(name)) => {
+            status_of_expecting(rt, threads, alloc, asked, files, name)
+        }
+        (Origin::Files(files), None) if is_told_early(asked) => {
+            status_of_live(rt, threads, alloc, asked, files)
+        }
+        (Origin::Files(files), None) => status_of_files(rt, threads, alloc, asked, files),
+        (Origin::Interfaces(interfaces), _) if asked.options.live => {
+            status_of_live_interfaces(rt, threads, alloc, &asked.options, interfaces)
+        }
+        (Origin::Interfaces(interfaces), _) => {
+            status_of_interfaces(rt, threads, alloc, &asked.options, interfaces)
+        }
+        (Origin::Standard, _) => status_of_standard(rt, threads, alloc, &asked.options),
     }
 }
 
@@ -273,7 +272,7 @@ fn status_of_live_interfaces<T: Clock + Threads + Wait + Sync + Copy + Send + 's
     let mut writer = Device::new(rt.stdout());
     let run = LiveAsked { options, text };
     let outcome = run_live_interfaces(threads, alloc, run, &mut captures, &mut writer);
-    say_end_of_live_interfaces(rt, options, interfaces, text, &outcome)
+    say_end_of_live_interfaces(rt, alloc, options, interfaces, text, &outcome)
 }
 
 // Compares the verdicts on the packets of a capture with those that the file of this name expects, tells how that ended, and
@@ -345,8 +344,20 @@ fn status_of_diff<T: Clock + Threads + Wait + Sync>(
     let mut writer = Device::new(rt.stdout());
     match run_diff(threads, alloc, &options, texts, &mut reader, &mut writer) {
         Ok(totals) => Ok(status_of_changes(&totals)),
-        Err(DiffFault::Before(cause)) => say_policy_fault(rt, files.before, Fault::from(cause)),
-        Err(DiffFault::After(cause)) => say_policy_fault(rt, files.after, Fault::from(cause)),
+        Err(DiffFault::Before(cause)) => {
+            let policy = NamedPolicy {
+                name: files.before,
+                text: texts.before,
+            };
+            say_policy_fault(rt, alloc, policy, Fault::from(cause))
+        }
+        Err(DiffFault::After(cause)) => {
+            let policy = NamedPolicy {
+                name: files.after,
+                text: texts.after,
+            };
+            say_policy_fault(rt, alloc, policy, Fault::from(cause))
+        }
         Err(DiffFault::Run(fault)) => {
             say_capture_fault(rt, files.capture, reader.inner.front(), fault)
         }

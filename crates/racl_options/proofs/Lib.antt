@@ -1,6 +1,4 @@
-pub mod CheckLemmas
 pub mod CommandLemmas
-pub mod DiffLemmas
 pub mod NameLemmas
 pub mod NameWalks
 pub mod NumberLemmas
@@ -8,3 +6,4 @@ pub mod SettingDefaults
 pub mod SettingLemmas
 pub mod SettingWalks
 pub mod ShardWordLemmas
+pub mod TaskLemmas

@@ -3,7 +3,7 @@ use Rattle.std.specs.Prelude.{◌≡◌, ◌≤◌, ◌⊎◌, ℕ, Bool, true, 
 use Rattle.std.specs.List.{fold}
 use Rattle.std.specs.Str.Parse.{IsNumeral, digits_value, without_leading_plus}
 use Rattle.clap.specs.Simple.{on_top}
-use Rattle.clap.specs.Words.{App, IsSignedIn, Rule, Text, all_of, first_of, matches_of, new_app}
+use Rattle.clap.specs.Words.{App, IsSignedIn, Row, Rule, Text, all_of, first_of, matches_of, new_app}
 use Rattle.clap.specs.Words.{new_rule, one_of, with_rule, without_minus}
 use Rattle.clap.specs.declared.builder.action.ArgAction.{ArgAction}
 use Rattle.clap.specs.declared.builder.action.ArgAction.TheVariants.{Append, Set, SetTrue}
@@ -122,13 +122,17 @@ pub record Values : Type 0 where
   pub first : Text → Option Text
   pub all : Text → Option (List Text)
 
+-- what the rows of a parse hold
+abbrev pub values_of : List Row → Values
+values_of rows = record {
+  number = λ id. one_of id rows;
+  first = λ id. first_of id rows;
+  all = λ id. all_of id rows;
+}
+
 -- what the command's matches of the words hold
 abbrev pub values_at : List Text → Values
-values_at words = record {
-  number = λ id. one_of id (matches_of racl words);
-  first = λ id. first_of id (matches_of racl words);
-  all = λ id. all_of id (matches_of racl words);
-}
+values_at words = values_of (matches_of racl words)
 
 -- whether the flag was given
 abbrev pub has_flag : Values → FlagName → Bool

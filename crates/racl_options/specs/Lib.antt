@@ -1,10 +1,10 @@
 pub mod Asking
-pub mod Checks
+pub mod Behind
 pub mod CommandLine
-pub mod Diffs
 pub mod Options
 pub mod Origins
 pub mod Selections
 pub mod ShardWords
 pub mod Sizes
+pub mod Tasks
 pub mod inner

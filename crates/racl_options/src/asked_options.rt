@@ -4,7 +4,7 @@ ghost use Rattle.clap.specs.Words.{found_of, one_text};
 ghost use Rattle.racl_options.specs.Asking as asking;
 ghost use Rattle.racl_options.specs.Asking.{AskBy, asked_facts, fit_together};
 ghost use Rattle.racl_options.specs.CommandLine as line;
-ghost use Rattle.racl_options.specs.Checks.{text_behind};
+ghost use Rattle.racl_options.specs.Behind.{text_behind};
 ghost use Rattle.racl_options.specs.CommandLine.{HoldsNumber, HoldsNumbers, OptionName, Spells, has_flag, option_facts};
 ghost use Rattle.racl_options.specs.Origins.{origin_facts};
 ghost use Rattle.racl_options.specs.Selections.{Age, AnyLength, Explain, Hits, JsonLines, Live, Sessions, lines_by};

@@ -14,6 +14,7 @@ ghost use Rattle.racl_options.specs.inner.Commands.{with_flags, with_lines, with
 use crate::asked_options::asked_by;
 use crate::named_files::Refusal;
 use crate::settings::Asked;
+use crate::task_words::with_whole_help;
 use clap::error::ErrorKind;
 use clap::{Arg, ArgAction, Command, Error, value_parser};
 use std::alloc::{AllocError, Global};
@@ -39,7 +40,7 @@ pub fn options<'a>(alloc: Global, words: &'a [&'a str]) -> Result<Asked<'a>, Err
     let mut command = command(alloc)?;
     let matches = match command.try_get_matches_from_mut(words) {
         Ok(matches) => matches,
-        Err(error) => return Err(error),
+        Err(error) => return Err(with_whole_help(alloc, error)),
     };
     match asked_by(alloc, &matches) {
         Ok(asked) => Ok(asked),
@@ -69,17 +70,13 @@ const ABOUT: &str = "Judges the packets of a capture by ordered rules and by ses
 const USAGE: &str = "racl [OPTIONS] POLICY CAPTURE
        racl [OPTIONS] --interface N=CAPTURE .. POLICY
        racl [OPTIONS] < INPUT
-       racl check POLICY
-       racl expand FILE
-       racl ask [--explain | --expect FILE] POLICY PACKET ..
-       racl diff OLD NEW CAPTURE
-       racl compare OLD NEW";
+       racl COMMAND ..";
 
 // The help of the command line below the options. A function of its own, so that no proof of a caller has the text.
 fn after_help() -> &'static str {
     "INPUT is a policy, a line `pcap` or `hex`, and the capture in that form; POLICY and CAPTURE are such \
     a policy and a capture's bytes. Except with --live, --any-length and --shard they have at most 67108864 bytes in \
-    all. The report goes to standard output. --drops, --passes, --expect, --shard and --any-length need POLICY CAPTURE, and --live that or --interface. import and racl-page are scripts beside the program.
+    all. The report goes to standard output. --drops, --passes, --expect, --shard and --any-length need POLICY CAPTURE, and --live that or --interface. A file with the name of a command is written ./NAME. racl-page is a script beside the program.
 
 Examples:
   racl check host.policy
@@ -111,7 +108,7 @@ Exit status:
 }
 
 // The command line as `clap` reads it, with all options, flags and files.
-fn command<'a>(alloc: Global) -> Result<Command<'a>, AllocError>
+pub fn command<'a>(alloc: Global) -> Result<Command<'a>, AllocError>
     ensures { IfOk result (λ c. app_of c ≡ racl) }
 {
     command_with_flags(alloc)?
@@ -265,7 +262,7 @@ fn command_with_options<'a>(alloc: Global) -> Result<Command<'a>, AllocError>
 }
 
 // The command with its texts, and no option yet.
-fn described_command<'a>(alloc: Global) -> Command<'a>
+pub fn described_command<'a>(alloc: Global) -> Command<'a>
     ensures { app_of result ≡ without_options }
 {
     Command::new(alloc, "racl")
@@ -305,7 +302,7 @@ fn number_option<'a>(
 }
 
 // An option of the command line whose value is a text, and has no default.
-fn value_option<'a>(alloc: Global, name: &'a str, value: &'a str, help: &'a str) -> Arg<'a>
+pub fn value_option<'a>(alloc: Global, name: &'a str, value: &'a str, help: &'a str) -> Arg<'a>
     ensures rule { rule_of result ≡ long_rule name.entry.now Set 1 }
     ensures local { result.global ≡ false }
 {
@@ -329,7 +326,7 @@ fn interface_option<'a>(alloc: Global) -> Arg<'a>
 }
 
 // A flag of the command line.
-fn flag<'a>(alloc: Global, name: &'a str, help: &'a str) -> Arg<'a>
+pub fn flag<'a>(alloc: Global, name: &'a str, help: &'a str) -> Arg<'a>
     ensures rule { rule_of result ≡ long_rule name.entry.now SetTrue 0 }
     ensures local { result.global ≡ false }
 {

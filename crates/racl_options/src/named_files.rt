@@ -3,7 +3,7 @@ ghost use Rattle.std.specs.Prelude.{◌≡◌, IfNone, IfSome, MatchResult, None
 ghost use Rattle.std.specs.List.{AllZip};
 ghost use Rattle.clap.specs.Walk.{texts};
 ghost use Rattle.clap.specs.Words.{found_of};
-ghost use Rattle.racl_options.specs.Checks.{text_behind};
+ghost use Rattle.racl_options.specs.Behind.{text_behind};
 ghost use Rattle.racl_options.specs.Origins.{CaptureFacts, IsNamed, Name};
 ghost use Rattle.racl_options.specs.Origins.{capture_facts, is_standard, origin_facts};
 ghost use Rattle.racl_options.specs.inner.Naming.{IsRefused, Names, values_in};

@@ -2,7 +2,7 @@
 ghost use Rattle.std.specs.Prelude.{◌≡◌, option_map};
 ghost use Rattle.std.specs.Borrow.{Bor};
 ghost use Rattle.clap.specs.Words.{Text, first_value, found_of};
-ghost use Rattle.racl_options.specs.Checks.{text_behind};
+ghost use Rattle.racl_options.specs.Behind.{text_behind};
 ghost use Rattle.racl_options.specs.CommandLine.{has_flag};
 ghost use Rattle.racl_options.specs.Selections;
 ghost use Rattle.racl_options.specs.Selections.{JsonLines, Explain, Summary, lines_by, shown_by};

@@ -1,6 +1,6 @@
 //! The word that asks for a shard of a capture.
 ghost use Rattle.std.specs.Prelude.{ℕ, IfNone, IfSome, MatchResult, option_map};
-ghost use Rattle.racl_options.specs.Checks.{text_behind};
+ghost use Rattle.racl_options.specs.Behind.{text_behind};
 ghost use Rattle.racl_options.specs.ShardWords.{AskForShard, IsShardWord, shard_facts};
 ghost use Rattle.racl_options.specs.inner.Naming.{IsRefused};
 

@@ -17,7 +17,9 @@ pub use end_of_captures::write_captures_end;
 pub use interface_captures::{InterfaceInput, PlacedFault, is_interface_seen, told_of_interfaces};
 pub use judged_packets::Judged;
 pub use kept_input::{Kept, KeptCaptures, PlacedCapture};
-pub use message_texts::{Ending, Hint, KindRemark, Message, Shortage, Unopened, shown_name};
-pub use program_ending::{ending, failure_ending, hint, remark, shortage, status, words_ending};
+pub use message_texts::{
+    Ending, Frames, FramesRemark, Hint, KindRemark, Message, Shortage, Unopened, shown_name,
+};
+pub use program_ending::{ending, failure_ending, frames, hint, remark, shortage, status, words_ending};
 pub use saved_packets::{Saves, keeps_input, save_packets};
 pub use text_behind_totals::{Behind, behind_totals, write_behind};

@@ -51,6 +51,36 @@ pub struct KindRemark<'a> {
     pub other: Other,
 }
 
+/// What the frames of a capture are that aren't those of Ethernet, by its link type, and what makes a capture of Ethernet.
+#[derive(Clone, Copy, Debug, PartialEq, Eq, Error)]
+pub enum Frames {
+    /// IP packets with nothing before them, as of a tunnel.
+    #[error("of IP packets without Ethernet headers (link type {0}); capture an Ethernet interface by its name: tcpdump -i NAME -w OUT")]
+    RawIp(u16),
+    /// As of IEEE 802.11, with a radio's header before them or none.
+    #[error("of Wi-Fi frames (link type {0}); capture the interface while it isn't in monitor mode: tcpdump -i NAME -y EN10MB -w OUT")]
+    WiFi(u16),
+    /// As of BSD.
+    #[error("of a loopback interface's packets without Ethernet headers (link type {0}); capture an Ethernet interface by its name: tcpdump -i NAME -w OUT")]
+    Loopback(u16),
+    /// As of PPP, Cisco's HDLC and frame relay.
+    #[error("of a serial line's frames (link type {0}); capture an Ethernet interface by its name: tcpdump -i NAME -w OUT")]
+    Serial(u16),
+    /// Packets that a rule of a firewall logged.
+    #[error("of packets that a firewall logged (link type {0}); capture an Ethernet interface by its name: tcpdump -i NAME -w OUT")]
+    Logged(u16),
+    #[error("of link type {0}, not of Ethernet; capture an interface that has Ethernet frames: tcpdump -i NAME -y EN10MB -w OUT")]
+    Another(u16),
+}
+
+/// What is said behind a fault of a capture file of other frames than those of Ethernet.
+#[derive(Clone, Copy, Debug, PartialEq, Eq, Error)]
+#[error("racl: {shown} is {frames}", shown = shown_name(.name))]
+pub struct FramesRemark<'a> {
+    pub name: &'a str,
+    pub frames: Frames,
+}
+
 /// What is said behind a report where packets found no pages for their sessions: how many, and which options help that
 /// weren't asked for.
 #[derive(Clone, Copy, Debug, PartialEq, Eq, Error)]
@@ -77,6 +107,12 @@ pub enum Hint {
     /// The file of the policy is a capture.
     #[error("racl: the file that is named as the policy is a capture; its words are: POLICY CAPTURE")]
     Swapped,
+    /// The files of a policy and a capture have more bytes than are read at once.
+    #[error("racl: a capture of any length is read with --any-length")]
+    Longer,
+    /// A capture isn't of Ethernet, and its header isn't at hand.
+    #[error("racl: a capture that is read is made by: tcpdump -i NAME -y EN10MB -w OUT")]
+    Ethernet,
     /// Nothing is named, and a terminal is read.
     #[error("racl: the policy and the capture are read from this terminal; racl --help says how files are named")]
     Terminal,

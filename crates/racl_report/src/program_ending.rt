@@ -1,13 +1,15 @@
 //! How the program ends: what it says on standard error, and its exit status.
-ghost use Rattle.std.specs.Prelude.{◌≡◌, ◌≢◌, None, Some};
+ghost use Rattle.std.specs.Prelude.{◌≡◌, ◌≢◌, ◌≤◌, None, Some, length};
 ghost use Rattle.clap.specs.Words.{kind_of};
 ghost use Rattle.std.specs.IoError.{error_kind};
-ghost use Rattle.racl_report.specs.Endings.{hint_on, remark_on, said_after, shortage_on};
+ghost use Rattle.racl_report.specs.Endings;
+ghost use Rattle.racl_report.specs.Endings.{frames_by, frames_on, hint_on, remark_on, said_after, shortage_on};
 ghost use Rattle.racl_report.specs.Statuses.{status_of};
 ghost use Rattle.racl_io.specs.declared.fault.Fault.TheVariants.{Memory, Write};
 ghost use Rattle.racl_options.specs.CommandLine.{IsRequest};
 
-use crate::message_texts::{Ending, Hint, Message, Shortage};
+use crate::message_texts::{Ending, Frames, Hint, Message, Shortage};
+use byteorder::{BigEndian, ByteOrder, LittleEndian};
 use clap::error::ErrorKind;
 use racl_io::{Fault, Other, Totals, is_capture, other_file};
 use racl_options::{TableSize, words_status};
@@ -48,6 +50,47 @@ pub fn remark(outcome: &Result<Totals, Fault>, front: &[u8]) -> Option<Other>
 {
     match outcome {
         Err(Fault::Magic | Fault::LinkType) => other_file(front),
+        _ => None,
+    }
+}
+
+// What the frames are of a capture whose header has this link type, which isn't that of Ethernet.
+fn frames_of(link: u16) -> Frames
+    ensures { result ≡ frames_by link }
+{
+    match link {
+        101 | 12 | 14 | 228 | 229 => Frames::RawIp(link),
+        105 | 119 | 127 | 163 | 192 => Frames::WiFi(link),
+        0 | 108 => Frames::Loopback(link),
+        9 | 50 | 104 | 107 | 204 => Frames::Serial(link),
+        117 | 239 => Frames::Logged(link),
+        _ => Frames::Another(link),
+    }
+}
+
+// The link type of a header.
+fn link_in(front: &[u8]) -> u16
+    requires { 24 ≤ length front.now }
+    ensures { result ≡ Endings.link_in front.now }
+{
+    if front[0] == 0xa1 {
+        (BigEndian::read_u32(&front[20..]) % 65_536) as u16
+    } else {
+        (LittleEndian::read_u32(&front[20..]) % 65_536) as u16
+    }
+}
+
+/// What a program's ending tells of a capture's frames, which begins with these bytes, where they aren't those of Ethernet.
+pub fn frames(outcome: &Result<Totals, Fault>, front: &[u8]) -> Option<Frames>
+    ensures { result ≡ frames_on outcome.now front.now }
+{
+    match outcome {
+        Err(Fault::LinkType) => {
+            if front.len() < 24 {
+                return None;
+            }
+            Some(frames_of(link_in(front)))
+        }
         _ => None,
     }
 }

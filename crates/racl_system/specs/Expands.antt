@@ -1,12 +1,7 @@
--- The words `expand FILE`, and the files that are read for them (this project's profile).
-use Rattle.std.specs.Prelude.{◌≡◌, ◌+◌, ℕ, List, [], ◌∷◌, Option, Some, IfSome, codes, slice_get, take}
-use Rattle.clap.specs.Words.{Text}
+-- The files that are read for `expand FILE` (this project's profile).
+use Rattle.std.specs.Prelude.{◌≡◌, ◌+◌, ℕ, List, [], ◌∷◌, Option, IfSome, take}
 use Rattle.policy_expand.specs.Inclusions.{FileFacts}
 use Rattle.racl_io.specs.Inputs.{most_bytes}
-
--- the first word after the program's is `expand`
-abbrev pub IsExpand : List Text → Type 0
-IsExpand words = slice_get words 1 ≡ Some (codes "expand")
 
 -- Each file has the text that is read by its name, where that is known.
 abbrev pub AreRead : (List ℕ → Option (List ℕ)) → List FileFacts → Type 0

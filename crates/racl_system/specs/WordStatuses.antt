@@ -1,14 +1,19 @@
--- The exit statuses where words ask for no run (this project's profile).
-use Rattle.std.specs.Prelude.{◌≡◌, ◌≢◌, ◌⊎◌, ℕ, List, Option, Some}
+-- What words ask for, and the exit statuses where they are refused (this project's profile).
+use Rattle.std.specs.Prelude.{◌≡◌, ◌≢◌, ◌⊎◌, ℕ, List, None, Some}
 use Rattle.clap.specs.Words.{HasKind, Text, fault_of, kind_of}
 use Rattle.clap.specs.declared.error.Error.{Error}
 use Rattle.clap.specs.declared.error.kind.ErrorKind.{ErrorKind}
 use Rattle.clap.specs.declared.error.kind.ErrorKind.TheVariants.{OutOfMemory, ValueValidation}
-use Rattle.racl_options.specs.Asking.{AskForNothing}
-use Rattle.racl_options.specs.Checks.{AskForCheck, IsCheck, RefusesCheck}
+use Rattle.racl_options.specs.Asking.{AskForNothing, AskForRun, asked_facts}
 use Rattle.racl_options.specs.CommandLine.{IsRequest, racl}
-use Rattle.racl_options.specs.Diffs.{RefusesDiff}
-use Rattle.racl_system.specs.CheckStatuses.{IsCheckStatus}
+use Rattle.racl_options.specs.Tasks.{AskForTask, RefusesTask, task_facts}
+use Rattle.racl_system.specs.declared.asked_words.Words.{Words}
+use Rattle.racl_system.specs.declared.asked_words.Words.TheVariants as asked
+
+-- words that begin with a command ask for what it does, and others for a run
+abbrev pub AskForWords : List Text → Words → Type 0
+AskForWords words (asked.Run run) = AskForTask words None × AskForRun words (asked_facts run)
+AskForWords words (asked.Command task) = AskForTask words (Some (task_facts task))
 
 -- 0 for a request, 4 where memory ran out, and else 2
 pub record IsKindStatus (kind : ErrorKind) (status : ℕ) : Type 0 where
@@ -16,16 +21,11 @@ pub record IsKindStatus (kind : ErrorKind) (status : ℕ) : Type 0 where
   pub memory : kind ≡ OutOfMemory → status ≡ 4
   pub mistake : (IsRequest kind → ⊥) → kind ≢ OutOfMemory → status ≡ 2
 
--- words are refused by this error: those of a check; or others, which have a fault, or none and yet ask for nothing
+-- words are refused by this error: those of a command; or others, which have a fault, or none and yet ask for nothing
 abbrev pub RefusesWords : List Text → Error → Type 0
-RefusesWords words e = RefusesCheck words e
-    ⊎ ((IsCheck words → ⊥) × (HasKind (fault_of racl words) e ⊎ ((kind_of e ≡ ValueValidation) × AskForNothing words)))
+RefusesWords words e = RefusesTask words e
+    ⊎ (AskForTask words None × (HasKind (fault_of racl words) e ⊎ ((kind_of e ≡ ValueValidation) × AskForNothing words)))
 
--- the status of the check that words ask for, or of the error by which they are refused
-abbrev pub IsWordsStatus : (Text → Option (List ℕ)) → List Text → ℕ → Type 0
-IsWordsStatus named words status = ((name : Text) × AskForCheck words (Some name) × IsCheckStatus (named name) status)
-    ⊎ ((e : Error) × RefusesWords words e × IsKindStatus (kind_of e) status)
-
--- that of the error by which the words of a comparison are refused
-abbrev pub IsDiffWordsStatus : List Text → ℕ → Type 0
-IsDiffWordsStatus words status = (e : Error) × RefusesDiff words e × IsKindStatus (kind_of e) status
+-- the status of the error by which the words are refused
+abbrev pub IsWordsStatus : List Text → ℕ → Type 0
+IsWordsStatus words status = (e : Error) × RefusesWords words e × IsKindStatus (kind_of e) status

@@ -1,19 +1,15 @@
 //! The program's words, and what they ask for.
-ghost use Rattle.std.specs.Prelude.{◌≡◌, IfErr, IfOk, map, option_map, string_bytes};
+ghost use Rattle.std.specs.Prelude.{◌≡◌, IfErr, IfOk, map, string_bytes};
 ghost use Rattle.clap.specs.Walk.{texts};
-ghost use Rattle.racl_options.specs.Asking.{AskForRun, asked_facts};
-ghost use Rattle.racl_options.specs.Checks.{IsCheck};
-ghost use Rattle.racl_options.specs.Diffs.{AskForDiff, names_of};
-ghost use Rattle.racl_system.specs.WordStatuses.{IsDiffWordsStatus, IsWordsStatus};
+ghost use Rattle.racl_system.specs.WordStatuses.{AskForWords, IsWordsStatus};
 
-use crate::file_checking::check_file;
+use crate::asked_words::Words;
 use crate::say_and_answer_status::say_refused;
-use crate::system_files::SystemFiles;
-use racl_io::Device;
-use racl_options::{Asked, DiffFiles, check_name, diff_files, options};
+use racl_options::{doubtful_word, known_command, options, task_of};
 use std::alloc::Global;
+use std::fs::metadata;
 use std::io;
-use std::io::{Eprint, Print};
+use std::io::{Eprint, ErrorKind, Print};
 
 /// The words of a command line as texts.
 pub fn texts_of<'a>(alloc: Global, words: &'a [String]) -> io::Result<Vec<&'a str>>
@@ -26,44 +22,41 @@ pub fn texts_of<'a>(alloc: Global, words: &'a [String]) -> io::Result<Vec<&'a st
     Ok(texts)
 }
 
-/// The run that the command's words ask for. Where they ask for none the status is answered: a check was made, or it
-/// was told that they are refused.
-pub fn asked_or_status<'a, S: SystemFiles + Print + Eprint>(
-    system: &S,
+/// What the words ask for. Where they are refused that is told, and the status is answered.
+pub fn asked_or_status<'a>(
+    system: &(impl Print + Eprint),
     alloc: Global,
     words: &'a [&'a str],
-) -> io::Result<Result<Asked<'a>, u8>>
-    ensures run { IfOk result (λ found. IfOk found (λ asked. AskForRun (texts words.entry.now) (asked_facts asked))) }
-    ensures unchecked { IfOk result (λ found. IfOk found (λ _. IsCheck (texts words.entry.now) → ⊥)) }
-    ensures status { IfOk result (λ found. IfErr found (IsWordsStatus (S.named system.now) (texts words.entry.now))) }
+) -> io::Result<Result<Words<'a>, u8>>
+    ensures asked { IfOk result (λ found. IfOk found (AskForWords (texts words.entry.now))) }
+    ensures status { IfOk result (λ found. IfErr found (IsWordsStatus (texts words.entry.now))) }
 {
-    match check_name(alloc, words) {
+    match task_of(alloc, words) {
+        Ok(Some(task)) => Ok(Ok(Words::Command(task))),
         Ok(None) => match options(alloc, words) {
-            Ok(asked) => Ok(Ok(asked)),
+            Ok(asked) => Ok(Ok(Words::Run(asked))),
             Err(error) => Ok(Err(say_refused(system, &error)?)),
         },
-        Ok(Some(name)) => Ok(Err(check_file(
-            system,
-            alloc,
-            name,
-            &mut Device::new(system.standard_output()),
-        )?)),
         Err(error) => Ok(Err(say_refused(system, &error)?)),
     }
 }
 
-/// The files of the comparison that the command's words ask for, where they ask for one. Where they are refused that is told, and
-/// the status is answered.
-pub fn diff_or_status<'a>(
-    system: &(impl Print + Eprint),
+/// Says that the first word is none of the commands, where it may be one that was mistyped and names no file, and answers the
+/// status. None: the words are to be read. No clause says which files there are: `tests/run` looks at it.
+pub fn mistyped_status<'a>(
+    rt: &HostRuntime,
     alloc: Global,
     words: &'a [&'a str],
-) -> io::Result<Result<Option<DiffFiles<'a>>, u8>>
-    ensures files { IfOk result (λ found. IfOk found (λ files. AskForDiff (texts words.entry.now) (option_map names_of files))) }
-    ensures status { IfOk result (λ found. IfErr found (IsDiffWordsStatus (texts words.entry.now))) }
-{
-    match diff_files(alloc, words) {
-        Ok(files) => Ok(Ok(files)),
-        Err(error) => Ok(Err(say_refused(system, &error)?)),
+) -> io::Result<Option<u8>> {
+    let Some(word) = doubtful_word(alloc, words)? else {
+        return Ok(None);
+    };
+    match metadata(rt, word) {
+        Err(error) if error.kind() == ErrorKind::NotFound => {}
+        _ => return Ok(None),
+    }
+    match known_command(alloc, &words[..2]) {
+        Ok(()) => Ok(None),
+        Err(error) => Ok(Some(say_refused(rt, &error)?)),
     }
 }

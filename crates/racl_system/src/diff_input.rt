@@ -4,6 +4,7 @@ ghost use Rattle.racl_io.specs.Inputs.{most_bytes};
 ghost use Rattle.racl_report.specs.Statuses.{status_of_fault};
 ghost use Rattle.racl_system.specs.Readers.{left_in};
 
+use crate::end_of_run::is_kind_said;
 use crate::live_files::{live_policy_text, opened_live};
 use crate::named_reader::Reader;
 use crate::say_and_answer_status::say_fault;
@@ -11,7 +12,7 @@ use crate::say_policy_remarks::{Seen, say_unlooked};
 use crate::system_files::SystemFiles;
 use racl_io::Fault;
 use racl_options::{DiffFiles, Files};
-use racl_report::{KindRemark, hint, remark, shown_name};
+use racl_report::hint;
 use std::alloc::Global;
 use std::io;
 use std::io::Eprint;
@@ -64,21 +65,6 @@ pub fn opened_diff<S: SystemFiles + Eprint>(
     }))
 }
 
-/// Says which fault the policy in the file of this name has, and answers the status.
-pub fn say_policy_fault(system: &impl Eprint, name: &str, fault: Fault) -> io::Result<u8>
-    ensures { IfOk result (λ status. status ≡ status_of_fault fault) }
-{
-    let status = match say_fault(system, fault) {
-        Ok(status) => status,
-        Err(error) => return Err(error),
-    };
-    let shown = shown_name(name);
-    match system.eprintln(format_args!("racl: that is {shown}")) {
-        Ok(()) => Ok(status),
-        Err(error) => Err(error),
-    }
-}
-
 /// Says with which fault a comparison ended, what is likely to be its cause, and what the file of this name is, which begins so,
 /// where it is no capture; and answers the status.
 pub fn say_capture_fault(
@@ -96,11 +82,6 @@ pub fn say_capture_fault(
     if let Some(hint) = hint(&Err(fault), &[]) {
         system.eprintln(&hint)?;
     }
-    let Some(other) = remark(&Err(fault), front) else {
-        return Ok(status);
-    };
-    match system.eprintln(&KindRemark { name, other }) {
-        Ok(()) => Ok(status),
-        Err(error) => Err(error),
-    }
+    is_kind_said(system, name, front, fault)?;
+    Ok(status)
 }

@@ -1,7 +1,7 @@
 //! Files that are written beside those that they become, so that what fails leaves a file as it was.
 ghost use Rattle.std.specs.Prelude.{◌≡◌, ◌↔◌, IfErr, IfOk, IfSome, IsTrue, None, option_map, string_bytes};
 ghost use Rattle.std.specs.IoError.{raw_os_error};
-ghost use Rattle.racl_options.specs.Checks.{text_behind};
+ghost use Rattle.racl_options.specs.Behind.{text_behind};
 ghost use Rattle.racl_system.specs.Drafts.{IsBeside};
 ghost use Rattle.racl_system.specs.Syncs.{IsNeverSynced};
 

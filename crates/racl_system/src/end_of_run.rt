@@ -6,11 +6,15 @@ ghost use Rattle.racl_system.specs.LiveInterfaces.{can_be_of_capture, placeless_
 
 use crate::say_and_answer_status::say_ending;
 use crate::say_policy_remarks::{Seen, say_foreign, say_unlooked};
+use crate::say_wrong_policy::{NamedPolicy, say_ended};
 use capture_stream::FaultAt;
 use packet_view::check_capture;
 use racl_io::{Fault, Totals};
 use racl_options::{Files, Interfaces, Options, TableSize};
-use racl_report::{InterfaceInput, KindRemark, ending, hint, remark, shortage, shown_name};
+use racl_report::{
+    FramesRemark, Hint, InterfaceInput, KindRemark, ending, frames, hint, remark, shortage,
+    shown_name, status,
+};
 use racl_views::CaptureBytes;
 use std::alloc::Global;
 use std::fs::metadata;
@@ -61,6 +65,25 @@ fn is_told_of_capture(rt: &HostRuntime, name: &str, front: &[u8], fault: Fault) 
         && matches!(metadata(rt, name), Ok(found) if found.is_file())
 }
 
+/// Says what a capture's file of this name is, which begins with these bytes, where it isn't read for what it is, or for its
+/// frames; and answers whether that is so.
+pub fn is_kind_said(
+    rt: &impl Eprint,
+    name: &str,
+    front: &[u8],
+    fault: Fault,
+) -> io::Result<bool> {
+    if let Some(other) = remark(&Err(fault), front) {
+        rt.eprintln(&KindRemark { name, other })?;
+        return Ok(true);
+    }
+    if let Some(frames) = frames(&Err(fault), front) {
+        rt.eprintln(&FramesRemark { name, frames })?;
+        return Ok(true);
+    }
+    Ok(false)
+}
+
 // Says that a capture in the file of this name, which begins with these bytes, has the fault: of which interface it is, where
 // there are several, or what the file is where it isn't read for what it is.
 fn say_remark(
@@ -70,8 +93,8 @@ fn say_remark(
     front: &[u8],
     fault: Fault,
 ) -> io::Result<()> {
-    if let Some(other) = remark(&Err(fault), front) {
-        return rt.eprintln(&KindRemark { name, other });
+    if is_kind_said(rt, name, front, fault)? {
+        return Ok(());
     }
     let shown = shown_name(name);
     match interface {
@@ -121,7 +144,7 @@ fn say_run_notes(
 // Says why a report on files couldn't be written, but that its reader was gone.
 fn say_unwritten(rt: &impl Eprint, ran: &Ran) -> io::Result<()> {
     match ran.reason {
-        Some(number) if !ran.is_closed && matches!(ran.outcome, Err(Fault::Write)) => {
+        Some(number) if matches!(ran.outcome, Err(Fault::Write)) => {
             let reason = io::Error::from_raw_os_error(number);
             rt.eprintln(format_args!("racl: standard output: {reason}"))
         }
@@ -130,15 +153,19 @@ fn say_unwritten(rt: &impl Eprint, ran: &Ran) -> io::Result<()> {
 }
 
 // Says how a run on files ended, but for the notes on these; and answers the status.
-fn say_ran(rt: &impl Eprint, ran: &Ran) -> io::Result<u8>
+fn say_ran(
+    rt: &impl Eprint,
+    alloc: Global,
+    policy: NamedPolicy<'_>,
+    ran: &Ran,
+) -> io::Result<u8>
     ensures { IfOk result (λ status. status ≡ status_of ran.now.outcome) }
 {
-    let mut end = ending(&ran.outcome);
     if ran.is_closed {
         // Who asked for a report of files took as much of it as was wanted.
-        end.message = None;
+        return Ok(status(&ran.outcome));
     }
-    let status = match say_ending(rt, &end) {
+    let status = match say_ended(rt, alloc, policy, &ran.outcome) {
         Ok(status) => status,
         Err(error) => return Err(error),
     };
@@ -156,11 +183,18 @@ pub fn say_end_of_run(
 ) -> io::Result<u8>
     ensures { IfOk result (λ status. status ≡ status_of ran.now.outcome) }
 {
-    let status = match say_ran(rt, ran) {
+    let SeenFiles { files, text, front } = input;
+    let policy = NamedPolicy {
+        name: files.policy,
+        text,
+    };
+    let status = match say_ran(rt, alloc, policy, ran) {
         Ok(status) => status,
         Err(error) => return Err(error),
     };
-    let SeenFiles { files, text, front } = input;
+    if matches!(ran.outcome, Err(Fault::TooLarge)) {
+        rt.eprintln(&Hint::Longer)?;
+    }
     if let Err(fault) = ran.outcome
         && is_told_of_capture(rt, files.capture, front, fault)
     {
@@ -231,7 +265,11 @@ pub fn say_end_of_interfaces(
 ) -> io::Result<u8>
     ensures { IfOk result (λ status. status ≡ status_of ran.now.outcome) }
 {
-    let status = match say_ran(rt, ran) {
+    let policy = NamedPolicy {
+        name: interfaces.policy,
+        text: &input.text,
+    };
+    let status = match say_ran(rt, alloc, policy, ran) {
         Ok(status) => status,
         Err(error) => return Err(error),
     };
@@ -257,16 +295,19 @@ pub fn say_end_of_live(
     ensures { IfOk result (λ status. status ≡ status_of outcome.now) }
 {
     let SeenFiles { files, text, front } = input;
-    let status = match say_outcome(rt, outcome) {
+    let policy = NamedPolicy {
+        name: files.policy,
+        text,
+    };
+    let status = match say_ended(rt, alloc, policy, outcome) {
         Ok(status) => status,
         Err(error) => return Err(error),
     };
     if let Some(hint) = hint(outcome, text) {
         rt.eprintln(&hint)?;
     }
-    if let Some(other) = remark(outcome, front) {
-        let name = files.capture;
-        rt.eprintln(&KindRemark { name, other })?;
+    if let Err(fault) = outcome {
+        is_kind_said(rt, files.capture, front, *fault)?;
     }
     let seen = Seen {
         interface: 0,
@@ -309,12 +350,16 @@ fn say_faulty_live(
             say_remark(rt, file.name, shown, &[], fault)?;
         }
     }
+    if fault == Fault::LinkType {
+        rt.eprintln(&Hint::Ethernet)?;
+    }
     Ok(())
 }
 
 /// Says how a live run on several interfaces ended, and which capture has the fault, where one has it; and answers the status.
 pub fn say_end_of_live_interfaces(
     rt: &impl Eprint,
+    alloc: Global,
     options: &Options,
     interfaces: &Interfaces<'_>,
     text: &[u8],
@@ -326,7 +371,11 @@ pub fn say_end_of_live_interfaces(
         Ok(totals) => Ok(*totals),
         Err(found) => Err(found.fault),
     };
-    let status = match say_outcome(rt, &told) {
+    let policy = NamedPolicy {
+        name: interfaces.policy,
+        text,
+    };
+    let status = match say_ended(rt, alloc, policy, &told) {
         Ok(status) => status,
         Err(error) => return Err(error),
     };

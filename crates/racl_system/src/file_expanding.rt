@@ -1,19 +1,17 @@
 //! The plain policy of one in a file, which may include others.
-ghost use Rattle.std.specs.Prelude.{◌≡◌, IfOk, None, map};
-ghost use Rattle.clap.specs.Walk.{texts};
+ghost use Rattle.std.specs.Prelude.{map};
 ghost use Rattle.policy_expand.specs.Inclusions.{file_facts};
-ghost use Rattle.racl_system.specs.Expands.{AreRead, IsExpand};
+ghost use Rattle.racl_system.specs.Expands.{AreRead};
 
-use crate::expand_words::expand_name;
 use crate::named_reader::{bytes_of, opened_reader};
-use crate::say_and_answer_status::{say_fault, say_refused};
+use crate::say_and_answer_status::say_fault;
 use crate::system_files::SystemFiles;
 use policy_expand::{PolicyFile, Told, Whole, missing_file, tell_expansion, whole_policy};
 use racl_io::{Device, Fault, MOST_BYTES, write_all};
 use racl_report::Unopened;
 use std::alloc::{AllocError, Global};
 use std::io;
-use std::io::{Eprint, Print};
+use std::io::Eprint;
 
 /// The greatest number of files of a policy.
 const MOST_FILES: usize = 256;
@@ -129,9 +127,10 @@ fn told_policy(alloc: Global, files: &[PolicyFile]) -> Result<Told, AllocError> 
     }
 }
 
-// Writes the plain policy of the file of this name, and answers the status: 0 where it was written, 1 where a file is
-// wrong, which is told, and 4 where memory ran out or a file or a device failed.
-fn expand_file<S: SystemFiles + Eprint>(system: &S, alloc: Global, name: &str) -> io::Result<u8> {
+/// Writes the plain policy of the file of this name, and answers the status: 0 where it was written, 1 where a file is
+/// wrong, which is told, and 4 where memory ran out or a file or a device failed. No clause says what standard output gets:
+/// `tests/run` looks at it.
+pub fn expand_file<S: SystemFiles + Eprint>(system: &S, alloc: Global, name: &str) -> io::Result<u8> {
     let mut files = Vec::new(alloc);
     if let Some(status) = add_files(system, alloc, name, &mut files)? {
         return Ok(status);
@@ -147,21 +146,5 @@ fn expand_file<S: SystemFiles + Eprint>(system: &S, alloc: Global, name: &str) -
     match write_all(&mut Device::new(system.standard_output()), plain.as_slice()) {
         Ok(()) => Ok(0),
         Err(fault) => say_fault(system, fault),
-    }
-}
-
-/// The status of the expansion that words ask for, once it is done. None: they ask for none. No clause says what standard
-/// output gets: `tests/run` looks at it.
-pub fn expansion_status<S: SystemFiles + Print + Eprint>(
-    system: &S,
-    alloc: Global,
-    words: &[&str],
-) -> io::Result<Option<u8>>
-    ensures { (IsExpand (texts words.now) → ⊥) → IfOk result (λ status. status ≡ None) }
-{
-    match expand_name(alloc, words) {
-        Ok(None) => Ok(None),
-        Ok(Some(name)) => Ok(Some(expand_file(system, alloc, name)?)),
-        Err(error) => Ok(Some(say_refused(system, &error)?)),
     }
 }

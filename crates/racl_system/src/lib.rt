@@ -2,13 +2,13 @@
 //! packets, shows progress, and says on standard error what there is to say.
 #![tactic(auto)]
 
+mod asked_words;
 mod capture_feeding;
 mod coming_captures;
 mod command_words;
 mod diff_input;
 mod draft;
 mod end_of_run;
-mod expand_words;
 mod expecting_input;
 mod file_checking;
 mod file_expanding;
@@ -25,17 +25,20 @@ mod save_file;
 mod saved_names;
 mod say_and_answer_status;
 mod say_policy_remarks;
+mod say_wrong_policy;
 mod system_files;
 
+pub use asked_words::Words;
 pub use coming_captures::{ComingCaptures, LiveInterfaces, opened_live_interfaces};
-pub use command_words::{asked_or_status, diff_or_status, texts_of};
-pub use diff_input::{DiffInput, opened_diff, say_capture_fault, say_policy_fault};
+pub use command_words::{asked_or_status, mistyped_status, texts_of};
+pub use diff_input::{DiffInput, opened_diff, say_capture_fault};
 pub use end_of_run::{
     Ran, SeenFiles, say_end_of_interfaces, say_end_of_live, say_end_of_live_interfaces,
     say_end_of_run, say_outcome,
 };
 pub use expecting_input::{ExpectingInput, opened_expecting, say_wrong_expectations};
-pub use file_expanding::expansion_status;
+pub use file_checking::check_file;
+pub use file_expanding::expand_file;
 pub use input_files::{opened_input, policy_text, standard_source};
 pub use interface_files::read_interface_input;
 pub use live_files::{LiveFiles, live_policy_text, opened_live};
@@ -45,4 +48,5 @@ pub use progress::{Progress, Watched, watched_where};
 pub use save_file::{SaveFile, saves_to, say_unsaved, settled};
 pub use saved_names::say_used_twice;
 pub use say_and_answer_status::failure_status;
+pub use say_wrong_policy::{NamedPolicy, say_policy_fault};
 pub use system_files::SystemFiles;

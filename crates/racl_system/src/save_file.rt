@@ -2,7 +2,7 @@
 ghost use Rattle.std.specs.Prelude.{◌≡◌, ◌-◌, ◌<◌, ◌≤◌, ◌^◌, ◌||◌, None, IfErr, IfOk, IfSome, IsTrue, is_err, is_some, length, option_map};
 ghost use Rattle.std.specs.Io.KnownBytes.{WriteAppends};
 ghost use Rattle.std.specs.IoError.{error_kind};
-ghost use Rattle.racl_options.specs.Checks.{text_behind};
+ghost use Rattle.racl_options.specs.Behind.{text_behind};
 ghost use Rattle.racl_system.specs.SaveFiles.{IsLeftSynced, IsSaveOf, IsSynced, IsUnwritten, has_failed, saved_in};
 
 use crate::system_files::SystemFiles;

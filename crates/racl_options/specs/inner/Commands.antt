@@ -1,9 +1,10 @@
 -- The command while it is made, and what its words are called.
 use Rattle.std.specs.Prelude.{true, codes}
 use Rattle.clap.specs.Simple.{on_top}
-use Rattle.clap.specs.Words.{App, Rule, Text, new_app, with_rule}
+use Rattle.clap.specs.Words.{App, Rule, Text, new_app, with_rule, with_subcommand}
 use Rattle.clap.specs.declared.builder.action.ArgAction.TheVariants.{Append, Set}
 use Rattle.racl_options.specs.CommandLine.{Workers, Established, Transient, Udp, flag_rule, long_rule, number_rule}
+use Rattle.racl_options.specs.Tasks.{ask, check, compare, diff, expand}
 use Rattle.racl_options.specs.Selections.{Summary, Hits, Sessions, Explain, JsonLines, Live, AnyLength, Age}
 
 -- ---- words
@@ -66,3 +67,11 @@ with_lines = with_rule (with_rule with_reports (flag_rule Explain)) (flag_rule J
 
 abbrev pub with_flags : App
 with_flags = with_rule (with_rule (with_rule with_lines (flag_rule Live)) (flag_rule AnyLength)) (flag_rule Age)
+
+-- ---- its subcommands
+
+abbrev pub with_checks : App → App
+with_checks base = with_subcommand (with_subcommand base check.top) expand.top
+
+abbrev pub with_questions : App → App
+with_questions base = with_subcommand (with_subcommand (with_subcommand base ask.top) diff.top) compare.top

@@ -2,7 +2,7 @@
 use super::racl_test_refused;
 use acl_policy::{Action, read_policy};
 use packet_view::{Direction, Family, Fields, Tuple};
-use policy_compare::{Compares, Difference, Pair, compare_policies, compare_texts, compared_by};
+use policy_compare::{Difference, Pair, compare_policies, compare_texts};
 use racl_io::Device;
 use std::test::Fail;
 
@@ -53,16 +53,4 @@ pairs that differ 2 unknown 0
 ";
     assert!(rt; writer.inner.as_slice() == wanted.as_slice());
     Ok(())
-}
-
-/// Words that ask for a comparison, and others.
-#[test]
-fn words_of_a_comparison(rt: HostRuntime) {
-    let Compares::These(files) = compared_by(&["racl", "compare", "a", "b"]) else {
-        assert!(rt; false);
-        return;
-    };
-    assert!(rt; files.before == "a" && files.after == "b");
-    assert!(rt; matches!(compared_by(&["racl", "compare", "a"]), Compares::Unclear));
-    assert!(rt; matches!(compared_by(&["racl", "diff", "a", "b"]), Compares::Nothing));
 }

@@ -48,11 +48,11 @@ returns-clause-written c program settings uses names origin are named says is =
     returns-clause-accepts c (asked_as settings origin) (written_asks _ program settings uses names origin are named says is)
 
 pub returns-in-Err-clause-refuses : goal.returns-in-Err-clause-refuses
-returns-in-Err-clause-refuses c = inl (fails_by_fault {T = ArgMatches} c.in_ok-command.command _ (Err c.in-Err.error) c.in_ok-command.ensures c.in-Err.ensures.kinds)
+returns-in-Err-clause-refuses c = inl (c.with_whole_help.ensures _ (fails_by_fault {T = ArgMatches} c.in_ok-command.command _ (Err c.in-Err.error) c.in_ok-command.ensures c.in-Err.ensures.kinds))
 
 pub returns-in-Err-clause-accepts : goal.returns-in-Err-clause-accepts
-returns-in-Err-clause-accepts c asked asks = only_memory _ c.in-Err.error asks.faultless
-    (fails_by_fault {T = ArgMatches} c.in_ok-command.command _ (Err c.in-Err.error) c.in_ok-command.ensures c.in-Err.ensures.kinds)
+returns-in-Err-clause-accepts c asked asks = only_memory _ c.with_whole_help.result asks.faultless
+    (c.with_whole_help.ensures _ (fails_by_fault {T = ArgMatches} c.in_ok-command.command _ (Err c.in-Err.error) c.in_ok-command.ensures c.in-Err.ensures.kinds))
 
 pub returns-in-Err-clause-written : goal.returns-in-Err-clause-written
 returns-in-Err-clause-written c program settings uses names origin are named says is =
