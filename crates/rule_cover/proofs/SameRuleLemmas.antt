@@ -1,10 +1,10 @@
 -- Rules that are the same match the same packets.
-use Rattle.std.proofs.Common.{◌≡◌, ◌∙◌, ◌-◌, ◌/◌, ◌^◌, ◌≤◌, ◌<◌, ◌×◌, ℕ, Bool, true, false, ap, arith, cond, inl, inr, refl, subst, sym}
-use Rattle.std.specs.Prelude.{◌⊎◌, ◌↔◌, ◌&&◌, ◌||◌, ◌==◌, IsTrue, bit_and, if◌then◌else◌, nat_le, not}
-use Rattle.std.proofs.lemmas.Bool.{and_parts, eqb-true}
+use Rattle.std.proofs.Common.{◌≡◌, ◌∙◌, ◌≤◌, ◌<◌, ℕ, Bool, true, false, ap, arith, inl, inr, refl, subst, sym}
+use Rattle.std.specs.Prelude.{◌⊎◌, ◌↔◌, ◌&&◌, ◌||◌, ◌==◌, IsTrue, bit_and, if◌then◌else◌, nat_le}
+use Rattle.std.proofs.lemmas.Bool.{and_parts, eqb-false, eqb-true, leb-true, not-true}
 use Rattle.std.proofs.lemmas.Nat.{and_assoc}
 use Rattle.std.specs.Int.Bits.{and_self}
-use Rattle.packet_view.specs.Addresses.{icmp_of}
+use Rattle.packet_view.specs.Addresses.{fields_suit, icmp_of}
 use Rattle.packet_view.specs.Tuples.{TupleFacts}
 use Rattle.packet_view.specs.declared.tuple.Family.{Family}
 use Rattle.packet_view.specs.declared.tuple.Family.TheVariants.{V4, V6}
@@ -13,39 +13,39 @@ use Rattle.packet_view.specs.declared.tuple.Fields.TheVariants.{Absent, Ports, T
 use Rattle.acl_policy.specs.Matching.{HasFields, HoldsPrefix, IsIn, Matches}
 use Rattle.acl_policy.specs.Rules.{RuleFacts}
 use Rattle.rule_cover.specs.Covers.{AreSmall, IsPacket}
-use Rattle.rule_cover.specs.SameRules.{counted, family_number, has_no_flags, last_byte, same_bytes, same_fields, same_pair, same_ports, same_prefix, same_rule, same_segments}
+use Rattle.rule_cover.specs.SameRules.{counted, family_number, has_no_flags, last_byte, same_bytes, same_ports, same_prefix, same_rule, same_segments}
 
 -- ---- What the test says
 
 -- a range that holds the same numbers of a kind
-record AlikePorts (one other : RuleFacts) : Type 0 where
-  from : one.first.0 ≡ other.first.0
-  from_end : one.first.1 ≡ other.first.1
-  to : one.second.0 ≡ other.second.0
-  to_end : one.second.1 ≡ other.second.1
+pub record AlikePorts (one other : RuleFacts) : Type 0 where
+  pub from : one.first.0 ≡ other.first.0
+  pub from_end : one.first.1 ≡ other.first.1
+  pub to : one.second.0 ≡ other.second.0
+  pub to_end : one.second.1 ≡ other.second.1
 
-record AlikeBytes (one other : RuleFacts) : Type 0 where
-  kind : one.first.0 ≡ other.first.0
-  kind_end : last_byte one.first.1 ≡ last_byte other.first.1
-  code : one.second.0 ≡ other.second.0
-  code_end : last_byte one.second.1 ≡ last_byte other.second.1
+pub record AlikeBytes (one other : RuleFacts) : Type 0 where
+  pub kind : one.first.0 ≡ other.first.0
+  pub kind_end : last_byte one.first.1 ≡ last_byte other.first.1
+  pub code : one.second.0 ≡ other.second.0
+  pub code_end : last_byte one.second.1 ≡ last_byte other.second.1
 
-record AlikeFlags (one other : RuleFacts) : Type 0 where
-  ports : AlikePorts one other
-  value : one.value ≡ other.value
-  mask : one.mask ≡ other.mask
+pub record AlikeFlags (one other : RuleFacts) : Type 0 where
+  pub ports : AlikePorts one other
+  pub value : one.value ≡ other.value
+  pub mask : one.mask ≡ other.mask
 
 -- two rules of one family and one protocol that look at the same numbers
-record AreAlike (one other : RuleFacts) : Type 0 where
-  family : one.family ≡ other.family
-  proto : one.proto ≡ other.proto
-  source_length : one.source.1 ≡ other.source.1
-  source : counted one.family one.source ≡ counted one.family other.source
-  dest_length : one.dest.1 ≡ other.dest.1
-  dest : counted one.family one.dest ≡ counted one.family other.dest
-  segments : one.proto ≡ 6 → ((has_no_flags one ≡ true) × (has_no_flags other ≡ true)) ⊎ AlikeFlags one other
-  ports : one.proto ≡ 17 → AlikePorts one other
-  bytes : one.proto ≡ icmp_of one.family → AlikeBytes one other
+pub record AreAlike (one other : RuleFacts) : Type 0 where
+  pub family : one.family ≡ other.family
+  pub proto : one.proto ≡ other.proto
+  pub source_length : one.source.1 ≡ other.source.1
+  pub source : counted one.family one.source ≡ counted one.family other.source
+  pub dest_length : one.dest.1 ≡ other.dest.1
+  pub dest : counted one.family one.dest ≡ counted one.family other.dest
+  pub segments : one.proto ≡ 6 → ((has_no_flags one ≡ true) × (has_no_flags other ≡ true)) ⊎ AlikeFlags one other
+  pub ports : one.proto ≡ 17 → AlikePorts one other
+  pub bytes : one.proto ≡ icmp_of one.family → AlikeBytes one other
 
 alike_ports_back : {one other : RuleFacts} → AlikePorts one other → AlikePorts other one
 alike_ports_back is = record { from = sym is.from; from_end = sym is.from_end; to = sym is.to; to_end = sym is.to_end }
@@ -162,19 +162,69 @@ prefix_too family one other address same counts holds = cc
 range_too : (one other : ℕ × ℕ) (n : ℕ) → one.0 ≡ other.0 → one.1 ≡ other.1 → IsIn one n → IsIn other n
 range_too one other n first last is = (subst (λ (k : ℕ). k ≤ n) first is.0, subst (λ (k : ℕ). n ≤ k) last is.1)
 
+below_last : (n k : ℕ) → n < 256 → n ≤ k → n ≤ last_byte k
+below_last n k small under = go (nat_le 255 k) refl
+  where
+    go : (b : Bool) → nat_le 255 k ≡ b → n ≤ (if b then 255 else k)
+    go true is = omega arith
+    go false is = under
+
+last_below : (k : ℕ) → last_byte k ≤ k
+last_below k = go (nat_le 255 k) refl
+  where
+    go : (b : Bool) → nat_le 255 k ≡ b → (if b then 255 else k) ≤ k
+    go true is = leb-true 255 k is
+    go false is = omega arith
+
 bytes_too : (one other : ℕ × ℕ) (n : ℕ) → n < 256 → one.0 ≡ other.0 → last_byte one.1 ≡ last_byte other.1 → IsIn one n → IsIn other n
-bytes_too one other n small first last is = ?
+bytes_too one other n small first last is =
+    let under : n ≤ last_byte other.1 = subst (λ (k : ℕ). n ≤ k) last (below_last n one.1 small is.1) in
+    let end = last_below other.1 in
+    (subst (λ (k : ℕ). k ≤ n) first is.0, omega (arith, under, end))
 
 -- flags that are as a rule says are what it looks at
 flags_wanted : (rule : RuleFacts) (flags : ℕ) → has_no_flags rule ≡ true → bit_and flags rule.mask ≡ rule.value → ⊥
-flags_wanted rule flags none are = ?
+flags_wanted rule flags none are =
+    eqb-false (bit_and rule.value rule.mask) rule.value (not-true _ none)
+    (ap (λ (v : ℕ). bit_and v rule.mask) (sym are) ∙ and_assoc rule.mask flags rule.mask ∙ ap (bit_and flags) (and_self rule.mask) ∙ are)
 
 fields_too : (one other : RuleFacts) (tuple : TupleFacts) → AreAlike one other → IsPacket tuple → one.family ≡ tuple.family → one.proto ≡ tuple.proto
     → (fields : Fields) → tuple.fields ≡ fields → HasFields one fields → HasFields other fields
-fields_too one other tuple is packet family proto fields same has = ?
+fields_too one other tuple is packet family proto Absent same has = tt
+fields_too one other tuple is packet family proto (Ports from to) same has =
+    let udp = eqb-true tuple.proto 17 (subst (λ (f : Fields). IsTrue (fields_suit tuple.family tuple.proto f)) same packet.suits) in
+    let ports = is.ports (proto ∙ udp) in
+    (range_too one.first other.first from ports.from ports.from_end has.0, range_too one.second other.second to ports.to ports.to_end has.1)
+fields_too one other tuple is packet family proto (Tcp from to flags) same has =
+    let tcp = eqb-true tuple.proto 6 (subst (λ (f : Fields). IsTrue (fields_suit tuple.family tuple.proto f)) same packet.suits) in
+    elim (is.segments (proto ∙ tcp)) [
+      | inl none ↦ absurd (flags_wanted one flags none.0 has.2)
+      | inr alike ↦ (
+        range_too one.first other.first from alike.ports.from alike.ports.from_end has.0,
+        range_too one.second other.second to alike.ports.to alike.ports.to_end has.1,
+        subst (λ (m : ℕ). bit_and flags m ≡ other.value) alike.mask (has.2 ∙ alike.value),
+      )
+    ]
+fields_too one other tuple is packet family proto (Icmp kind code) same has =
+    let icmp = eqb-true tuple.proto (icmp_of tuple.family) (subst (λ (f : Fields). IsTrue (fields_suit tuple.family tuple.proto f)) same packet.suits) in
+    let small = subst AreSmall same packet.small in
+    let bytes = is.bytes (proto ∙ icmp ∙ ap icmp_of (sym family)) in (
+      bytes_too one.first other.first kind small.0 bytes.kind bytes.kind_end has.0,
+      bytes_too one.second other.second code small.1 bytes.code bytes.code_end has.1,
+    )
 
 pub matches_too : (one other : RuleFacts) (tuple : TupleFacts) → AreAlike one other → IsPacket tuple → Matches one tuple → Matches other tuple
-matches_too one other tuple is packet (family, source, dest, protocol) = ?
+matches_too one other tuple is packet (family, source, dest, protocol) = (
+  sym is.family ∙ family,
+  prefix_too tuple.family one.source other.source tuple.source is.source_length
+      (subst (λ (f : Family). counted f one.source ≡ counted f other.source) family is.source) source,
+  prefix_too tuple.family one.dest other.dest tuple.dest is.dest_length
+      (subst (λ (f : Family). counted f one.dest ≡ counted f other.dest) family is.dest) dest,
+  elim protocol [
+    | inl every ↦ inl (sym is.proto ∙ every)
+    | inr some ↦ inr (sym is.proto ∙ some.0, fields_too one other tuple is packet family some.0 tuple.fields refl some.1)
+  ],
+)
 
 -- in both directions
 pub match_alike : (one other : RuleFacts) (tuple : TupleFacts) → same_rule one other ≡ true → IsPacket tuple → Matches one tuple ↔ Matches other tuple

@@ -95,12 +95,10 @@ pub fn same_rule(one: &Rule, other: &Rule) -> bool
 {
     family_number(one.family) == family_number(other.family)
         && (action_number(one.action) == action_number(other.action)
-            && (one.proto == other.proto
-                && (same_prefixes(one, other) && same_fields(one, other))))
+            && (one.proto == other.proto && (same_prefixes(one, other) && same_fields(one, other))))
 }
 
 /// Rules that are the same by `same_rule` match the same packets.
-#[tactic(auto, using(crate::proofs::SameRuleLemmas::match_alike))]
 pub fn same_rules_match_the_same_packets()
     ensures { (one other : RuleFacts) (tuple : TupleFacts) → SameRules.same_rule one other ≡ true → IsPacket tuple
         → Matches one tuple ↔ Matches other tuple }
