@@ -1,5 +1,8 @@
 """What the word `diff` tells: of which packets two policies say different things."""
+import ipaddress
+import random
 import re
+import struct
 
 from support.captures import CAPTURE, MOST_KEPT, NAMES, OTHERS, PUT_TOGETHER, header, record, request_and_answer, udp
 from support.cases import Case, each, wanted
@@ -16,6 +19,8 @@ CHANGES = [
     ("the same policy", NAMES, [], "changed 0 pass to drop 0 drop to pass 0 other 0"),
     ("the rule stands second", OWN + b"out deny ipv4 any any tcp\n" + REFLECTS, [], "changed 0 pass to drop 0 drop to pass 0 other 0"),
     ("the rule is written otherwise", OWN + b"out  permit+reflect\tipv4 10.0.0.1/32 0.0.0.0/0 17 dport 53-53 # the same\n", [],
+     "changed 0 pass to drop 0 drop to pass 0 other 0"),
+    ("the rule has other bits behind its prefix", OWN + b"out permit+reflect ipv4 10.0.0.1 10.9.9.9/0 udp dport 53\n", [],
      "changed 0 pass to drop 0 drop to pass 0 other 0"),
     ("the rule stands twice", NAMES + REFLECTS, [], "changed 0 pass to drop 0 drop to pass 0 other 0"),
     ("without a session", OWN + b"out permit ipv4 10.0.0.1 any udp dport 53\n",
@@ -37,6 +42,42 @@ FAULTS = [
     ("a wrong line of the other, and no capture", NAMES, b"\nmaybe\n", b"", "racl: {new}: line 2: `maybe` begins no line: in, out, mac and interface do; see racl check\n", 1),
     ("no capture", NAMES, NAMES, b"", "racl: capture header is short\n", 1),
 ]
+
+# Sources and traffic of rules as they may be written, each with what it matches: of addresses as numbers; and of a protocol and
+# its fields, which are ports and flags of TCP, ports of UDP, type and code of ICMP, or none, as of a later fragment.
+SOURCES = {**{it: (0, 2 ** 32) for it in ("any", "0.0.0.0/0", "10.9.9.9/0")}, **{it: (10 << 24, 256) for it in ("10.0.0.0/24", "10.0.0.77/24")},
+           "10.0.0.0/25": (10 << 24, 128), **{it: (10 << 24 | 1, 1) for it in ("10.0.0.1", "10.0.0.1/32")}}
+
+
+def of(protocol, is_so=lambda *fields: True):
+    return lambda number, fields: number == protocol and (not fields or is_so(*fields))
+
+
+TRAFFIC = {**{it: lambda number, fields: True for it in ("", "any")}, **{it: of(6) for it in ("tcp", "6", "tcp sport 0-65535", "tcp flags 00/00")},
+           **{it: of(6, lambda one, other, flags: other == 53) for it in ("tcp dport 53", "6 dport 53-53")},
+           **{it: of(6, lambda *fields: False) for it in ("tcp flags 01/00", "tcp flags 02/10", "tcp sport 5 flags 01/00")},
+           "tcp flags 02/12": of(6, lambda one, other, flags: flags & 0x12 == 2), "tcp flags 12/12": of(6, lambda one, other, flags: flags & 0x12 == 0x12),
+           **{it: of(17) for it in ("udp", "17 dport 0-65535")}, "udp dport 53": of(17, lambda one, other: other == 53),
+           "udp sport 53": of(17, lambda one, other: one == 53), **{it: of(1) for it in ("icmp", "icmp type 0-255", "1 code 0-255", "icmp type 0-255 code 0-255")},
+           **{it: of(1, lambda kind, code: kind == 8) for it in ("icmp type 8", "icmp type 8-8 code 0-255")},
+           "icmp type 8 code 0": of(1, lambda kind, code: (kind, code) == (8, 0)), "icmp type 0-254": of(1, lambda kind, code: kind < 255), "47": of(47)}
+
+
+def packets():
+    """Packets at both sides of each end of these rules: the source, the protocol and the fields, and a record."""
+    for source in ("10.0.0.1", "10.0.0.2", "10.0.0.128", "10.0.1.0", "192.0.2.1"):
+        fields = [(6, (one, other, flags)) for one in (5, 53) for other in (53, 54) for flags in (0, 1, 2, 0x12)]
+        fields += [(17, (one, other)) for one in (53, 54) for other in (53, 54)] + [(1, (kind, code)) for kind in (8, 9, 255) for code in (0, 1)]
+        for number, its in fields + [(it, ()) for it in (1, 6, 17, 47)]:
+            yield int(ipaddress.ip_address(source)), number, its, record(100, frame(source, number, its))
+
+
+def frame(source, protocol, fields):
+    """An Ethernet frame with an IPv4 packet; one without fields is a later fragment."""
+    payload = struct.pack(">HHIIBBHHH", *fields[:2], 0, 0, 0x50, fields[2], 0, 0, 0) if len(fields) == 3 else struct.pack(
+        ">BBHI" if protocol == 1 else ">HHHH", *fields, *((0, 0) if protocol == 1 else (8, 0))) if fields else bytes(8)
+    head = struct.pack(">BBHHHBBH", 0x45, 0, 20 + len(payload), 0, 0 if fields else 1, 64, protocol, 0)
+    return b"\x02\0\0\0\0\x01\x02\0\0\0\0\x02\x08\0" + head + ipaddress.ip_address(source).packed + bytes((192, 0, 2, 9)) + payload
 
 
 def lines_of(changes):
@@ -64,6 +105,31 @@ class Diff(Case):
     @each(CHANGES)
     def changes(self, new, lines, totals):
         self.compare(self.run_on(NAMES, new, CAPTURE), want(lines, totals))
+
+    def test_rules_that_match_the_same(self):
+        """Rules are the same where they match the same packets, as these packets show, whatever their words are."""
+        held, chance = list(packets()), random.Random(3)
+        capture = header() + b"".join(it[3] for it in held)
+        rules = [(source, traffic) for source in SOURCES for traffic in TRAFFIC]
+        pairs = [(("any", one), ("10.9.9.9/0", other)) for one in TRAFFIC for other in TRAFFIC if chance.random() < .25]
+        pairs += [tuple(chance.sample(rules, 2)) for _ in range(60)]
+        for pair in pairs:
+            found = [[SOURCES[source][0] <= at < sum(SOURCES[source]) and TRAFFIC[traffic](number, fields) for at, number, fields, _ in held]
+                     for source, traffic in pair]
+            changed = sum(a != b for a, b in zip(*found)) or 0
+            if changed:
+                changed = sum(a or b for a, b in zip(*found))
+            got = self.run_on(*(f"in permit ipv4 {source} any {traffic}\n".encode() for source, traffic in pair), capture)
+            self.compare({"changed": re.search(rb"changed (\d+)", got["stdout"])[1]}, {"changed": str(changed).encode()}, *map(str, pair))
+
+    def test_ageing(self):
+        """Sessions that have ended stay, as they do in a run on the capture, unless it is asked that they go. Times fall here."""
+        capture = header() + udp(1000, True, (1, 1000), (2, 53)) + udp(2000, True, (3, 7), (4, 9)) + udp(1100, False, (2, 53), (1, 1000))
+        new = NAMES + b"in permit ipv4 10.0.0.2 any udp\n"
+        self.compare(self.run_on(NAMES, new, capture), wanted(b"packets 3 changed 0 pass to drop 0 drop to pass 0 other 0\n", "", 0))
+        told = self.program.run(["diff", "--age", self.old, self.new, "-"], capture)
+        self.compare({"status": told["status"], "totals": told["stdout"].splitlines()[-1:]},
+                     {"status": 5, "totals": [b"packets 3 changed 1 pass to drop 0 drop to pass 1 other 0"]}, "sessions that have ended go")
 
     def test_the_other_way(self):
         """A new rule lets a request pass, and its session the answer."""

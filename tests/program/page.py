@@ -3,7 +3,9 @@ from elsewhere, and a browser renders it, where one is there."""
 import html
 import json
 import os
+import random
 import re
+import runpy
 import shutil
 import subprocess
 
@@ -18,6 +20,11 @@ HOSTILE = '<script>document.title="changed"</script><img src=http://127.0.0.1/x 
 def page_of(words, data=b""):
     ran = subprocess.run([PAGE, *words], input=data, stdout=subprocess.PIPE, stderr=subprocess.PIPE, timeout=SECONDS)
     return {"stdout": ran.stdout.decode(), "stderr": ran.stderr.decode(), "status": ran.returncode}
+
+
+def module_of(path):
+    """The names that a script without an ending of its own defines."""
+    return runpy.run_path(path, run_name="racl_page")
 
 
 def shown(page):
@@ -99,6 +106,36 @@ class Page(Case):
            ("no totals", b"", "the totals are missing: the report isn't whole")])
     def wrong(self, data, told):
         self.compare(page_of([], data), {"stdout": "", "stderr": f"racl-page: -: {told}\n", "status": 1})
+
+    def test_corrupted(self):
+        """Of each corrupted report a page is made, or its line is named."""
+        report = self.program.run(["--json", "--hits", "--sessions", self.hold("policy", NAMES), self.hold("capture", CAPTURE)])["stdout"]
+        page, chance = module_of(PAGE), random.Random(7)
+        values = [b"null", b"true", b"-1", b"1.5", b"1e999", b"NaN", b"[]", b"{}", b'"x"', b"9" * 30, b'"\\ud800"', b"[" * 3000]
+        told = 0
+        for _ in range(1500):
+            mutated = bytearray(report)
+            for _ in range(chance.randrange(1, 4)):
+                at = chance.randrange(len(mutated))
+                if chance.random() < .5:
+                    found = [it.span(1) for it in re.finditer(rb':("[^"]*"|-?[\d.]+)', bytes(mutated))] or [(at, at + 1)]
+                    start, end = chance.choice(found)
+                    mutated[start:end] = chance.choice(values)
+                else:
+                    mutated[at:at + chance.randrange(4)] = bytes(chance.randrange(256) for _ in range(chance.randrange(3)))
+            try:
+                read = page["read_report"](bytes(mutated).splitlines(keepends=True))
+                page["page"](read, "name", None, None).encode("utf-8", "replace")
+            except page["Wrong"]:
+                told += 1
+        self.assertTrue(0 < told < 1500)
+
+    def test_order_of_characters(self):
+        """What would show a line in another order stands as its number."""
+        policy = self.hold("policy", NAMES + "in deny ipv4 any any # \u202eyna timrep\u202c\n".encode())
+        report = self.program.run(["--json", "--hits", policy, self.hold("capture", CAPTURE)])["stdout"]
+        got = page_of(["--policy", policy, "-"], report)
+        self.compare({"raw": "\u202e" in got["stdout"], "shown": "\\u{202e}yna timrep\\u{202c}" in got["stdout"]}, {"raw": False, "shown": True})
 
     def test_no_file(self):
         name = os.path.join(self.folder, "none")

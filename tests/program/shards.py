@@ -1,8 +1,9 @@
 """Shards of a capture: all packets' lines with their numbers, totals and counts that add up to those of a run on all of it, and saved
 packets that are together those of that run."""
-import collections
 import json
+import os
 import re
+import shutil
 import subprocess
 
 from support.captures import NAMES, header, parts_of, record, udp
@@ -25,15 +26,6 @@ def examples():
         policy, captures = parts_of(bytes_of_file(f"{TOP}/examples/{name}.racl"))
         if captures[0][0] is None:
             yield name, policy, captures[0][1]
-
-
-def counts(reports):
-    """How many packets each line behind the totals counts, over all these reports."""
-    found = collections.Counter()
-    for report in reports:
-        for before, count, behind in re.findall(rb"^(.+ packets )(\d+)(.*)$", report, re.M):
-            found[before + behind] += int(count)
-    return found
 
 
 def packets_of(capture):
@@ -70,13 +62,55 @@ class Shards(Case):
     def merged(self, policy, capture, status=0):
         held = self.hold("policy", policy)
         for count in COUNTS:
-            for words in [], ["--explain"], ["--workers", "3", "--only=drop"]:
+            for words in [], ["--explain"], ["--workers", "3", "--only=drop"], ["--hits", "--sessions"], ["--summary", "--hits", "--age"]:
                 whole = self.program.run(["--any-length", *words, held, "-"], capture)
                 reports = self.reports(count, words, held, capture)
                 names = [self.hold(f"report{place}", it["stdout"]) for place, it in enumerate(reports)]
-                ran = subprocess.run([f"{TOP}/examples/shards/merge", *names], stdout=subprocess.PIPE)
-                self.compare({"merged": ran.stdout}, {"merged": whole["stdout"]}, count, *words)
+                self.compare({"merged": self.merge(*names)["stdout"]}, {"merged": whole["stdout"]}, count, *words)
                 self.compare({"statuses": {it["status"] for it in reports}}, {"statuses": {status}}, count, *words)
+
+    def merge(self, *names):
+        ran = subprocess.run([f"{TOP}/examples/shards/merge", *names], stdout=subprocess.PIPE, stderr=subprocess.PIPE)
+        return {"stdout": ran.stdout, "stderr": ran.stderr, "status": ran.returncode}
+
+    def test_what_is_not_merged(self):
+        """Each shard of one capture is wanted once; else nothing is written, and the report that is wrong is named."""
+        held = self.hold("policy", NAMES)
+        one, two, three = (self.hold(f"report{place}", it["stdout"]) for place, it in enumerate(self.reports(3, [], held, MANY)))
+        stale = self.hold("stale", self.reports(3, [], held, MANY[:-37 * 20])[2]["stdout"])
+        of_four = self.hold("of_four", self.reports(4, [], held, MANY)[2]["stdout"])
+        objects = self.hold("objects", self.reports(3, ["--json"], held, MANY)[2]["stdout"])
+        counts = self.hold("counts", self.reports(3, ["--hits"], held, MANY)[2]["stdout"])
+        failed = self.hold("failed", bytes_of_file(three)[:-5])
+        empty, none = self.hold("empty", b""), f"{self.folder}/none"
+        for names, why in (([one, two], b"no report is of 3"), ([one, two, two], b"shard 2 stands twice"), ([one, two, three, three], b"twice"),
+                           ([one, two, stale], b"different captures"), ([one, two, of_four], b"different numbers of shards"),
+                           ([one, two, objects], b"JSON"), ([one, two, counts], b"count the same"), ([one, two, failed], b"its run failed"),
+                           ([one, two, empty], b"its run failed"), ([one, two, none], b"can't be read"), ([], b"takes the reports")):
+            got = self.merge(*names)
+            self.compare({"stdout": got["stdout"], "status": got["status"], "said": why in got["stderr"]}, {"stdout": b"", "status": 1, "said": True}, why)
+
+    def test_large_counts(self):
+        """Counts beyond 2^31 and 2^53 are written digit by digit."""
+        for count in 2 ** 31, 2 ** 53 + 1:
+            names = [self.hold(f"report{it}", f"packets {count} pass {count} drop 0\nshard {it} of 2 of {2 * count} packets until 7\n".encode()) for it in (1, 2)]
+            self.compare(self.merge(*names), wanted(f"packets {2 * count} pass {2 * count} drop 0\n".encode()), str(count))
+
+    def test_recipe(self):
+        """The page's recipe for GNU parallel, on this machine, where that is installed."""
+        if not shutil.which("parallel"):
+            self.skipTest("GNU parallel isn't installed")
+        self.hold("host.policy", NAMES)
+        self.hold("long.pcap", MANY)
+        os.makedirs(f"{self.folder}/bin")
+        os.symlink(self.program.path, f"{self.folder}/bin/racl")
+        page = bytes_of_file(f"{TOP}/docs/SCALING.md").decode()
+        recipe = next(it for it in re.findall(r"^```sh\n(.*?)^```$", page, re.M | re.S) if "parallel" in it and "--shard" in it)
+        recipe = recipe.replace("--sshlogin one,two,three,four ", "").replace("examples/shards/merge", f"{TOP}/examples/shards/merge")
+        environment = {**os.environ, "PATH": f"{self.folder}/bin:{os.environ['PATH']}", "HOME": self.folder}
+        ran = subprocess.run(["sh", "-euc", recipe], cwd=self.folder, env=environment, stdin=subprocess.DEVNULL, stdout=subprocess.PIPE, stderr=subprocess.PIPE)
+        whole = self.program.run(["--any-length", f"{self.folder}/host.policy", f"{self.folder}/long.pcap"])
+        self.compare({"stdout": ran.stdout, "status": ran.returncode}, {"stdout": whole["stdout"], "status": 0})
 
     def test_objects(self):
         held = self.hold("policy", NAMES)
@@ -86,23 +120,6 @@ class Shards(Case):
             packets = sorted((it for it in lines if b'"packet":' in it), key=lambda it: json.loads(it)["packet"])
             self.assertEqual(len(packets), 806)
             self.compare({"packets": packets}, {"packets": [it for it in whole if b'"packet":' in it]}, count)
-
-    def test_hits(self):
-        """What each rule decided adds up."""
-        held = self.hold("policy", NAMES)
-        whole = self.program.run(["--any-length", "--summary", "--hits", held, "-"], MANY)["stdout"]
-        for count in COUNTS:
-            reports = [it["stdout"] for it in self.reports(count, ["--summary", "--hits"], held, MANY)]
-            self.compare({"counts": counts(reports)}, {"counts": counts([whole])}, count)
-
-    def test_sessions(self):
-        """Each session stands in one shard's tables."""
-        held = self.hold("policy", NAMES)
-        words = ["--summary", "--sessions"]
-        whole = self.program.run(["--any-length", *words, held, "-"], MANY)["stdout"].splitlines()[1:]
-        for count in COUNTS:
-            lines = [line for it in self.reports(count, words, held, MANY) for line in it["stdout"].splitlines()[1:]]
-            self.compare({"sessions": sorted(lines)}, {"sessions": sorted(whole)}, count)
 
     def test_saved(self):
         """Each file is a capture of the shard's packets, in their order; those of all shards hold the packets of the one run's."""

@@ -2,15 +2,12 @@
 use Rattle.std.specs.Prelude.{ℕ, ◌+◌, ◌-◌, ◌==◌, ◌&&◌, Bool, true, false, nat_le, not, if◌then◌else◌, List, [], ◌∷◌, ◌++◌, Option, None, Some, length, option_and_then, slice_get, slice_range}
 use Rattle.std.specs.Str.{bytes_eq}
 use Rattle.packet_view.specs.Captures.{PacketFacts, packet_facts}
-use Rattle.packet_view.specs.declared.tuple.Family.{Family}
-use Rattle.packet_view.specs.declared.tuple.Family.TheVariants.{V4, V6}
 use Rattle.packet_view.specs.declared.tuple.Mac.{Mac}
 use Rattle.acl_policy.specs.Policies.{PolicyFacts, SectionFacts, policy_facts, section_of}
 use Rattle.acl_policy.specs.Rules.{RuleFacts}
-use Rattle.acl_policy.specs.declared.rule.Action.{Action}
-use Rattle.acl_policy.specs.declared.rule.Action.TheVariants as action
 use Rattle.session_state.specs.declared.verdict.Verdict.{Verdict}
 use Rattle.packet_words.specs.VerdictKinds.{kind_of, rule_number}
+use Rattle.rule_cover.specs.SameRules.{same_rule}
 use Rattle.compared_verdicts.specs.declared.change_lines.Change.{Change}
 use Rattle.compared_verdicts.specs.declared.change_lines.PolicyPair.{PolicyPair}
 
@@ -60,33 +57,14 @@ rule_by policy packet verdict = option_and_then (rule_numbered (rules_for (secti
 
 -- ---- what is the same
 
-abbrev pub action_number : Action → ℕ
-action_number action.Deny = 0
-action_number action.Permit = 1
-action_number action.Reflect = 2
-
-abbrev pub family_number : Family → ℕ
-family_number V4 = 4
-family_number V6 = 6
-
-abbrev pub same_pair : ℕ × ℕ → ℕ × ℕ → Bool
-same_pair one other = (one.0 == other.0) && (one.1 == other.1)
-
--- both say the same in each of their words
-abbrev pub same_rule : RuleFacts → RuleFacts → Bool
-same_rule one other =
-    (action_number one.action == action_number other.action) && ((family_number one.family == family_number other.family)
-    && (same_pair one.source other.source && (same_pair one.dest other.dest && ((one.proto == other.proto)
-    && (same_pair one.first other.first && (same_pair one.second other.second && ((one.value == other.value) && (one.mask == other.mask))))))))
-
--- both are by no rule, or by rules of one direction that say the same
+-- both are by no rule, or by rules of one direction that match the same packets with the same action
 abbrev pub same_decision : Bool → Option RuleFacts → Option RuleFacts → Bool
 same_decision way None None = true
 same_decision way None (Some other) = false
 same_decision way (Some one) None = false
 same_decision way (Some one) (Some other) = way && same_rule one other
 
--- both policies say the same of a packet: verdicts of one kind, by rules of one direction that say the same
+-- both policies say the same of a packet: verdicts of one kind, by rules of one direction that match the same with one action
 unfoldable pub agree : PairFacts → PacketFacts → Verdict → Verdict → Bool
 agree policies packet before after =
     (kind_of before == kind_of after)

@@ -7,9 +7,10 @@ ghost use Rattle.compared_verdicts.specs.Changes;
 ghost use Rattle.compared_verdicts.specs.Changes.{pair_facts};
 
 use crate::change_lines::PolicyPair;
-use acl_policy::{Action, Policy, Rule};
-use packet_view::{Family, Mac, Packet};
+use acl_policy::{Policy, Rule};
+use packet_view::{Mac, Packet};
 use packet_words::{kind_of, rule_number};
+use rule_cover::same_rule;
 use session_state::Verdict;
 
 // Whether a frame goes out at the interface with this own address.
@@ -59,52 +60,7 @@ fn rule_by<'p>(policy: &'p Policy, packet: Packet<'_>, verdict: Verdict) -> Opti
     }
 }
 
-fn action_number(action: Action) -> u8
-    ensures { result ≡ Changes.action_number action }
-{
-    match action {
-        Action::Deny => 0,
-        Action::Permit => 1,
-        Action::Reflect => 2,
-    }
-}
-
-fn family_number(family: Family) -> u8
-    ensures { result ≡ Changes.family_number family }
-{
-    match family {
-        Family::V4 => 4,
-        Family::V6 => 6,
-    }
-}
-
-// Whether two rules say the same in each of their words.
-fn same_rule(one: &Rule, other: &Rule) -> bool
-    ensures { result ≡ Changes.same_rule (rule_facts one.now) (rule_facts other.now) }
-{
-    action_number(one.action) == action_number(other.action)
-        && (family_number(one.family) == family_number(other.family)
-            && (same_prefix(one.source, other.source)
-                && (same_prefix(one.dest, other.dest)
-                    && (one.proto == other.proto
-                        && (same_range(one.first, other.first)
-                            && (same_range(one.second, other.second)
-                                && (one.value == other.value && one.mask == other.mask)))))))
-}
-
-fn same_prefix(one: (u128, u8), other: (u128, u8)) -> bool
-    ensures { result ≡ Changes.same_pair one other }
-{
-    one.0 == other.0 && one.1 == other.1
-}
-
-fn same_range(one: (u16, u16), other: (u16, u16)) -> bool
-    ensures { result ≡ Changes.same_pair one other }
-{
-    one.0 == other.0 && one.1 == other.1
-}
-
-// Whether both are no rule, or say the same of one direction.
+// Whether both are no rule, or match the same packets of one direction with the same action.
 fn same_decision(same_way: bool, one: Option<&Rule>, other: Option<&Rule>) -> bool
     ensures { result ≡ Changes.same_decision same_way (option_map (λ r. rule_facts r.now) one.entry) (option_map (λ r. rule_facts r.now) other.entry) }
 {
@@ -121,8 +77,8 @@ fn same_way(one: bool, other: bool) -> bool
     if one { other } else { !other }
 }
 
-/// Whether these verdicts by two policies say the same of a packet: they are of one kind, by rules of one
-/// direction that say the same.
+/// Whether these verdicts by two policies say the same of a packet: they are of one kind, by rules of one direction that match
+/// the same packets with the same action.
 #[tactic(auto, unfolding(crate::specs::Changes::agree))]
 pub fn agree(policies: PolicyPair<'_>, packet: Packet<'_>, before: Verdict, after: Verdict) -> bool
     ensures { result ≡ Changes.agree (pair_facts policies.entry) (packet_facts packet.entry) before after }

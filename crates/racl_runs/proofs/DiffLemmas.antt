@@ -16,7 +16,7 @@ use Rattle.racl_io.specs.declared.fault.Fault.{Fault}
 use Rattle.racl_io.specs.declared.fault.Fault.TheVariants as fault
 use Rattle.racl_runs.specs.DiffRuns.{HasRunDiff, IsDiffFault, IsFaultOfText, SayPolicies, policies_in}
 use Rattle.racl_runs.specs.declared.diff_run.DiffFault.TheVariants.{Run}
-use Rattle.racl_runs.specs.LiveRuns.{ByOneWorker}
+use Rattle.racl_runs.specs.LiveRuns.{ByLoneWorker}
 use Rattle.racl_runs.specs.declared.diff_run.DiffHead.{DiffHead}
 use Rattle.racl_runs.specs.declared.diff_run.PolicyTexts.{PolicyTexts}
 use Rattle.racl_runs.specs.inner.Heads.{HasReadHeader}
@@ -34,15 +34,15 @@ say_both before after = record { before = before; after = after }
 
 -- no packet was judged yet
 pub none_judged : (head : DiffHead) (given old : Option (List ℕ)) → let policies = policies_in head in let options = head.options.now in
-    IsComparingFault policies (ByOneWorker options policies.before) (ByOneWorker options policies.after) head.order given given old old fault.Memory
+    IsComparingFault policies (ByLoneWorker options policies.before) (ByLoneWorker options policies.after) head.order given given old old fault.Memory
 none_judged head given old =
     let policies = policies_in head in let options = head.options.now in
-    none_compared policies (ByOneWorker options policies.before) (ByOneWorker options policies.after) head.order given old
+    none_compared policies (ByLoneWorker options policies.before) (ByLoneWorker options policies.after) head.order given old
 
 -- all bytes were read, and the report was written
 pub diff_run : (options : Options) (texts : PolicyTexts) (before left after old new : Option (List ℕ)) (policies : PairFacts) (order : Order) (totals : ChangeTotals)
     → SayPolicies texts policies → HasReadHeader before left order
-    → HasToldAll policies (ByOneWorker options policies.before) (ByOneWorker options policies.after) order left after old new totals
+    → HasToldAll policies (ByLoneWorker options policies.before) (ByLoneWorker options policies.after) order left after old new totals
     → HasRunDiff options texts before old new totals
 diff_run options texts before left after old new policies order totals say head told =
     let compared = told.compared in
@@ -65,7 +65,7 @@ diff_run options texts before left after old new policies order totals say head 
 -- not all was compared, of what stands behind the header
 pub diff_fault : (options : Options) (texts : PolicyTexts) (before left after old new : Option (List ℕ)) (policies : PairFacts) (order : Order) (found : Fault)
     → SayPolicies texts policies → HasReadHeader before left order
-    → IsComparingFault policies (ByOneWorker options policies.before) (ByOneWorker options policies.after) order left after old new found
+    → IsComparingFault policies (ByLoneWorker options policies.before) (ByLoneWorker options policies.after) order left after old new found
     → IsDiffFault options texts before after old new (Run found)
 diff_fault options texts before left after old new policies order found say head told = inr (
   found,
@@ -88,4 +88,4 @@ pub diff_unbegun : (options : Options) (texts : PolicyTexts) (before left old : 
     → SayPolicies texts policies → HasReadHeader before left order → IsDiffFault options texts before left old old (Run fault.Memory)
 diff_unbegun options texts before left old policies order say head =
     diff_fault options texts before left left old old policies order fault.Memory say head
-    (none_compared policies (ByOneWorker options policies.before) (ByOneWorker options policies.after) order left old)
+    (none_compared policies (ByLoneWorker options policies.before) (ByLoneWorker options policies.after) order left old)

@@ -22,21 +22,12 @@ use Rattle.compared_verdicts.specs.Meeting.{are_met, end_of, met_told, told_of, 
 use Rattle.compared_verdicts.specs.declared.expectation.Expectation.{Expectation}
 use Rattle.compared_verdicts.proofs.MeetingLemmas.{lines_told}
 use Rattle.racl_runs.specs.Crews.{AreSaidSoFar, Orders, cuts_four, orders_for, size_of}
-use Rattle.racl_runs.specs.ExpectingRuns.{ByLoneWorker, ComparesAll, EndsExpecting, HasComparedAll, HasCutEnd, HasJudgedCapture, manner_by, output}
+use Rattle.racl_runs.specs.ExpectingRuns.{ComparesAll, EndsExpecting, HasComparedAll, HasCutEnd, HasJudgedCapture, manner_by, output}
 use Rattle.racl_runs.specs.inner.Heads.{HasReadHeader}
 use Rattle.racl_runs.specs.declared.expecting_run.Compared.{Compared}
 use Rattle.racl_runs.specs.declared.sized_tables_and_workers.SizedTables.{SizedTables}
-use Rattle.racl_runs.proofs.LiveLemmas.{by_some_workers, head_in, whole_capture}
-use Rattle.racl_runs.proofs.OutcomeLemmas.{by_one}
-
--- what one worker said
-pub by_lone_worker : {T : Type 0} (options : Options) (ready : InterfaceFilters) (tables : SizedTables) (orders : Orders) (packets : List PacketFacts)
-    (verdicts : List Verdict) → orders ≡ orders_for tables ready 1 (cuts_four tables) → cuts_four tables ≡ options.ages → size_of tables ≡ options.tables
-    → ready.times ≡ options.times → 1 ≤ options.workers → AreSaidSoFar T orders packets verdicts
-    → ByLoneWorker options (policy_facts ready.policy.now) packets verdicts
-by_lone_worker options ready tables orders packets verdicts given cut sized same some said =
-    let by = by_some_workers options ready tables orders 1 options.ages packets verdicts given cut sized same (omega arith) some (said.one (ap (λ (o : Orders). o.deal.workers) given)) in
-    record { by_workers = by.0; one = by.2; by_one_thread = by_one options options.ages (policy_facts ready.policy.now) packets verdicts by.0 }
+use Rattle.racl_runs.specs.LiveRuns.{ByLoneWorker}
+use Rattle.racl_runs.proofs.LiveLemmas.{head_in, whole_capture}
 
 -- where nothing is saved, only the report's device fails
 pub write_failed : (written writing saved : ℕ) (found : Fault) → HaveFailed written writing saved saved found → writing ≡ with_write written found

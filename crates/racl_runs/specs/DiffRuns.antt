@@ -18,7 +18,7 @@ use Rattle.compared_verdicts.specs.Changes.{PairFacts, changes_from}
 use Rattle.compared_verdicts.specs.ChangeReports.{AreLines, end_of_report, totals_of}
 use Rattle.compared_verdicts.specs.Comparing.{BothVerdicts, HasToldAll, IsComparingFault}
 use Rattle.compared_verdicts.specs.declared.change_totals.ChangeTotals.{ChangeTotals}
-use Rattle.racl_runs.specs.LiveRuns.{ByOneWorker}
+use Rattle.racl_runs.specs.LiveRuns.{ByLoneWorker}
 use Rattle.racl_runs.specs.declared.diff_run.DiffFault.{DiffFault}
 use Rattle.racl_runs.specs.declared.diff_run.DiffFault.TheVariants.{Before, After, Run}
 use Rattle.racl_runs.specs.declared.diff_run.PolicyTexts.{PolicyTexts}
@@ -33,8 +33,8 @@ pub record SayPolicies (texts : PolicyTexts) (policies : PairFacts) : Type 0 whe
 abbrev pub ComparesWith : Options → PairFacts → Order → Option (List ℕ) → Option (List ℕ) → Option (List ℕ) → Option (List ℕ)
     → Result ChangeTotals Fault → Type 0
 ComparesWith options policies order before after old new result =
-    MatchResult result (HasToldAll policies (ByOneWorker options policies.before) (ByOneWorker options policies.after) order before after old new)
-    (IsComparingFault policies (ByOneWorker options policies.before) (ByOneWorker options policies.after) order before after old new)
+    MatchResult result (HasToldAll policies (ByLoneWorker options policies.before) (ByLoneWorker options policies.after) order before after old new)
+    (IsComparingFault policies (ByLoneWorker options policies.before) (ByLoneWorker options policies.after) order before after old new)
 
 -- a device's fault is answered where it failed, and it failed once
 abbrev pub HaveFailed : ℕ → ℕ → ℕ → ℕ → Result ChangeTotals Fault → Type 0
@@ -50,8 +50,8 @@ policies_in head = record { before = policy_facts head.before.now.policy.now; af
 abbrev pub AreTimesOf : DiffHead → Type 0
 AreTimesOf head = (head.before.now.times ≡ head.options.now.times) × (head.after.now.times ≡ head.options.now.times)
 
--- The source's bytes are a capture. One worker for each policy, who ages, judged its packets, and the report on those was written on
--- which the two policies say different things.
+-- The source's bytes are a capture. One worker for each policy, who ages where that is asked for, judged its packets, and the report on
+-- those was written on which the two policies say different things.
 pub record HasRunDiff (options : Options) (texts : PolicyTexts) (given old new : Option (List ℕ)) (totals : ChangeTotals) : Type 0 where
   pub policies : PairFacts
   pub say : SayPolicies texts policies
@@ -60,7 +60,7 @@ pub record HasRunDiff (options : Options) (texts : PolicyTexts) (given old new :
   pub packets : List PacketFacts
   pub truncated : Bool
   pub records : IsCaptureAt 0 bytes packets (end_of truncated)
-  pub verdicts : BothVerdicts (ByOneWorker options policies.before) (ByOneWorker options policies.after) packets
+  pub verdicts : BothVerdicts (ByLoneWorker options policies.before) (ByLoneWorker options policies.after) packets
   pub counted : totals ≡ totals_of (changes_from policies 1 verdicts.befores verdicts.afters packets) (length packets) truncated
   pub lines : List ℕ
   pub are : AreLines policies.after (changes_from policies 1 verdicts.befores verdicts.afters packets) lines
@@ -97,7 +97,7 @@ abbrev pub IsDiffFault : Options → PolicyTexts → Option (List ℕ) → Optio
 IsDiffFault options texts before after old new which =
     (IsEarlyDiffFault texts before after which × (new ≡ old))
     ⊎ ((found : Fault) × (which ≡ Run found) × (head : HaveHead texts before)
-    × IsComparingFault head.policies (ByOneWorker options head.policies.before) (ByOneWorker options head.policies.after) head.order head.left after old new found)
+    × IsComparingFault head.policies (ByLoneWorker options head.policies.before) (ByLoneWorker options head.policies.after) head.order head.left after old new found)
 
 -- how a run ends
 abbrev pub EndsDiff : Options → PolicyTexts → Option (List ℕ) → Option (List ℕ) → Option (List ℕ) → Option (List ℕ)

@@ -17,16 +17,9 @@ use Rattle.capture_stream.specs.Lives.{HasJudgedAll, IsLiveFault}
 use Rattle.capture_stream.specs.Savings.{Manner, Outputs, manner_of, outputs}
 use Rattle.compared_verdicts.specs.Meeting.{are_met, told_of, unmet_wording}
 use Rattle.compared_verdicts.specs.declared.expectation.Expectation.{Expectation}
-use Rattle.racl_runs.specs.LiveRuns.{HasHead, IsEarlyFault}
+use Rattle.racl_runs.specs.LiveRuns.{ByLoneWorker, HasHead, IsEarlyFault}
 use Rattle.racl_runs.specs.Runs.{AgeInTime, ByOneThread, ByWorkers}
 use Rattle.racl_runs.specs.declared.expecting_run.Compared.{Compared}
-
--- One worker gave these verdicts, who ages where that is asked for. They are those of the one-thread filter, which forgets
--- nothing, where none of them says no-pages, and ageing is in time.
-pub record ByLoneWorker (options : Options) (policy : PolicyFacts) (packets : List PacketFacts) (verdicts : List Verdict) : Type 0 where
-  pub by_workers : ByWorkers options options.ages policy packets verdicts
-  pub one : by_workers.workers ≡ 1
-  pub by_one_thread : HavePages verdicts → AgeInTime by_workers → ByOneThread options.tables options.times policy packets verdicts
 
 -- what isn't as expected is told of each packet, and nothing is saved
 abbrev pub manner_by : List Expectation → Manner ⊤

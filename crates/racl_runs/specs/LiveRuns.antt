@@ -62,9 +62,10 @@ pub record AreFirstVerdicts (T : Type 0) (options : Options) (policy : PolicyFac
   pub count : length verdicts ≡ length packets
   pub one : options.workers ≡ 1 → ByLiveWorkers options policy packets verdicts
 
--- one worker who ages gave these verdicts
-pub record ByOneWorker (options : Options) (policy : PolicyFacts) (packets : List PacketFacts) (verdicts : List Verdict) : Type 0 where
-  pub by_workers : ByWorkers options true policy packets verdicts
+-- One worker gave these verdicts, who ages where that is asked for. They are those of the one-thread filter, which forgets
+-- nothing, where none of them says no-pages, and ageing is in time.
+pub record ByLoneWorker (options : Options) (policy : PolicyFacts) (packets : List PacketFacts) (verdicts : List Verdict) : Type 0 where
+  pub by_workers : ByWorkers options options.ages policy packets verdicts
   pub one : by_workers.workers ≡ 1
   pub by_one_thread : HavePages verdicts → AgeInTime by_workers → ByOneThread options.tables options.times policy packets verdicts
 

@@ -47,8 +47,8 @@ pub struct DiffHead<'t, 'f, 'u, 'g, 'o> {
     pub order: Order,
 }
 
-// Two workers judge the packets of the capture behind its header, each by a policy over tables of its own, while they come. The
-// tables cut blocks, and sessions that have ended are removed, as the run may never end.
+// Two workers judge the packets of the capture behind its header, each by a policy over tables of its own, while they come.
+// Sessions that have ended are removed where that is asked for.
 fn compare_capture<R: Source, W: Sink, T: Clock + Threads + Wait + Sync>(
     rt: &T,
     alloc: Global,
@@ -60,10 +60,10 @@ fn compare_capture<R: Source, W: Sink, T: Clock + Threads + Wait + Sync>(
     ensures told { ComparesWith head.entry.options.now (policies_in head.entry) head.entry.order (R.bytes reader.old) (R.bytes reader.new) (W.bytes writer.old) (W.bytes writer.new) result }
     ensures failures { HaveFailed (R.failures reader.old) (R.failures reader.new) (W.failures writer.old) (W.failures writer.new) result }
 {
-    let Ok((tables, callers)) = create_sized(alloc, head.options.tables, true) else {
+    let Ok((tables, callers)) = create_sized(alloc, head.options.tables, head.options.ages) else {
         return Err(Fault::Memory);
     };
-    let Ok((others, other_callers)) = create_sized(alloc, head.options.tables, true) else {
+    let Ok((others, other_callers)) = create_sized(alloc, head.options.tables, head.options.ages) else {
         return Err(Fault::Memory);
     };
     let manner = Manner {
@@ -101,8 +101,8 @@ fn compare_capture<R: Source, W: Sink, T: Clock + Threads + Wait + Sync>(
 
 /// Judges a capture by two policies with these texts while it comes, and writes a line for each packet on which they say more
 /// than rules of other numbers: after each read of all packets whose records were read whole; and at its end the totals. One
-/// worker for each policy judges, over tables of its own, keeps no verdict and removes sessions that have ended, so that a
-/// capture may be of any length. A fault leaves what was written.
+/// worker for each policy judges, over tables of its own, and keeps no verdict. Where the options say so sessions that have
+/// ended are removed, so that tables have room for a capture of any length. A fault leaves what was written.
 pub fn run_diff<R: Source, W: Sink, T: Clock + Threads + Wait + Sync>(
     rt: &T,
     alloc: Global,

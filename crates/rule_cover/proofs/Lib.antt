@@ -5,3 +5,4 @@ pub mod PacketLemmas
 pub mod PieceLemmas
 pub mod RangeLemmas
 pub mod RegionLemmas
+pub mod SameRuleLemmas

@@ -1,2 +1,3 @@
 pub mod Covers
+pub mod SameRules
 pub mod inner

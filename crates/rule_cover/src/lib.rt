@@ -9,6 +9,8 @@ mod piece_meeting;
 mod region;
 mod region_cuts;
 mod region_of_rule;
+mod same_rules;
 mod uncovered_packets;
 
+pub use same_rules::{same_rule, same_rules_match_the_same_packets};
 pub use uncovered_packets::{Cover, uncovered};

@@ -3,9 +3,9 @@ use Rattle.std.proofs.lemmas.Result.{MatchResult-weaker}
 use Rattle.compared_verdicts.proofs.CompareLemmas.{all_as, fault_as}
 use Rattle.racl_runs.specs.Crews.{orders_of}
 use Rattle.racl_runs.specs.DiffRuns.{policies_in}
-use Rattle.racl_runs.specs.LiveRuns.{ByOneWorker}
+use Rattle.racl_runs.specs.LiveRuns.{ByLoneWorker}
 use Rattle.racl_runs.proofs.DiffLemmas.{none_judged}
-use Rattle.racl_runs.proofs.LiveLemmas.{by_one_worker}
+use Rattle.racl_runs.proofs.LiveLemmas.{by_lone_worker}
 use Rattle.racl_runs.proofs.diff_run.compare_capture.Goals as goal
 
 pub returns-in_default-clause-told : goal.returns-in_default-clause-told
@@ -36,14 +36,14 @@ pub returns-clause-told : goal.returns-clause-told
 returns-clause-told g c =
     let options = c.args.head.options.now in
     let policies = policies_in c.args.head in
-    let tells = by_one_worker options c.args.head.before.now _ (orders_of c.in-Ok-new.workers) in
-    let also = by_one_worker options c.args.head.after.now _ (orders_of c.in-Ok-new-2.other_workers) in
+    let tells = by_lone_worker options c.args.head.before.now _ (orders_of c.in-Ok-new.workers) in
+    let also = by_lone_worker options c.args.head.after.now _ (orders_of c.in-Ok-new-2.other_workers) in
     MatchResult-weaker c.tell_changes.result c.tell_changes.ensures.told
-    (λ totals told. all_as policies _ _ (ByOneWorker options policies.before) (ByOneWorker options policies.after)
+    (λ totals told. all_as policies _ _ (ByLoneWorker options policies.before) (ByLoneWorker options policies.after)
     (λ packets verdicts judged. (tells packets verdicts c.in-Ok-new.ensures.given c.in-Ok.ensures.asked.four c.in-Ok.ensures.asked.size c.requires.sound.0.0 options.few.0 judged))
     (λ packets verdicts judged. (also packets verdicts c.in-Ok-new-2.ensures.given c.in-Ok-create_sized.ensures.asked.four c.in-Ok-create_sized.ensures.asked.size c.requires.sound.0.1 options.few.0 judged))
     _ _ _ _ _ totals told)
-    (λ found told. fault_as policies _ _ (ByOneWorker options policies.before) (ByOneWorker options policies.after)
+    (λ found told. fault_as policies _ _ (ByLoneWorker options policies.before) (ByLoneWorker options policies.after)
     (λ packets verdicts judged. (tells packets verdicts c.in-Ok-new.ensures.given c.in-Ok.ensures.asked.four c.in-Ok.ensures.asked.size c.requires.sound.0.0 options.few.0 judged))
     (λ packets verdicts judged. (also packets verdicts c.in-Ok-new-2.ensures.given c.in-Ok-create_sized.ensures.asked.four c.in-Ok-create_sized.ensures.asked.size c.requires.sound.0.1 options.few.0 judged))
     _ _ _ _ _ found told)

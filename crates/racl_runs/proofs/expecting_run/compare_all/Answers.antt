@@ -9,8 +9,10 @@ use Rattle.capture_stream.proofs.TellLemmas.{fault_as, none_told}
 use Rattle.compared_verdicts.specs.Meeting.{are_met, unmet_wording}
 use Rattle.compared_verdicts.specs.declared.expectation.Expectation.{Expectation}
 use Rattle.racl_runs.specs.Crews.{orders_of}
-use Rattle.racl_runs.specs.ExpectingRuns.{ByLoneWorker, manner_by, output}
-use Rattle.racl_runs.proofs.ExpectingLemmas.{by_lone_worker, end_fault, end_told}
+use Rattle.racl_runs.specs.ExpectingRuns.{manner_by, output}
+use Rattle.racl_runs.specs.LiveRuns.{ByLoneWorker}
+use Rattle.racl_runs.proofs.ExpectingLemmas.{end_fault, end_told}
+use Rattle.racl_runs.proofs.LiveLemmas.{by_lone_worker}
 use Rattle.racl_runs.proofs.expecting_run.compare_all.Goals as goal
 
 pub returns-in_default-clause-told : goal.returns-in_default-clause-told
