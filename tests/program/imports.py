@@ -22,6 +22,7 @@ SESSIONS = "sessions stand for it: they are of TCP, UDP and echo alone, and pass
 BEGINNINGS = "of TCP and ICMP the rules behind it let in what may begin a flow, and sessions pass what conntrack calls invalid"
 INVALID = "what conntrack calls invalid passes, too"
 OTHERS = "what conntrack calls invalid, related or untracked passes, too"
+RELATED = "an ICMP error of a flow is of no session; a rule lets in those of no flow, too"
 LIVE = "it drops no packet of a live session, which passes before any rule"
 
 
@@ -62,7 +63,7 @@ LINES = [
 # Lines without an equal form, between policies that drop, and why; those that accept come first.
 ACCEPTS = [
     ("-A INPUT -i eth1 -j ACCEPT", "the device eth1 has no form; --device names that of the capture"),
-    ("-A INPUT ! -s 10.0.0.0/8 -j ACCEPT", "`! -s` has no equal form; a rule before it that decides on the others stands for it"),
+    ("-A INPUT ! -p tcp -j ACCEPT", "`! -p` has no equal form; a rule before it that decides on the others stands for it"),
     ("-A INPUT -m limit --limit 5/min -j ACCEPT", "`-m limit` has no equal form"),
     ("-A INPUT -m recent --update --seconds 60 --name x -j ACCEPT", "`-m recent` has no equal form"),
     ("-A INPUT -m mark --mark 0x1 -j ACCEPT", "`-m mark` has no equal form"),
@@ -115,7 +116,7 @@ RULESETS = [
     ("a jump without a form, to what accepts", iptables("-A INPUT -m mark --mark 1 -j T", "-A T -s 10.0.0.0/8 -j ACCEPT", chains=("T",)),
      [], [], ["left out: `-m mark` has no equal form"]),
     ("forwarded packets", iptables("-A FORWARD -j DROP"), [], [],
-     ["left out: a forwarded packet has no form: it is judged as if it were this host's"]),
+     ["warning: a forwarded packet has no form: it is judged as if it were this host's"]),
     ("established flows and new ones", iptables(
         ESTABLISHED, "-A INPUT -p tcp -m tcp --dport 22 -m conntrack --ctstate NEW -j ACCEPT", "-A INPUT -p udp -m udp --dport 53 -j ACCEPT",
         "-A INPUT -p icmp -m icmp --icmp-type 8 -j ACCEPT", "-A INPUT -p icmp -m icmp --icmp-type 3 -j ACCEPT", outward="ACCEPT"), [],
@@ -123,7 +124,7 @@ RULESETS = [
       "in permit+reflect ipv4 any any tcp dport 22 flags 10/17", f"in deny ipv4 any any {UDP}", "in permit+reflect ipv4 any any udp dport 53",
       f"in deny ipv4 any any {ICMP}", "in permit+reflect ipv4 any any icmp type 8", "in permit ipv4 any any icmp type 3",
       "out permit+reflect ipv4 any any"],
-     [f"warning: {SESSIONS}", "note: an ICMP error of a flow is of no session; a rule lets in those of no flow, too"]),
+     [f"warning: {SESSIONS}", f"note: {RELATED}"]),
     ("established flows one way", iptables(
         "-A INPUT -p tcp -m tcp --dport 22 -m state --state NEW,ESTABLISHED -j ACCEPT",
         "-A OUTPUT -p tcp -m tcp --sport 22 -m state --state ESTABLISHED -j ACCEPT", "-A OUTPUT -p udp -j ACCEPT"), [],
@@ -132,7 +133,7 @@ RULESETS = [
     ("established flows of TCP alone", iptables("-A INPUT -p tcp -m state --state ESTABLISHED -j ACCEPT", outward="ACCEPT"), [],
      ["out permit+reflect ipv4 any any tcp", "out permit ipv4 any any"], [f"warning: {SESSIONS}"]),
     ("established flows in, and no answers out", iptables(ESTABLISHED, "-A INPUT -p udp -j ACCEPT"), [], ["in permit ipv4 any any udp"],
-     [f"warning: {SESSIONS}", "note: an ICMP error of a flow is of no session; a rule lets in those of no flow, too"]),
+     [f"warning: {SESSIONS}", f"note: {RELATED}"]),
     ("no line of established flows", iptables("-A INPUT -p tcp -m state --state NEW,ESTABLISHED -j ACCEPT"), [],
      ["in permit ipv4 any any tcp"], [f"warning: {INVALID}"]),
     ("no line of established flows, and all protocols", iptables("-A INPUT -m state --state NEW,ESTABLISHED -j ACCEPT"), [],
@@ -160,17 +161,17 @@ RULESETS = [
      [f"in deny ipv4 any any {TCP}", "in permit+reflect ipv4 any any tcp flags 02/17", "in permit+reflect ipv4 any any tcp flags 10/17",
       "in permit+reflect ipv4 any any udp", f"in deny ipv4 any any {ICMP}",
       *(f"in permit+reflect ipv4 any any icmp type {it}" for it in (8, 13, 15, 17)), "out permit+reflect ipv4 any any"],
-     [f"warning: {BEGINNINGS}", f"warning: {SESSIONS}"]),
+     [f"warning: {BEGINNINGS}", f"warning: {SESSIONS}", f"note: {RELATED}"]),
     ("what is invalid dropped, and ICMPv6, of which some isn't tracked", iptables(
         "-A INPUT -m conntrack --ctstate INVALID -j DROP", "-A INPUT -m state --state ESTABLISHED -j ACCEPT", "-A INPUT -p ipv6-icmp -j ACCEPT",
         outward="ACCEPT"), [], ["in deny ipv6 any any icmp type 255 code 255",
                                 *(f"in permit+reflect ipv6 any any icmp type {it}" for it in ("128", "139", "130-136", "143")),
-                                "out permit+reflect ipv6 any any"], [f"warning: {BEGINNINGS}", f"warning: {SESSIONS}"]),
+                                "out permit+reflect ipv6 any any"], [f"warning: {BEGINNINGS}", f"warning: {SESSIONS}", f"note: {RELATED}"]),
     ("new connections that none begins so", iptables(
         "-A INPUT -m state --state ESTABLISHED -j ACCEPT", "-A INPUT -p tcp -m tcp --tcp-flags FIN FIN -m state --state NEW -j ACCEPT"), [], [],
      [f"warning: {SESSIONS}", "note: no such packet begins a flow, so it accepts none but of live ones"]),
     ("another table", "*mangle\n:PREROUTING ACCEPT [0:0]\n-A PREROUTING -j ACCEPT\nCOMMIT\n" + iptables(), [], [],
-     ["left out: only the table filter has a form, and this is of mangle"]),
+     ["note: it drops no packet"]),
 ]
 
 # What iptables-save doesn't write, and what is said.
@@ -271,7 +272,9 @@ EXPRESSIONS = [
 
 # Those without an equal form, and why.
 EXPRESSIONS_LEFT = [
-    ("not an address", [match("ip saddr", "10.0.0.1", "!="), DROP],
+    ("not a protocol", [match("meta l4proto", "tcp", "!="), DROP],
+     "`!=` has no equal form; a rule before it that decides on the others stands for it"),
+    ("not a protocol of IPv4", [match("ip protocol", "tcp", "!="), DROP],
      "`!=` has no equal form; a rule before it that decides on the others stands for it"),
     ("the first header", [match("ip6 nexthdr", "tcp"), DROP], "`ip6 nexthdr` looks at the first header alone; `meta l4proto` has a form"),
     ("ports of no protocol", [match("th dport", 53), DROP], "`th` without `meta l4proto` has no equal form"),
@@ -333,7 +336,7 @@ class Imports(Case):
         """Nothing is written, unless that is asked for; then the rules behind are there, and a comment in place of the line."""
         chains = [f"-A {chain} -s 10.0.0.9/32 -j {target}" for chain, target in (("BAD", "DROP"), ("GOOD", "ACCEPT"))]
         text = iptables(line, "-A INPUT -p udp -j ACCEPT", *chains, chains=("BAD", "GOOD"))
-        unreached = (1 if "BAD" in line else 2) * ["note: what is captured doesn't come to it"]
+        unreached = (1 if "BAD" in line or "GOOD" in line else 2) * ["note: what is captured doesn't come to it"]
         told = [*unreached, f"left out, which may drop: {why}"]
         self.imports(["iptables-save"], text, [], [*told, UNWRITTEN], 5)
         self.imports(["iptables-save", "--partial"], text, ["in permit ipv4 any any udp"], [*told, LEFT], 5)
@@ -356,8 +359,8 @@ class Imports(Case):
         self.imports(["nft"], listing(expression), [], [f"left out, which may drop: {why}", UNWRITTEN], 5)
 
     @each((f"{hook} {kind}", hook, kind, told, status) for hook, kind, told, status in (
-        ("forward", "filter", "left out: a forwarded packet has no form: it is judged as if it were this host's", 0),
-        ("prerouting", "nat", "left out, which may drop: a chain of type nat at the hook prerouting has no form", 5)))
+        ("forward", "filter", "warning: a forwarded packet has no form: it is judged as if it were this host's", 0),
+        ("prerouting", "nat", "left out, which may drop: a drop has no form in a chain of type nat at the hook prerouting", 5)))
     def other_hooks(self, hook, kind, told, status):
         text = listing([match("tcp dport", 80), DROP], family="ip", hook=hook, policy="accept").replace('"filter"', f'"{kind}"')
         got = imported(["nft", "--partial"], text)
