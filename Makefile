@@ -48,6 +48,8 @@ install-program:
 	install -m 644 install/run.sh $(TO)/libexec/racl/run.sh
 	install -d $(TO)/bin
 	install -m 755 install/racl racl-page racl-import $(TO)/bin
+	install -d $(TO)/libexec/racl/racl_import
+	install -m 644 racl_import/*.py $(TO)/libexec/racl/racl_import
 	install -D -m 644 $(PAGES)/racl.1 $(SHARE)/man/man1/racl.1
 	install -D -m 644 $(PAGES)/racl.bash $(SHARE)/bash-completion/completions/racl
 	install -D -m 644 $(PAGES)/_racl $(SHARE)/zsh/site-functions/_racl
