@@ -6,7 +6,8 @@ from .sessions import asking, covering, errors, forward, is_fine, is_of_flows, i
 
 OTHER = {"in": "out", "out": "in"}
 FRAGMENTS = " # later fragments"
-SESSIONS = "sessions stand for it: they are of TCP, UDP and echo alone, and pass what conntrack calls invalid"
+SESSIONS = ("sessions stand for it: they are of TCP, UDP and echo alone, begin with any packet of a rule that reflects, and pass what "
+            "conntrack calls invalid")
 RELATED = "an ICMP error of a flow is of no session; a rule lets in those of no flow, too"
 LIVE = "it drops no packet of a live session, which passes before any rule"
 
@@ -61,8 +62,8 @@ class Writing:
                 self.deny(direction, item)
 
     def deny(self, direction, item):
-        before = self.flows[direction][:self.flows[direction].index(item)]
-        if "established" not in item.states and not any(it.box and is_of_flows(it) and holds(it.box, item.box) for it in before):
+        lines = [it for it in self.flows[direction] if it.box is not None and is_of_flows(it)]
+        if "established" not in item.states and not any(holds(it.box, item.box) for it in lines):
             self.tell_of("warning", item, SESSIONS)
         self.rule(direction, "deny", item.box, item)
 
@@ -139,15 +140,23 @@ class Writing:
         self.tell_related(direction, item)
 
     def tell_related(self, direction, item):
-        """Tells of ICMP errors that a line accepts where they are of flows, unless other lines accept them all."""
-        found = errors(item.box) if "related" in item.states and not {"new", "invalid"} <= item.states else []
-        others = [it.box for it in self.flows[direction] if it.box and it.kind == "permit" and "related" in it.states and
-                  ({"new", "invalid"} <= it.states or it.where != item.where and is_of_flows(it) and not is_of_flows(item))]
-        left = [box for box in found if not any(holds(it, box) for it in others)]
+        """Tells of ICMP errors that a line accepts where they are of flows, unless another line has them told or passes them all."""
+        left = [it for it in errors(item.box) if not self.passes(direction, item, it)] if "related" in item.states else []
         if left:
             self.tell_of("note", item, RELATED)
             hints = [f"# {direction} permit {words_of(it)}" for it in left]
             self.lines += [it for it in hints if it not in self.lines]
+
+    def passes(self, direction, item, box):
+        """Whether a line passes all packets of a box whatever their states, or an earlier one accepts what is of flows of it."""
+        for it in self.flows[direction]:
+            if it.box is not None and it is not item and meet(it.box, box):
+                is_whole = "related" in it.states and holds(it.box, box)
+                if it.kind == "deny" or is_whole and is_of_flows(it) and not is_of_flows(item):
+                    return it.kind != "deny"
+                if is_whole and it.kind == "permit" and {"new", "invalid"} <= it.states:
+                    return True
+        return False
 
 
 def policy_of(ruleset, file, mac, interface, device):

@@ -18,7 +18,8 @@ LEFT = "a line that may drop is left out, so the policy may pass more than these
 UNWRITTEN = LEFT + ": nothing is written without --partial"
 FAMILIES = [f"note: the rules are those of {one} alone, so no packet of {other} passes" for one, other in (("ipv4", "ipv6"), ("ipv6", "ipv4"))]
 FRAGMENTS = "note: later fragments, which have no ports, types or flags, are dropped where those decide"
-SESSIONS = "sessions stand for it: they are of TCP, UDP and echo alone, and pass what conntrack calls invalid"
+SESSIONS = ("sessions stand for it: they are of TCP, UDP and echo alone, begin with any packet of a rule that reflects, and pass what "
+            "conntrack calls invalid")
 BEGINNINGS = "of TCP and ICMP the rules behind it let in what may begin a flow, and sessions pass what conntrack calls invalid"
 INVALID = "what conntrack calls invalid passes, too"
 OTHERS = "what conntrack calls invalid, related or untracked passes, too"
