@@ -90,9 +90,14 @@ def rules_of(table, it, chains):
     return reading.rules(where, text_of_rule(it["expr"]), it.get("comment", ""), chains)
 
 
-def is_dormant(table):
-    """(nft before 1.0.8 writes the first letter of its only flag.)"""
-    return bool({"dormant", "d"} & set(as_list(table.get("flags", []))))
+def is_dormant(ruleset, table):
+    """Whether no chain of a table sees packets. Of one that has a flag nft 1.0.6 writes the table's name instead."""
+    flags, where = as_list(table.get("flags", [])), f"table {shown(table['family'])} {shown(table['name'])}"
+    if "dormant" in flags:
+        ruleset.tell("note", where, "", "it is dormant: its chains see no packets")
+    elif not set(flags) <= {"owner", "persist"}:
+        ruleset.tell("lost", where, "", "it has a flag whose name isn't written; where that is dormant, its chains see no packets")
+    return not set(flags) <= {"owner", "persist"}
 
 
 def read(text, own):
@@ -122,9 +127,7 @@ def read(text, own):
 def take_declared(ruleset, tables, own, kind, it):
     """Takes a table, a chain, or a set with its elements."""
     if kind == "table":
-        tables[it["family"], it["name"]] = Table({"ip": 4, "ip6": 6}.get(it["family"]), own, is_dormant(it))
-        if is_dormant(it):
-            ruleset.tell("note", f"table {shown(it['family'])} {shown(it['name'])}", "", "it is dormant: its chains see no packets")
+        tables[it["family"], it["name"]] = Table({"ip": 4, "ip6": 6}.get(it["family"]), own, is_dormant(ruleset, it))
     elif kind == "chain":
         ruleset.chains[it["family"], it["table"], it["name"]] = []
     elif kind in ("set", "map"):

@@ -71,7 +71,7 @@ class Writing:
         if "new" not in item.states:
             self.of_flows(direction, item)
         elif item.text or not any(holds(it, item.box) for it in self.rules[direction]):
-            if is_icmp(item.box):
+            if is_icmp(item.box) and "invalid" not in item.states:
                 self.tell_related(direction, item)
             if not self.reflect(direction, item, item.box):
                 ways = [(it, 0) for it in self.flows[direction]] + [(it, 1) for it in self.flows[OTHER[direction]]]
@@ -176,6 +176,6 @@ def policy_of(ruleset, file, mac, interface, device):
         writing.tell(it)
     for direction in OTHER:
         writing.write(direction)
-    if any(it.endswith(FRAGMENTS) for it in writing.lines):
-        writing.tell(Item("note", None, None, "", "", "later fragments, which have no ports, types or flags, are dropped where those decide"))
+    if not ruleset.has_fragments and any(it != whole_of(it) for rules in writing.rules.values() for it in rules):
+        writing.tell(Item("note", None, None, "", "", "later fragments, which have no ports, types or flags, are dropped where a rule with those decides"))
     return writing

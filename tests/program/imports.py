@@ -10,14 +10,14 @@ from support.cases import SECONDS, TOP, Case, bytes_of_file, each, names_in
 IMPORT = f"{TOP}/racl-import"
 MAC = "02:00:00:00:00:01"
 # The words for a stored sample, by the ending of its name.
-FORMS = {".iptables": ["iptables-save"], ".nft": ["nft"], ".vpp": ["vpp", "--in", "4", "--in", "0", "--out", "1"]}
+FORMS = {".iptables": ["iptables-save", "--device", "h0"], ".nft": ["nft", "--device", "h0"], ".vpp": ["vpp", "--in", "4", "--in", "0", "--out", "1"]}
 
 TCP, UDP, ICMP = ("tcp sport 0 dport 0", "udp sport 0 dport 0", "icmp type 255 code 255")
 ESTABLISHED = "-A INPUT -m conntrack --ctstate RELATED,ESTABLISHED -j ACCEPT"
 LEFT = "a line that may drop is left out, so the policy may pass more than these rules do"
 UNWRITTEN = LEFT + ": nothing is written without --partial"
 FAMILIES = [f"note: the rules are those of {one} alone, so no packet of {other} passes" for one, other in (("ipv4", "ipv6"), ("ipv6", "ipv4"))]
-FRAGMENTS = "note: later fragments, which have no ports, types or flags, are dropped where those decide"
+FRAGMENTS = "note: later fragments, which have no ports, types or flags, are dropped where a rule with those decides"
 SESSIONS = ("sessions stand for it: they are of TCP, UDP and echo alone, begin with any packet of a rule that reflects, and pass what "
             "conntrack calls invalid")
 BEGINNINGS = "of TCP and ICMP the rules behind it let in what may begin a flow, and sessions pass what conntrack calls invalid"
