@@ -135,7 +135,7 @@ class Flow:
             return "it matches nothing"
         if rule.action is None or rule.action == "jump":
             return "it decides nothing"
-        return "it is of loopback, which isn't captured" if any("lo" in names for _, names, _ in rule.devices) else \
+        return "it is of loopback, which isn't captured" if any(set(names) == {"lo"} for _, names, _ in rule.devices) else \
             "it is of another device than the capture"
 
     @staticmethod

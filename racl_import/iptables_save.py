@@ -149,7 +149,7 @@ class Arguments:
         for wanted, told in self.soft:
             if action != wanted or wanted == "permit" and any(it.proto != ICMP6 for it in boxes):
                 self.reason = self.reason or "a condition has no equal form but of what is accepted of ICMPv6, or dropped"
-            else:
+            elif not self.reason:
                 self.told.append(Told("warning", told))
         if self.changed:
             if action == "permit":

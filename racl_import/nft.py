@@ -75,7 +75,7 @@ class Reading:
             for wanted, warning in asked.soft:
                 if action != wanted or wanted == "permit" and any(it.proto != ICMP6 for it in found):
                     why = why or "a condition has no equal form but of what is accepted of ICMPv6, or dropped"
-                else:
+                elif not why:
                     told.append(Told("warning", warning))
             if asked.soft and action == "deny" and not why:
                 action = None
