@@ -89,7 +89,7 @@ class Writing:
         own = self.flows[direction].index(item)
         if "established" not in item.states and any(self.flows[direction].index(it) > own for it in before):
             return False
-        if box.proto is None:
+        if box.proto is None or is_icmp(box) and "invalid" in item.states:
             self.tell_others(item, box)
         for it in before + cuts:
             if is_fine(it.box):

@@ -47,7 +47,7 @@ class Maker:
     """Packets with numbers, from what a policy names."""
 
     def __init__(self, policy, seed, families, own):
-        self.random, self.own, self.packets, self.number = random.Random(seed), own, [], None
+        self.random, self.own, self.packets, self.number, self.used = random.Random(seed), own, [], None, set()
         self.families = families
         words = [it.partition("#")[0].split() for it in policy.splitlines()]
         rules = [it for it in words if it[:1] in (["in"], ["out"])]
@@ -92,13 +92,21 @@ class Maker:
     def icmp(self, way, family, ends, kind, code, number, what, data=b""):
         self.add(way, family, ends, ICMP[family], struct.pack(">BBHHH", kind, code, 0, number, 1) + data, 2, what)
 
+    def ports_of(self, way, ends):
+        """Ports of a flow of these ends that no other has: one that the policy names of who is asked, and any of who asks. The host's is
+        the first."""
+        while True:
+            asked, other = self.random.choice(self.ports), self.random.choice([self.random.choice(self.ports), self.random.randrange(1024, 65536)])
+            found = (asked, other) if way == "in" else (other, asked)
+            if (ends, found) not in self.used:
+                self.used.add((ends, found))
+                return found
+
     def flow(self):
         """Yields after each packet of a new flow, of which each side sends some."""
         choose, family = self.random.choice, self.random.choice(self.families)
         ends, way, kind = Ends(choose(self.own[family]), self.there(family)), choose(["in", "out"]), self.random.random()
-        # (the one who begins asks for a port that the policy names, from any other)
-        asked, any_port = choose(self.ports), self.random.choice([choose(self.ports), self.random.randrange(1024, 65536)])
-        ports = (asked, any_port) if way == "in" else (any_port, asked)
+        ports = self.ports_of(way, ends)
         if kind < 0.45:
             yield from self.connection(way, family, ends, ports)
         elif kind < 0.75:
@@ -140,8 +148,7 @@ class Maker:
         """A packet of no flow."""
         choose, family = self.random.choice, self.random.choice(self.families)
         ends, way = Ends(choose(self.own[family]), self.there(family)), choose(["in", "out"])
-        ports = choose(self.ports), self.random.randrange(1024, 65536)
-        ports = ports if way == "in" else ports[::-1]
+        ports = self.ports_of(way, ends)
         if self.random.random() < 0.7:
             flags = choose(self.flags)
             self.tcp(way, family, ends, ports, flags, f"stray TCP of flags {flags:02x}")
