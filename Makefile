@@ -7,7 +7,7 @@ DOC = $(SHARE)/doc/racl
 PAGES = out/install
 LIBRARIES = out/library
 
-.PHONY: build library check check-bridge check-live prove bench install install-program install-libraries uninstall help
+.PHONY: build library check check-bridge check-live check-import prove bench install install-program install-libraries uninstall help
 
 build:
 	@tools/build
@@ -23,6 +23,9 @@ check-bridge:
 
 check-live:
 	@tests/live_wires
+
+check-import:
+	@tests/import_kernel
 
 prove:
 	@.ci/run
@@ -48,6 +51,8 @@ install-program:
 	install -m 644 install/run.sh $(TO)/libexec/racl/run.sh
 	install -d $(TO)/bin
 	install -m 755 install/racl racl-page racl-import $(TO)/bin
+	install -d $(TO)/libexec/racl/racl_import
+	install -m 644 racl_import/*.py $(TO)/libexec/racl/racl_import
 	install -D -m 644 $(PAGES)/racl.1 $(SHARE)/man/man1/racl.1
 	install -D -m 644 $(PAGES)/racl.bash $(SHARE)/bash-completion/completions/racl
 	install -D -m 644 $(PAGES)/_racl $(SHARE)/zsh/site-functions/_racl
@@ -75,6 +80,7 @@ help:
 	@echo "make check         runs the tests, which need no proof"
 	@echo "make check-bridge  runs a bridge over the library between network namespaces; it needs root"
 	@echo "make check-live    runs the program on what tcpdump captures between network namespaces; it needs root"
+	@echo "make check-import  compares the kernel with the policies that are imported of its rules; it needs root"
 	@echo "make prove         the whole gate: proofs, edits that must be refused, tests, checks"
 	@echo "make bench         times the program beside a filter in plain Rust"
 	@echo "make install       puts what is built of both below PREFIX (/usr/local)"

@@ -10,18 +10,24 @@ from support.cases import SECONDS, TOP, Case, bytes_of_file, each, names_in
 IMPORT = f"{TOP}/racl-import"
 MAC = "02:00:00:00:00:01"
 # The words for a stored sample, by the ending of its name.
-FORMS = {".iptables": ["iptables-save"], ".nft": ["nft"], ".vpp": ["vpp", "--in", "4", "--in", "0", "--out", "1"]}
+FORMS = {".iptables": ["iptables-save", "--device", "h0"], ".nft": ["nft", "--device", "h0"], ".vpp": ["vpp", "--in", "4", "--in", "0", "--out", "1"]}
 
 TCP, UDP, ICMP = ("tcp sport 0 dport 0", "udp sport 0 dport 0", "icmp type 255 code 255")
 ESTABLISHED = "-A INPUT -m conntrack --ctstate RELATED,ESTABLISHED -j ACCEPT"
 LEFT = "a line that may drop is left out, so the policy may pass more than these rules do"
 UNWRITTEN = LEFT + ": nothing is written without --partial"
 FAMILIES = [f"note: the rules are those of {one} alone, so no packet of {other} passes" for one, other in (("ipv4", "ipv6"), ("ipv6", "ipv4"))]
-FRAGMENTS = "note: later fragments, which have no ports, types or flags, are dropped where those decide"
-SESSIONS = "sessions stand for it: they are of TCP, UDP and echo alone, and pass what conntrack calls invalid"
+FRAGMENTS = "note: later fragments, which have no ports, types or flags, are dropped where a rule with those decides"
+SESSIONS = ("sessions stand for it: they are of TCP, UDP and echo alone, begin with any packet of a rule that reflects, and pass what "
+            "conntrack calls invalid")
 BEGINNINGS = "of TCP and ICMP the rules behind it let in what may begin a flow, and sessions pass what conntrack calls invalid"
 INVALID = "what conntrack calls invalid passes, too"
 OTHERS = "what conntrack calls invalid, related or untracked passes, too"
+RELATED = "an ICMP error of a flow is of no session; a rule lets in those of no flow, too"
+UNKNOWN = "the host's addresses aren't given (--address), so each is taken for its own, and of broadcast ones 255.255.255.255 alone is known"
+UNTRACKED = "flows that it takes out of tracking are judged as if they were tracked"
+TRANSLATED = ("it changes addresses or ports: the policy judges packets as they are captured, which the filter's rules see changed, or not "
+              "at all")
 LIVE = "it drops no packet of a live session, which passes before any rule"
 
 
@@ -30,6 +36,19 @@ def iptables(*rules, inward="DROP", outward="DROP", chains=()):
     return (f"*filter\n:INPUT {inward} [0:0]\n:FORWARD ACCEPT [0:0]\n:OUTPUT {outward} [0:0]\n{declared}"
             + "".join(f"{it}\n" for it in rules) + "COMMIT\n")
 
+
+RAW_AND_NAT = """*raw
+:PREROUTING ACCEPT [0:0]
+:OUTPUT ACCEPT [0:0]
+-A PREROUTING -s 10.0.0.0/8 -j DROP
+-A OUTPUT -p udp -j CT --notrack
+COMMIT
+*nat
+:PREROUTING ACCEPT [0:0]
+:POSTROUTING ACCEPT [0:0]
+-A PREROUTING -p tcp -m tcp --dport 80 -j REDIRECT --to-ports 8080
+COMMIT
+"""
 
 # Lines of iptables-save that stand alone between policies that drop, and the rules that they stand for.
 LINES = [
@@ -56,13 +75,24 @@ LINES = [
     ("-A INPUT -p icmp --icmp-type any -j ACCEPT", ["in permit ipv4 any any icmp"]),
     ("-A INPUT -m iprange --src-range 10.0.0.1-10.0.0.6 -j DROP",
      [f"in deny ipv4 {it} any" for it in ("10.0.0.1", "10.0.0.2/31", "10.0.0.4/31", "10.0.0.6")]),
+    ("-A INPUT -m iprange --src-range 10.0.0.7 -j DROP", ["in deny ipv4 10.0.0.7 any"]),
     ("-A INPUT -s 127.0.0.0/8 ! -i lo -j DROP", ["in deny ipv4 127.0.0.0/8 any"]),
+    ("-A INPUT ! -s 64.0.0.0/2 -j DROP", ["in deny ipv4 0.0.0.0/2 any", "in deny ipv4 128.0.0.0/1 any"]),
+    ("-A INPUT ! -s 0.0.0.0/1 -j ACCEPT", ["in permit ipv4 128.0.0.0/1 any"]),
+    ("-A INPUT -m iprange ! --dst-range 0.0.0.2-255.255.255.255 -j DROP", ["in deny ipv4 any 0.0.0.0/31"]),
+    ("-A INPUT -p tcp -m tcp ! --dport 22 -j DROP", ["in deny ipv4 any any tcp dport 0-21", "in deny ipv4 any any tcp dport 23-65535"]),
+    ("-A INPUT -p udp -m multiport ! --dports 0:52,54:65535 -j DROP", ["in deny ipv4 any any udp dport 53"]),
+    ("-A INPUT -p udp -m multiport ! --ports 2:65535 -j DROP", ["in deny ipv4 any any udp sport 0-1 dport 0-1"]),
+    ("-A INPUT -p icmp -m icmp ! --icmp-type 8 -j DROP", ["in deny ipv4 any any icmp type 0-7", "in deny ipv4 any any icmp type 9-255"]),
+    ("-A INPUT -p icmp -m icmp ! --icmp-type 0/0 -j DROP", ["in deny ipv4 any any icmp type 1-255", "in deny ipv4 any any icmp type 0 code 1-255"]),
+    ("-A INPUT -p tcp -m tcp ! --tcp-flags SYN SYN,ACK -j DROP", ["in deny ipv4 any any tcp"]),
+    ("-A INPUT -m addrtype --dst-type MULTICAST -j DROP", ["in deny ipv4 any 224.0.0.0/4"]),
 ]
 
 # Lines without an equal form, between policies that drop, and why; those that accept come first.
 ACCEPTS = [
     ("-A INPUT -i eth1 -j ACCEPT", "the device eth1 has no form; --device names that of the capture"),
-    ("-A INPUT ! -s 10.0.0.0/8 -j ACCEPT", "`! -s` has no equal form; a rule before it that decides on the others stands for it"),
+    ("-A INPUT ! -p tcp -j ACCEPT", "`! -p` has no equal form; a rule before it that decides on the others stands for it"),
     ("-A INPUT -m limit --limit 5/min -j ACCEPT", "`-m limit` has no equal form"),
     ("-A INPUT -m recent --update --seconds 60 --name x -j ACCEPT", "`-m recent` has no equal form"),
     ("-A INPUT -m mark --mark 0x1 -j ACCEPT", "`-m mark` has no equal form"),
@@ -78,6 +108,9 @@ ACCEPTS = [
     ("-A INPUT -m conntrack --ctstate DNAT -j ACCEPT", "`DNAT` has a state without an equal form"),
     ("-A INPUT -m conntrack --ctstate NEW -j ACCEPT", "what follows of its flows isn't accepted"),
     ("-A INPUT -m conntrack --ctstate RELATED -j ACCEPT", "state related has no equal form"),
+    ("-A INPUT -m addrtype --dst-type ANYCAST -j ACCEPT", "the type of addresses `anycast` has no equal form"),
+    ("-A INPUT -m addrtype --src-type LOCAL -j ACCEPT", "`--src-type` has no equal form"),
+    ("-A INPUT -m rpfilter -j ACCEPT", "`-m rpfilter` has no equal form"),
 ]
 DROPS = [
     ("-A INPUT -i eth1 -j DROP", "the device eth1 has no form; --device names that of the capture"),
@@ -89,6 +122,10 @@ DROPS = [
     ("-A INPUT -m mark --mark 0x1 -j BAD", "`-m mark` has no equal form"),
     ("-A INPUT -m mark --mark 0x1 -g GOOD", "`-m mark` has no equal form"),
     ("-A INPUT -p tcp -j DROP -x", "`-x` has no equal form"),
+    ("-A INPUT ! -p tcp -j DROP", "`! -p` has no equal form; a rule before it that decides on the others stands for it"),
+    ("-A INPUT -m conntrack --ctstate NEW,DNAT -j DROP", "what came by a changed address has no form; the other states have"),
+    ("-A INPUT -m rpfilter --loose --invert -j DROP", "`--loose` has no equal form"),
+    ("-A INPUT -p tcp -j REDIRECT --to-ports 80", "the target REDIRECT has no equal form"),
 ]
 
 # Whole rulesets of iptables-save: name, text, further words, the policy's rules, and what is told, by the words behind the line's text.
@@ -115,7 +152,7 @@ RULESETS = [
     ("a jump without a form, to what accepts", iptables("-A INPUT -m mark --mark 1 -j T", "-A T -s 10.0.0.0/8 -j ACCEPT", chains=("T",)),
      [], [], ["left out: `-m mark` has no equal form"]),
     ("forwarded packets", iptables("-A FORWARD -j DROP"), [], [],
-     ["left out: a forwarded packet has no form: it is judged as if it were this host's"]),
+     ["warning: a forwarded packet has no form: it is judged as if it were this host's"]),
     ("established flows and new ones", iptables(
         ESTABLISHED, "-A INPUT -p tcp -m tcp --dport 22 -m conntrack --ctstate NEW -j ACCEPT", "-A INPUT -p udp -m udp --dport 53 -j ACCEPT",
         "-A INPUT -p icmp -m icmp --icmp-type 8 -j ACCEPT", "-A INPUT -p icmp -m icmp --icmp-type 3 -j ACCEPT", outward="ACCEPT"), [],
@@ -123,7 +160,7 @@ RULESETS = [
       "in permit+reflect ipv4 any any tcp dport 22 flags 10/17", f"in deny ipv4 any any {UDP}", "in permit+reflect ipv4 any any udp dport 53",
       f"in deny ipv4 any any {ICMP}", "in permit+reflect ipv4 any any icmp type 8", "in permit ipv4 any any icmp type 3",
       "out permit+reflect ipv4 any any"],
-     [f"warning: {SESSIONS}", "note: an ICMP error of a flow is of no session; a rule lets in those of no flow, too"]),
+     [f"warning: {SESSIONS}", f"note: {RELATED}"]),
     ("established flows one way", iptables(
         "-A INPUT -p tcp -m tcp --dport 22 -m state --state NEW,ESTABLISHED -j ACCEPT",
         "-A OUTPUT -p tcp -m tcp --sport 22 -m state --state ESTABLISHED -j ACCEPT", "-A OUTPUT -p udp -j ACCEPT"), [],
@@ -132,7 +169,7 @@ RULESETS = [
     ("established flows of TCP alone", iptables("-A INPUT -p tcp -m state --state ESTABLISHED -j ACCEPT", outward="ACCEPT"), [],
      ["out permit+reflect ipv4 any any tcp", "out permit ipv4 any any"], [f"warning: {SESSIONS}"]),
     ("established flows in, and no answers out", iptables(ESTABLISHED, "-A INPUT -p udp -j ACCEPT"), [], ["in permit ipv4 any any udp"],
-     [f"warning: {SESSIONS}", "note: an ICMP error of a flow is of no session; a rule lets in those of no flow, too"]),
+     [f"warning: {SESSIONS}", f"note: {RELATED}"]),
     ("no line of established flows", iptables("-A INPUT -p tcp -m state --state NEW,ESTABLISHED -j ACCEPT"), [],
      ["in permit ipv4 any any tcp"], [f"warning: {INVALID}"]),
     ("no line of established flows, and all protocols", iptables("-A INPUT -m state --state NEW,ESTABLISHED -j ACCEPT"), [],
@@ -160,17 +197,78 @@ RULESETS = [
      [f"in deny ipv4 any any {TCP}", "in permit+reflect ipv4 any any tcp flags 02/17", "in permit+reflect ipv4 any any tcp flags 10/17",
       "in permit+reflect ipv4 any any udp", f"in deny ipv4 any any {ICMP}",
       *(f"in permit+reflect ipv4 any any icmp type {it}" for it in (8, 13, 15, 17)), "out permit+reflect ipv4 any any"],
-     [f"warning: {BEGINNINGS}", f"warning: {SESSIONS}"]),
+     [f"warning: {BEGINNINGS}", f"warning: {SESSIONS}", f"note: {RELATED}"]),
     ("what is invalid dropped, and ICMPv6, of which some isn't tracked", iptables(
         "-A INPUT -m conntrack --ctstate INVALID -j DROP", "-A INPUT -m state --state ESTABLISHED -j ACCEPT", "-A INPUT -p ipv6-icmp -j ACCEPT",
         outward="ACCEPT"), [], ["in deny ipv6 any any icmp type 255 code 255",
                                 *(f"in permit+reflect ipv6 any any icmp type {it}" for it in ("128", "139", "130-136", "143")),
-                                "out permit+reflect ipv6 any any"], [f"warning: {BEGINNINGS}", f"warning: {SESSIONS}"]),
+                                "out permit+reflect ipv6 any any"], [f"warning: {BEGINNINGS}", f"warning: {SESSIONS}", f"note: {RELATED}"]),
     ("new connections that none begins so", iptables(
         "-A INPUT -m state --state ESTABLISHED -j ACCEPT", "-A INPUT -p tcp -m tcp --tcp-flags FIN FIN -m state --state NEW -j ACCEPT"), [], [],
      [f"warning: {SESSIONS}", "note: no such packet begins a flow, so it accepts none but of live ones"]),
+    ("no other states, behind a policy that accepts", iptables("-A INPUT -m conntrack ! --ctstate RELATED,ESTABLISHED -j DROP", inward="ACCEPT",
+                                                               outward="ACCEPT"), [],
+     ["in deny ipv4 any any", "out permit+reflect ipv4 any any"],
+     ["note: what conntrack calls related is dropped, too", f"warning: {SESSIONS}", f"note: {RELATED}"]),
+    ("new connections dropped, behind a policy that accepts", iptables("-A INPUT -p tcp -m state --state NEW -j DROP", inward="ACCEPT",
+                                                                       outward="ACCEPT"), [],
+     ["in deny ipv4 any any tcp", "in permit+reflect ipv4 any any", "out permit+reflect ipv4 any any"],
+     ["note: what conntrack calls invalid is dropped, too", f"warning: {SESSIONS}"]),
+    ("ICMP of flows and errors", iptables(
+        "-A INPUT -m state --state ESTABLISHED -j ACCEPT", "-A INPUT -p icmp -m state --state NEW,RELATED,ESTABLISHED -j ACCEPT", outward="ACCEPT"), [],
+     ["in deny ipv4 any any icmp type 255 code 255", *(f"in permit+reflect ipv4 any any icmp type {it}" for it in (8, 13, 15, 17)),
+      "out permit+reflect ipv4 any any"], [f"warning: {SESSIONS}", f"note: {RELATED}"]),
+    ("errors of a zone that is accepted them", iptables(
+        "-A INPUT -s 10.0.0.0/8 -j Z", "-A INPUT -p icmp -j DROP", "-A INPUT -p icmp -j ACCEPT", "-A Z -m state --state RELATED,ESTABLISHED -j ACCEPT",
+        "-A Z -p udp -m udp --dport 53 -m state --state NEW -j ACCEPT", outward="ACCEPT", chains=("Z",)), [],
+     ["in deny ipv4 10.0.0.0/8 any udp sport 0 dport 0", "in permit+reflect ipv4 10.0.0.0/8 any udp dport 53", "in deny ipv4 any any icmp",
+      "in permit+reflect ipv4 10.0.0.0/8 any icmp", "in permit ipv4 any any icmp", "out permit+reflect ipv4 any 10.0.0.0/8", "out permit ipv4 any any"],
+     [f"warning: {SESSIONS}", f"note: {RELATED}"]),
+    ("states by a changed address", iptables("-A INPUT -m conntrack --ctstate RELATED,ESTABLISHED,DNAT -j ACCEPT", outward="ACCEPT"), [],
+     ["out permit+reflect ipv4 any any"],
+     ["left out: what came by a changed address has no form; the other states have", f"warning: {SESSIONS}", f"note: {RELATED}"]),
+    ("ICMP that is new or invalid, and no errors of flows", iptables(
+        "-A INPUT -m state --state ESTABLISHED -j ACCEPT", "-A INPUT -p icmp -m state --state NEW,INVALID -j ACCEPT", outward="ACCEPT"), [],
+     ["in permit+reflect ipv4 any any icmp", "out permit+reflect ipv4 any any"],
+     [f"warning: {SESSIONS}", "warning: what conntrack calls related or untracked passes, too"]),
+    ("a word of IPv6 in a comment", iptables("-A INPUT -m comment --comment icmp6-host -j ACCEPT"), [], ["in permit ipv4 any any"], []),
+    ("a word of IPv6 under a heading", "# Generated by iptables-save v1.8.9\n" + iptables("-A INPUT -p 58 -m comment --comment -s -j ACCEPT"), [],
+     ["in permit ipv4 any any 58"], []),
+    ("an answer of IPv6", iptables("-A INPUT -p udp -j REJECT --reject-with icmp6-port-unreachable"), [], ["in deny ipv6 any any udp"], []),
+    ("types of addresses of no known host", iptables("-A INPUT -j N", "-A INPUT -p tcp -j ACCEPT", "-A N -m addrtype --dst-type LOCAL -j RETURN",
+                                                     "-A N -j DROP", chains=("N",)), [],
+     ["in permit ipv4 any any tcp"], [f"warning: {UNKNOWN}"]),
+    ("types of addresses", iptables("-A INPUT -m addrtype --dst-type BROADCAST -j DROP", "-A INPUT -m addrtype ! --dst-type LOCAL -j DROP",
+                                    "-A INPUT -p tcp -j ACCEPT"), ["--address", "128.0.0.0/31", "--address", "0.0.0.9/24"],
+     ["in deny ipv4 any 0.0.0.0", "in deny ipv4 any 255.255.255.255", "in deny ipv4 any 0.0.0.255", *(f"in deny ipv4 any {it}" for it in (
+         "0.0.0.0/29", "0.0.0.8", "0.0.0.10/31", "0.0.0.12/30", *(f"0.0.0.{1 << it}/{32 - it}" for it in range(4, 8)),
+         *(f"0.0.{1 << it}.0/{24 - it}" for it in range(8)), *(f"0.{1 << it}.0.0/{16 - it}" for it in range(8)),
+         *(f"{1 << it}.0.0.0/{8 - it}" for it in range(7)), "128.0.0.1", "128.0.0.2/31", *(f"128.0.0.{1 << it}/{32 - it}" for it in range(2, 8)),
+         *(f"128.0.{1 << it}.0/{24 - it}" for it in range(8)), *(f"128.{1 << it}.0.0/{16 - it}" for it in range(8)),
+         *(f"{128 + (1 << it)}.0.0.0/{8 - it}" for it in range(7)))), "in permit ipv4 any any tcp"], []),
+    ("a goto by a device, before the same for all", iptables("-A INPUT -i eth7 -g Z", "-A INPUT -g Z", "-A Z -p udp -j ACCEPT", chains=("Z",)), [],
+     ["in permit ipv4 any any udp", "in deny ipv4 any any"],
+     ["note: the device eth7 has no form; --device names that of the capture; the rule behind it does the same to all its packets"]),
+    ("a goto by a device, before another", iptables("-A INPUT -i eth7 -g Z", "-A INPUT -p udp -g Z", "-A Z -p udp -j ACCEPT", chains=("Z",)), ["--partial"],
+     ["in permit ipv4 any any udp"],
+     ["left out, which may drop: the device eth7 has no form; --device names that of the capture", LEFT], 5),
+    ("a jump to what decides nothing", iptables("-A INPUT -m limit --limit 3/min -j L", "-A INPUT -j E", "-A L -j LOG", chains=("E", "L")), [], [],
+     ["note: it decides nothing"]),
+    ("what comes from no route, and by a routing header", iptables(
+        "-A INPUT -m rpfilter --validmark --invert -j DROP", "-A INPUT -m rt --rt-type 0 -j DROP", "-A INPUT -p ipv6-icmp -m icmp6 --icmpv6-type 135 -m hl --hl-eq 255 -j ACCEPT"), [],
+     ["in deny ipv6 any any icmp type 255 code 255", "in permit ipv6 any any icmp type 135"],
+     ["warning: what comes from where no route leads back passes, too",
+      "warning: what has a routing header of type 0 passes as without one, where a host is to drop it itself (RFC 5095)",
+      "warning: its hop limit has no form, so what has another one passes, too, where a host is to drop it itself (RFC 4861)"]),
+    ("a hop limit of other packets", iptables("-A INPUT -p tcp -m hl --hl-eq 255 -j ACCEPT"), [], [],
+     ["left out: a condition has no equal form but of what is accepted of ICMPv6, or dropped"]),
+    ("tables before the filter", RAW_AND_NAT + iptables("-A INPUT -p tcp -j ACCEPT"), [],
+     ["in deny ipv4 10.0.0.0/8 any", "in permit ipv4 any any tcp", "in deny ipv4 any any"],
+     [f"warning: {UNTRACKED}", "note: it drops no packet", f"warning: {TRANSLATED}", "note: it drops no packet"]),
+    ("states before conntrack", "*raw\n:PREROUTING ACCEPT [0:0]\n-A PREROUTING -m state --state NEW -j DROP\nCOMMIT\n" + iptables(), ["--partial"],
+     ["in deny ipv4 any any"], ["left out, which may drop: conntrack comes behind the table raw", LEFT], 5),
     ("another table", "*mangle\n:PREROUTING ACCEPT [0:0]\n-A PREROUTING -j ACCEPT\nCOMMIT\n" + iptables(), [], [],
-     ["left out: only the table filter has a form, and this is of mangle"]),
+     ["note: it drops no packet"]),
 ]
 
 # What iptables-save doesn't write, and what is said.
@@ -181,6 +279,11 @@ WRONG = [
     ("a quotation", ["iptables-save"], iptables('-A INPUT -m comment --comment "a -j DROP'), "line 5 has a quotation that doesn't end"),
     ("half a table", ["iptables-save"], iptables("-A INPUT -j DROP").replace("COMMIT\n", ""),
      "the table filter has no line COMMIT: it isn't whole"),
+    ("a table twice", ["iptables-save"], iptables("-A INPUT -j ACCEPT") + iptables(),
+     "line 7 begins the table filter once more, of which line 1 is the first: iptables-restore keeps the last alone"),
+    ("another family than is given", ["iptables-save", "--ipv6"], "# Generated by iptables-save v1\n" + iptables(),
+     "these are rules of iptables-save, and --ipv6 is given"),
+    ("an ACL twice", ["vpp", "--in", "0"], "acl-index 0 count 0 tag {}\nacl-index 0 count 0 tag {}\n", "line 2 begins acl-index 0 once more"),
     ("half an ACL", ["vpp", "--in", "0"], "acl-index 0 count 2 tag {}\n", "acl-index 0 has 0 rules, and not the 2 that it counts"),
     ("both families", ["iptables-save"], iptables("-A INPUT -s fe80::/10 -j DROP", "-A INPUT -s 10.0.0.1/32 -j DROP"),
      "line 6: `10.0.0.1/32` is of the other family"),
@@ -265,14 +368,34 @@ EXPRESSIONS = [
     ("a family", [match("meta nfproto", "ipv6"), {"reject": {"type": "icmpv6", "expr": "port-unreachable"}}], ["in deny ipv6 any any"]),
     ("a protocol", [match("meta l4proto", "gre"), DROP], both("in deny ipv4 any any 47")),
     ("a jump", [match("tcp dport", 22), {"jump": {"target": "u"}}], ["in deny ipv4 10.0.0.1 any tcp dport 22"]),
+    ("neither of two flags", [match("tcp flags", ["fin", "syn"], "!"), DROP], both("in deny ipv4 any any tcp flags 00/03")),
+    ("neither of two flags, by a mask", [masked(["fin", "syn"], 0), DROP], both("in deny ipv4 any any tcp flags 00/03")),
+    ("other addresses", [match("ip saddr", {"set": [{"prefix": {"addr": "0.0.0.0", "len": 1}}, {"range": ["192.0.0.0", "255.255.255.255"]}]}, "!="), DROP],
+     ["in deny ipv4 128.0.0.0/2 any"]),
+    ("other ports", [match("tcp dport", {"set": [22, {"range": [80, 90]}]}, "!="), DROP],
+     [rule for part in ("0-21", "23-79", "91-65535") for rule in both(f"in deny ipv4 any any tcp dport {part}")]),
+    ("another family", [match("meta nfproto", "ipv6", "!="), DROP], ["in deny ipv4 any any"]),
+    ("an answer of one family", [match("tcp dport", 22), {"reject": {"type": "icmp", "expr": "host-prohibited"}}], ["in deny ipv4 any any tcp dport 22"]),
+    ("an answer of the other", [{"reject": {"type": "icmpv6", "expr": "no-route"}}], ["in deny ipv6 any any"]),
+    ("an answer of each family", [{"reject": {"type": "icmpx", "expr": "port-unreachable"}}], both("in deny ipv4 any any")),
+    ("elements with counts and times", [match("ip saddr", {"set": [{"elem": {"val": "10.0.0.1", "timeout": 9, "expires": 5, "counter": {"packets": 0, "bytes": 0}}}]}), DROP],
+     ["in deny ipv4 10.0.0.1 any"]),
     ("not loopback", [match("meta iifname", "lo", "!="), match("ip saddr", {"prefix": {"addr": "127.0.0.0", "len": 8}}), DROP],
      ["in deny ipv4 127.0.0.0/8 any"]),
 ]
 
 # Those without an equal form, and why.
 EXPRESSIONS_LEFT = [
-    ("not an address", [match("ip saddr", "10.0.0.1", "!="), DROP],
+    ("not a protocol", [match("meta l4proto", "tcp", "!="), DROP],
      "`!=` has no equal form; a rule before it that decides on the others stands for it"),
+    ("not a protocol of IPv4", [match("ip protocol", "tcp", "!="), DROP],
+     "`!=` has no equal form; a rule before it that decides on the others stands for it"),
+    ("elements with a limit", [match("ip saddr", {"set": [{"elem": {"val": "10.0.0.1", "limit": {"rate": 5, "per": "second"}}}]}), DROP],
+     "an element has `limit` of its own, which has no equal form"),
+    ("several states at once", [match("ct state", {"|": ["established", "related"]}, "!="), DROP],
+     "several states at once are never so; nft writes `ct state a,b` or `ct state ! a,b` for one of them"),
+    ("several devices", [match("meta iifname", {"set": ["eth0", "eth1"]}), DROP],
+     "the device eth0, eth1 has no form; --device names that of the capture"),
     ("the first header", [match("ip6 nexthdr", "tcp"), DROP], "`ip6 nexthdr` looks at the first header alone; `meta l4proto` has a form"),
     ("ports of no protocol", [match("th dport", 53), DROP], "`th` without `meta l4proto` has no equal form"),
     ("a limit", [{"limit": {"rate": 5, "per": "second"}}, DROP], "`limit` has no equal form"),
@@ -285,6 +408,55 @@ EXPRESSIONS_LEFT = [
     ("an expression of iptables", [{"xt": None}, DROP], "`xt` has no equal form"),
     ("no chain of that name", [{"jump": {"target": "none"}}], '`{"jump":{"target":"none"}}` has no equal form'),
     ("a match of no form", [{"match": {"op": "==", "left": 5}}, DROP], '`{"match":{"op":"==","left":5}}` is of no known form'),
+]
+
+
+def of_flows(*states, op="in"):
+    return match("ct state", list(states), op)
+
+
+def table_with(flags, text):
+    return text.replace('"name": "t"}', f'"name": "t", "flags": {json.dumps(flags)}' + "}", 1)
+
+
+# Whole listings of nft: name, text, further words, the policy's rules, what is told, and the status.
+NFT_RULESETS = [
+    ("ICMP dropped, and flows accepted", listing([match("meta l4proto", "icmp"), DROP], [of_flows("established"), ACCEPT]), [],
+     ["in deny ipv4 any any icmp", "in deny ipv6 any any 1", "out permit ipv4 any any icmp type 8", "out permit+reflect ipv4 any any",
+      "out permit ipv6 any any 1", "out permit+reflect ipv6 any any"], [f"warning: {SESSIONS}"]),
+    ("no other states, behind a policy that accepts", listing([match("ct state", "established", "!="), DROP], policy="accept", family="ip"), [],
+     ["in deny ipv4 any any", "in permit ipv6 any any", "out permit+reflect ipv4 any any", "out permit ipv6 any any"],
+     [f"warning: {SESSIONS}"]),
+    ("a dormant table", table_with("dormant", listing([match("tcp dport", 22), DROP], family="ip")), [],
+     [*both("in permit ipv4 any any"), *both("out permit ipv4 any any")],
+     ["note: it is dormant: its chains see no packets", "note: what is captured doesn't come to it"]),
+    ("a table with a flag of no name", table_with("t", listing([DROP], family="ip")), [], [],
+     ["left out, which may drop: it has a flag whose name isn't written; where that is dormant, its chains see no packets",
+      "note: what is captured doesn't come to it", UNWRITTEN], 5),
+    ("a table with an owner", table_with(["owner", "persist"], listing([match("tcp dport", 22), DROP], family="ip", policy="accept")), [],
+     ["in deny ipv4 any any tcp dport 22", "in permit ipv4 any any", "in permit ipv6 any any", *both("out permit ipv4 any any")], []),
+    ("one of several devices", listing([match("meta iifname", {"set": ["eth0", "eth*"]}), DROP], policy="accept", family="ip"), ["--device", "eth7"],
+     ["in deny ipv4 any any", "in permit ipv6 any any", *both("out permit ipv4 any any")], []),
+    ("none of several devices", listing([match("meta iifname", {"set": ["lo", "eth0"]}, "!="), DROP], family="ip", policy="accept"), ["--device", "eth0"],
+     ["in permit ipv4 any any", "in permit ipv6 any any", *both("out permit ipv4 any any")], ["note: it is of another device than the capture"]),
+    ("a hook before", listing([match("ip saddr", "10.0.0.1"), DROP], family="ip", hook="prerouting", policy="accept"), [],
+     ["in deny ipv4 10.0.0.1 any", "in permit ipv4 any any", "in permit ipv6 any any", *both("out permit ipv4 any any")], []),
+    ("states before conntrack", listing([of_flows("invalid"), DROP], family="ip", hook="prerouting", policy="accept").replace('"prio": 0', '"prio": -300'),
+     ["--partial"], [*both("in permit ipv4 any any"), *both("out permit ipv4 any any")],
+     ["left out, which may drop: conntrack comes behind chains of this priority", LEFT], 5),
+    ("a hook that drops nothing", listing([match("ip saddr", "10.0.0.1"), ACCEPT], family="ip", hook="postrouting", policy="accept"), [],
+     [*both("in permit ipv4 any any"), *both("out permit ipv4 any any")], ["note: it drops no packet"]),
+    ("changed addresses", listing([match("tcp dport", 80), {"redirect": {"port": 8080}}], family="ip", hook="prerouting", policy="accept").replace('"filter"', '"nat"'),
+     [], [*both("in permit ipv4 any any"), *both("out permit ipv4 any any")], [f"warning: {TRANSLATED}", "note: it drops no packet"]),
+    ("what comes from no route", listing(
+        [{"match": {"op": "==", "left": {"fib": {"result": "oif", "flags": ["saddr", "mark", "iif"]}}, "right": False}}, DROP], family="ip", policy="accept"), [],
+     ["in permit ipv4 any any", "in permit ipv6 any any", *both("out permit ipv4 any any")],
+     ["warning: what comes from where no route leads back passes, too"]),
+    ("types of addresses", listing(
+        [{"match": {"op": "==", "left": {"fib": {"result": "type", "flags": ["daddr"]}}, "right": {"set": ["local", "multicast"]}}}, ACCEPT]),
+     ["--address", "192.0.2.10/24", "--address", "2001:db8::10/64"],
+     ["in permit ipv4 any 192.0.2.10", "in permit ipv4 any 224.0.0.0/4", "in permit ipv6 any 2001:db8::10", "in permit ipv6 any ff00::/8",
+      *both("out permit ipv4 any any")], []),
 ]
 
 
@@ -333,7 +505,7 @@ class Imports(Case):
         """Nothing is written, unless that is asked for; then the rules behind are there, and a comment in place of the line."""
         chains = [f"-A {chain} -s 10.0.0.9/32 -j {target}" for chain, target in (("BAD", "DROP"), ("GOOD", "ACCEPT"))]
         text = iptables(line, "-A INPUT -p udp -j ACCEPT", *chains, chains=("BAD", "GOOD"))
-        unreached = (1 if "BAD" in line else 2) * ["note: what is captured doesn't come to it"]
+        unreached = (1 if "BAD" in line or "GOOD" in line else 2) * ["note: what is captured doesn't come to it"]
         told = [*unreached, f"left out, which may drop: {why}"]
         self.imports(["iptables-save"], text, [], [*told, UNWRITTEN], 5)
         self.imports(["iptables-save", "--partial"], text, ["in permit ipv4 any any udp"], [*told, LEFT], 5)
@@ -341,8 +513,8 @@ class Imports(Case):
         self.compare({"comment": f"# line 7: {line}: left out, which may drop: {why}" in got.splitlines()}, {"comment": True})
 
     @each(RULESETS)
-    def rulesets(self, text, words, rules, told):
-        self.imports(["iptables-save", *words], text, rules, told)
+    def rulesets(self, text, words, rules, told, status=0):
+        self.imports(["iptables-save", *words], text, rules, told, status)
 
     @each(EXPRESSIONS)
     def expressions(self, expression, rules):
@@ -356,13 +528,25 @@ class Imports(Case):
         self.imports(["nft"], listing(expression), [], [f"left out, which may drop: {why}", UNWRITTEN], 5)
 
     @each((f"{hook} {kind}", hook, kind, told, status) for hook, kind, told, status in (
-        ("forward", "filter", "left out: a forwarded packet has no form: it is judged as if it were this host's", 0),
-        ("prerouting", "nat", "left out, which may drop: a chain of type nat at the hook prerouting has no form", 5)))
+        ("forward", "filter", "warning: a forwarded packet has no form: it is judged as if it were this host's", 0),
+        ("prerouting", "nat", "left out, which may drop: a drop has no form in a chain of type nat at the hook prerouting", 5)))
     def other_hooks(self, hook, kind, told, status):
         text = listing([match("tcp dport", 80), DROP], family="ip", hook=hook, policy="accept").replace('"filter"', f'"{kind}"')
         got = imported(["nft", "--partial"], text)
         self.compare({"told": told_of(got)[:1], "rules": rules_of(got["stdout"]), "status": got["status"]},
                      {"told": [told], "rules": [*both("in permit ipv4 any any"), *both("out permit ipv4 any any")], "status": status})
+
+    @each(NFT_RULESETS)
+    def nft_rulesets(self, text, words, rules, told, status=0):
+        self.imports(["nft", *words], text, rules, told, status)
+
+    def test_flags_outside_their_mask(self):
+        """Such a rule of VPP matches later fragments alone, as the policy's does."""
+        text = "acl-index 0 count 2 tag {}\n" + "".join(
+            f"  {at}: ipv4 {action} src 0.0.0.0/0 dst 0.0.0.0/0 proto 6 sport 0-65535 dport 0-65535 tcpflags 3 mask {mask}\n"
+            for at, (action, mask) in enumerate((("deny", 2), ("permit", 0))))
+        self.imports(["vpp", "--in", "0"], text, ["in deny ipv4 any any tcp flags 03/02", "in permit ipv4 any any tcp flags 03/00",
+                                                  *both("out permit ipv4 any any")], [])
 
     def test_two_chains(self):
         """A packet passes both chains of a hook: what the first accepts is judged by the second."""
