@@ -5,7 +5,7 @@ use packet_questions::{
     Ask, AskedAbout, QuestionFault, answer_questions, answer_status, asked_about, compare_answers,
 };
 use racl_io::Device;
-use racl_system::{Output, live_policy_text, policy_text, say_wrong_expectations};
+use racl_system::{Output, live_policy_text, policy_text, say_read_twice, say_wrong_expectations};
 use std::alloc::Global;
 use std::io;
 use std::sync::Wait;
@@ -40,6 +40,11 @@ fn status_of_ask<T: Threads + Wait + Sync>(
     alloc: Global,
     ask: &Ask<'_>,
 ) -> io::Result<u8> {
+    if let Some(name) = ask.expected
+        && let Some(status) = say_read_twice(rt, alloc, &[ask.policy, name])?
+    {
+        return Ok(status);
+    }
     let text = match policy_text(rt, alloc, ask.policy) {
         Ok(Ok(text)) => text,
         Ok(Err(status)) => return Ok(status),

@@ -2,7 +2,7 @@
 
 use policy_compare::{CompareFault, CompareFiles, Compares, compare_texts, compared_by};
 use racl_io::{Device, Fault};
-use racl_system::{Output, live_policy_text, say_policy_fault};
+use racl_system::{Output, live_policy_text, say_policy_fault, say_read_twice};
 use std::alloc::Global;
 use std::io;
 
@@ -25,6 +25,9 @@ pub fn compared(rt: &HostRuntime, alloc: Global, words: &[&str]) -> io::Result<O
 
 // Reads both policies, writes what they decide differently, and answers the exit status.
 fn status_of_compare(rt: &HostRuntime, alloc: Global, files: &CompareFiles<'_>) -> io::Result<u8> {
+    if let Some(status) = say_read_twice(rt, alloc, &[files.before, files.after])? {
+        return Ok(status);
+    }
     let before = match live_policy_text(rt, alloc, files.before) {
         Ok(Ok(text)) => text,
         Ok(Err(status)) => return Ok(status),

@@ -16,11 +16,12 @@ use racl_runs::{
 };
 use racl_system::{
     DiffInput, ExpectingInput, LiveFiles, LiveInterfaces, Output, Ran, SeenFiles, Watched,
-    asked_or_status, diff_or_status, expansion_status, failure_status, opened_diff,
-    opened_expecting, opened_input, opened_live, opened_live_interfaces, read_interface_input,
-    saves_to, say_capture_fault, say_end_of_interfaces, say_end_of_live,
-    say_end_of_live_interfaces, say_end_of_run, say_outcome, say_policy_fault, say_unsaved,
-    say_used_twice, say_wrong_expectations, settled, standard_source, texts_of, watched_where,
+    asked_or_status, diff_or_status, expansion_status, failure_status, hold_closed_streams,
+    opened_diff, opened_expecting, opened_input, opened_live, opened_live_interfaces,
+    read_interface_input, saves_to, say_capture_fault, say_end_of_interfaces, say_end_of_live,
+    say_end_of_live_interfaces, say_end_of_run, say_outcome, say_policy_fault, say_read_twice,
+    say_unsaved, say_used_twice, say_wrong_expectations, settled, standard_source, texts_of,
+    watched_where,
 };
 use std::alloc::Global;
 use std::env::args;
@@ -31,6 +32,8 @@ use std::thread::Threads;
 use std::time::Clock;
 
 fn main(rt: HostRuntime) -> ExitCode {
+    // Where the root folder can't be opened there is none to hold streams by, and the run goes on.
+    let _ = hold_closed_streams(&rt);
     let status = match status_of_main(&rt, &rt, rt.alloc()) {
         Ok(status) => status,
         Err(error) => failure_status(&rt, &error),
@@ -61,30 +64,72 @@ fn status_of_main<T: Clock + Threads + Wait + Sync + Copy + Send + 'static>(
         Err(error) => return Err(error),
     }
     match diff_or_status(rt, alloc, texts.as_slice())? {
-        Ok(Some(files)) => return status_of_diff(rt, threads, alloc, &files),
+        Ok(Some(files)) => {
+            let names = [files.before, files.after, files.capture];
+            return match say_read_twice(rt, alloc, &names)? {
+                Some(status) => Ok(status),
+                None => status_of_diff(rt, threads, alloc, &files),
+            };
+        }
         Ok(None) => {}
         Err(status) => return Ok(status),
     }
     match asked_or_status(rt, alloc, texts.as_slice()) {
-        Ok(Ok(asked)) => match (&asked.origin, asked.expected) {
-            (Origin::Files(files), Some(name)) => {
-                status_of_expecting(rt, threads, alloc, &asked, files, name)
-            }
-            (Origin::Files(files), None) if is_told_early(&asked) => {
-                status_of_live(rt, threads, alloc, &asked, files)
-            }
-            (Origin::Files(files), None) => status_of_files(rt, threads, alloc, &asked, files),
-            (Origin::Interfaces(interfaces), _) if asked.options.live => {
-                status_of_live_interfaces(rt, threads, alloc, &asked.options, interfaces)
-            }
-            (Origin::Interfaces(interfaces), _) => {
-                status_of_interfaces(rt, threads, alloc, &asked.options, interfaces)
-            }
-            (Origin::Standard, _) => status_of_standard(rt, threads, alloc, &asked.options),
-        },
+        Ok(Ok(asked)) => status_of_run(rt, threads, alloc, &asked),
         Ok(Err(status)) => Ok(status),
         Err(error) => Err(error),
     }
+}
+
+// Runs what is asked for, unless a pipe would be read twice, tells how that ended, and answers the exit status.
+fn status_of_run<T: Clock + Threads + Wait + Sync + Copy + Send + 'static>(
+    rt: &HostRuntime,
+    threads: &T,
+    alloc: Global,
+    asked: &Asked<'_>,
+) -> io::Result<u8> {
+    let names = names_read(alloc, asked)?;
+    if let Some(status) = say_read_twice(rt, alloc, names.as_slice())? {
+        return Ok(status);
+    }
+    match (&asked.origin, asked.expected) {
+        (Origin::Files(files), Some(name)) => {
+            status_of_expecting(rt, threads, alloc, asked, files, name)
+        }
+        (Origin::Files(files), None) if is_told_early(asked) => {
+            status_of_live(rt, threads, alloc, asked, files)
+        }
+        (Origin::Files(files), None) => status_of_files(rt, threads, alloc, asked, files),
+        (Origin::Interfaces(interfaces), _) if asked.options.live => {
+            status_of_live_interfaces(rt, threads, alloc, &asked.options, interfaces)
+        }
+        (Origin::Interfaces(interfaces), _) => {
+            status_of_interfaces(rt, threads, alloc, &asked.options, interfaces)
+        }
+        (Origin::Standard, _) => status_of_standard(rt, threads, alloc, &asked.options),
+    }
+}
+
+// The names of the files that a run reads.
+fn names_read<'a>(alloc: Global, asked: &Asked<'a>) -> io::Result<Vec<&'a str>> {
+    let mut names = Vec::new(alloc);
+    match &asked.origin {
+        Origin::Standard => {}
+        Origin::Files(files) => {
+            names.push(files.policy)?;
+            names.push(files.capture)?;
+        }
+        Origin::Interfaces(interfaces) => {
+            names.push(interfaces.policy)?;
+            for file in &interfaces.captures {
+                names.push(file.name)?;
+            }
+        }
+    }
+    if let Some(name) = asked.expected {
+        names.push(name)?;
+    }
+    Ok(names)
 }
 
 // Whether what is asked for is told while the capture is read.

@@ -3,6 +3,7 @@
 #![tactic(auto)]
 
 mod capture_feeding;
+mod closed_streams;
 mod coming_captures;
 mod command_words;
 mod diff_input;
@@ -27,6 +28,7 @@ mod say_and_answer_status;
 mod say_policy_remarks;
 mod system_files;
 
+pub use closed_streams::hold_closed_streams;
 pub use coming_captures::{ComingCaptures, LiveInterfaces, opened_live_interfaces};
 pub use command_words::{asked_or_status, diff_or_status, texts_of};
 pub use diff_input::{DiffInput, opened_diff, say_capture_fault, say_policy_fault};
@@ -43,6 +45,6 @@ pub use named_reader::Reader;
 pub use output::Output;
 pub use progress::{Progress, Watched, watched_where};
 pub use save_file::{SaveFile, saves_to, say_unsaved, settled};
-pub use saved_names::say_used_twice;
+pub use saved_names::{say_read_twice, say_used_twice};
 pub use say_and_answer_status::failure_status;
 pub use system_files::SystemFiles;
