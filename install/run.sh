@@ -110,6 +110,7 @@ stop_child() {
                 [ ! -p "$it" ] || : <>"$it"
             done
             sleep 0.1
+            [ -d "$room" ] || break
         done </dev/null >/dev/null 2>&1 &
         feeders="$feeders $!"
     elif [ -n "$child" ]; then
