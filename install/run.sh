@@ -1,62 +1,70 @@
 # How the launcher and the installed command run the program.
 
-# run PROGRAM WORDS..: runs it in this shell's place, or, where captures may come for long, as its child.
+# A standard stream that is closed becomes one that can't be read or written, so that no file gets its number.
+readable=yes
+true 2>/dev/null 3<&0 || { exec 0>/dev/null; readable=; }
+true 2>/dev/null 3>&1 || exec 1</dev/null
+true 3>&2 || exec 2</dev/null
+
+# The signals that end a process and that it can catch.
+SIGNALS='HUP INT QUIT ABRT USR1 USR2 PIPE ALRM TERM XCPU XFSZ VTALRM PROF'
+
+# run PROGRAM WORDS..: runs it in this shell's place, or, where captures may come for long or packets are saved, as its child.
 run() {
     # The C library asks for huge pages, so that a long input's memory is touched in fewer steps, and gives back each freed
     # block of 128 KiB and more, so that the peak is lower. What the user asks of it stands after that, and counts.
     export GLIBC_TUNABLES="glibc.malloc.hugetlb=1:glibc.malloc.mmap_threshold=131072${GLIBC_TUNABLES:+:$GLIBC_TUNABLES}"
+    saves=
     case " $* " in
-        " $1 diff "* | *" --live "* | *" --any-length "* | *" --shard"[\ =]*) run_live "$@" ;;
-        *) exec "$@" ;;
+        *" --drops"[\ =]* | *" --passes"[\ =]*) saves=yes ;;
+    esac
+    case " $* " in
+        " $1 diff "* | *" --live "* | *" --any-length "* | *" --shard"[\ =]*) run_child find_stream "$@" ;;
+        *)
+            [ -z "$saves" ] || run_child : "$@"
+            exec "$@"
+            ;;
     esac
 }
 
-# Standard input, and each FIFO that a word names, the program reads through a pipe that an interrupt or a termination closes: it
-# then ends as at the end of its captures, with its totals. A second one kills it. What it says of such a pipe names the FIFO.
-run_live() {
-    program=$1 room= pipes= names= feeders= input= before=
-    shift
+# run_child FIND PROGRAM WORDS..: runs it so that no signal leaves anything behind. Standard input, and each FIFO that FIND finds a
+# word to name, it reads through a pipe that a signal closes: it then ends as at the end of its captures, with its totals. A second
+# signal kills it, and so does a first one where there is no pipe. What it says of a pipe names the FIFO.
+run_child() {
+    find=$1 program=$2 room= pipes= names= feeders= input= before= teller= child= signals=0 killed=
+    shift 2
+    trap clear_up EXIT
+    for kind in $SIGNALS; do trap "stop_child $kind" "$kind"; done
     for word in "$@"; do
         shift
-        find_stream
+        "$find"
         set -- "$@" "$word"
         before=$word
     done
-    [ -n "$input$pipes" ] || exec "$program" "$@"
-    teller=
+    [ -n "$input$pipes$saves" ] || exec "$program" "$@"
     if [ -n "$pipes" ] && mkfifo "$room/said"; then
-        sed -u "$names" <"$room/said" >&2 &
+        (trap '' $SIGNALS && exec sed -u "$names") <"$room/said" >&2 &
         teller=$!
         exec 2>"$room/said"
     fi
+    exec 3<&0
     if [ -n "$input" ]; then
-        make_room && mkfifo "$room/pipe" || exec "$program" "$@"
-        exec 3<&0 4<>"$room/pipe"
+        make_room && mkfifo "$room/pipe" || exec "$program" "$@" 3<&-
+        exec 4<>"$room/pipe"
         cat <&3 >/proc/self/fd/4 3<&- 4<&- &
         feeders="$feeders $!"
-        (
-            trap '' INT TERM
-            exec "$program" "$@" 3<&- 4<&-
-        ) </proc/self/fd/4 &
-        child=$!
-        exec 3<&- 4<&-
-    else
-        exec 3<&0
-        (
-            trap '' INT TERM
-            exec "$program" "$@" 3<&-
-        ) <&3 &
-        child=$!
-        exec 3<&-
+        exec 3</proc/self/fd/4 4<&-
     fi
-    signals=0
-    trap 'stop_live' INT TERM
+    (trap '' $SIGNALS && exec "$program" "$@" 3<&-) <&3 &
+    child=$!
+    exec 3<&-
     # a wait that a signal ended is begun again
-    until wait_for_live; do :; done
+    until wait_for_child; do :; done
+    child=
     kill $feeders 2>/dev/null
     exec 2>/dev/null
     [ -z "$teller" ] || wait "$teller"
-    rm -rf "$room"
+    [ -z "$killed" ] || end_by "$killed"
     exit "$status"
 }
 
@@ -64,8 +72,8 @@ make_room() {
     [ -n "$room" ] || room=$(mktemp -d)
 }
 
-# Whether this word says standard input, or names a FIFO, of which it then is to name the pipe. A word in front of it may name an
-# option whose file is written.
+# Whether this word says standard input, or names a FIFO, of which it then is to name the pipe, the same for each of its names. A word
+# in front of it may name an option whose file is written.
 find_stream() {
     case $word in
         --interface=*=*) front=--interface=${word#--interface=} file=${word#--interface=*=} ;;
@@ -77,35 +85,69 @@ find_stream() {
         --drops | --passes) return ;;
     esac
     if [ "$file" = - ]; then
-        input=yes
+        input=$readable
     elif [ -p "$file" ] && make_room; then
-        pipe=$room/$((${#pipes} + 1))
-        mkdir "$pipe" && mkfifo "$pipe/${file##*/}" || return
-        names="${names}s|$pipe/|$(printf %s "${file%"${file##*/}"}" | sed 's/[\\&|]/\\&/g')|g;"
-        pipe=$pipe/${file##*/} pipes=$pipes.
-        cat "$file" >"$pipe" </dev/null &
-        feeders="$feeders $!"
-        word=$front$pipe
+        pipe=$room/$(stat -Lc %d.%i -- "$file")
+        if mkdir "$pipe" 2>/dev/null; then
+            mkfifo "$pipe/${file##*/}" || return
+            names="${names}s|$pipe/|$(printf %s "${file%"${file##*/}"}" | sed 's/[\\&|]/\\&/g')|g;"
+            cat "$file" >"$pipe/${file##*/}" </dev/null &
+            feeders="$feeders $!" pipes=yes
+        fi
+        set -- "$pipe"/*
+        word=$front$1
     fi
 }
 
-stop_live() {
+# What a signal of this kind does.
+stop_child() {
     signals=$((signals + 1))
     kill $feeders 2>/dev/null
-    # a pipe that the program opens yet is at its end (for some seconds, since a signal to a child that just begins may be lost)
-    for _ in 1 2 3 4 5 6 7 8 9 10 11 12 13 14 15 16 17 18 19 20; do
-        for it in "$room"/*/*; do
-            [ ! -p "$it" ] || : <>"$it"
-        done
-        sleep 0.1
-    done </dev/null >/dev/null 2>&1 &
-    feeders="$feeders $!"
-    [ "$signals" = 1 ] || kill -KILL "$child" 2>/dev/null
+    if [ -n "$feeders" ] && [ "$signals" = 1 ]; then
+        # a pipe that the program opens yet is at its end (for some seconds, since a signal to a child that just begins may be lost)
+        for _ in 1 2 3 4 5 6 7 8 9 10 11 12 13 14 15 16 17 18 19 20; do
+            for it in "$room"/*/*; do
+                [ ! -p "$it" ] || : <>"$it"
+            done
+            sleep 0.1
+            [ -d "$room" ] || break
+        done </dev/null >/dev/null 2>&1 &
+        feeders="$feeders $!"
+    elif [ -n "$child" ]; then
+        killed=$1
+        kill_child
+    else
+        end_by "$1"
+    fi
 }
 
-wait_for_live() {
-    before=$signals
-    wait "$child"
+# Kills the program, and removes what it writes beside files that it saves: files with such names that it has for writing.
+kill_child() {
+    kill -STOP "$child"
+    for it in /proc/"$child"/fd/*; do
+        name=$(readlink "$it")
+        case $name in
+            *.[0-9].part | *.[0-9][0-9].part) ! grep -q '^flags:.*1$' "/proc/$child/fdinfo/${it##*/}" || rm -f -- "$name" ;;
+        esac
+    done
+    kill -KILL "$child"
+} 2>/dev/null
+
+clear_up() {
+    kill $feeders 2>/dev/null
+    [ -z "$room" ] || rm -rf "$room"
+}
+
+end_by() {
+    clear_up
+    trap - EXIT $SIGNALS
+    kill -"$1" $$
+    exit 1
+}
+
+wait_for_child() {
+    seen=$signals
+    wait "$child" 2>/dev/null
     status=$?
-    [ "$signals" = "$before" ] || [ "$status" -lt 128 ]
+    [ "$signals" = "$seen" ] || [ "$status" -lt 128 ]
 }

@@ -26,20 +26,23 @@ class Program:
     def __init__(self, path):
         self.path = os.path.abspath(path)
 
-    def run(self, words=(), data=b"", memory=None, stack=None, size=None, **streams):
-        """Runs the program and gives what it wrote, said and ended with; no file may have more than `size` bytes."""
+    def run(self, words=(), data=b"", memory=None, stack=None, size=None, without=None, **streams):
+        """Runs the program and gives what it wrote, said and ended with; no file may have more than `size` bytes, and the standard
+        stream with the number `without` is closed."""
         def limit():
             # (a write past the size of a file then fails)
             signal.signal(signal.SIGXFSZ, signal.SIG_IGN)
             for kind, most in ((resource.RLIMIT_AS, memory), (resource.RLIMIT_STACK, stack), (resource.RLIMIT_FSIZE, size)):
                 if most:
                     resource.setrlimit(kind, (most, most))
+            if without is not None:
+                os.close(without)
 
         streams = {"stdout": subprocess.PIPE, "stderr": subprocess.PIPE, **streams}
         if "stdin" not in streams:
             streams["input"] = data
         try:
-            ran = subprocess.run([self.path, *words], preexec_fn=limit if memory or stack or size else None, timeout=SECONDS, **streams)
+            ran = subprocess.run([self.path, *words], preexec_fn=limit if memory or stack or size or without is not None else None, timeout=SECONDS, **streams)
         except subprocess.TimeoutExpired:
             return {"stdout": b"", "stderr": b"", "status": f"none after {SECONDS} seconds"}
         return {"stdout": ran.stdout, "stderr": ran.stderr, "status": ran.returncode}

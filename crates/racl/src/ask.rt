@@ -5,7 +5,8 @@ use packet_questions::{Ask, QuestionFault, answer_questions, answer_status, comp
 use racl_io::{Device, Fault};
 use racl_options::AskedPackets;
 use racl_system::{
-    NamedPolicy, Output, live_policy_text, policy_text, say_policy_fault, say_wrong_expectations,
+    NamedPolicy, Output, live_policy_text, policy_text, say_policy_fault, say_read_twice,
+    say_wrong_expectations,
 };
 use std::alloc::Global;
 use std::io;
@@ -27,6 +28,11 @@ pub fn status_of_ask<T: Threads + Wait + Sync>(
         policy: asked.policy,
         packets: asked.packets.as_slice(),
     };
+    if let Some(name) = ask.expected
+        && let Some(status) = say_read_twice(rt, alloc, &[ask.policy, name])?
+    {
+        return Ok(status);
+    }
     let text = match policy_text(rt, alloc, ask.policy) {
         Ok(Ok(text)) => text,
         Ok(Err(status)) => return Ok(status),
@@ -86,7 +92,10 @@ fn said(
     fault: &QuestionFault,
 ) -> io::Result<u8> {
     if let QuestionFault::Run(cause) = fault
-        && matches!(cause, Fault::NotUtf8 | Fault::BadLine(_) | Fault::TooMany(_))
+        && matches!(
+            cause,
+            Fault::NotUtf8 | Fault::BadLine(_) | Fault::TooMany(_)
+        )
     {
         return say_policy_fault(rt, alloc, policy, *cause);
     }

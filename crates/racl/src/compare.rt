@@ -3,7 +3,7 @@
 use policy_compare::{CompareFault, compare_texts};
 use racl_io::{Device, Fault};
 use racl_options::CompareFiles;
-use racl_system::{NamedPolicy, Output, live_policy_text, say_policy_fault};
+use racl_system::{NamedPolicy, Output, live_policy_text, say_policy_fault, say_read_twice};
 use std::alloc::Global;
 use std::io;
 
@@ -14,6 +14,9 @@ pub fn status_of_compare(
     alloc: Global,
     files: &CompareFiles<'_>,
 ) -> io::Result<u8> {
+    if let Some(status) = say_read_twice(rt, alloc, &[files.before, files.after])? {
+        return Ok(status);
+    }
     let before = match live_policy_text(rt, alloc, files.before) {
         Ok(Ok(text)) => text,
         Ok(Err(status)) => return Ok(status),

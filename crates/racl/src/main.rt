@@ -17,7 +17,13 @@ use racl_runs::{
     run_expecting, run_interfaces, run_live, run_live_interfaces, run_saving, run_shard,
 };
 use racl_system::{
-    DiffInput, ExpectingInput, LiveFiles, LiveInterfaces, NamedPolicy, Output, Ran, SeenFiles, SystemFiles, Watched, Words, asked_or_status, check_file, expand_file, failure_status, mistyped_status, opened_diff, opened_expecting, opened_input, opened_live, opened_live_interfaces, read_interface_input, saves_to, say_capture_fault, say_end_of_interfaces, say_end_of_live, say_end_of_live_interfaces, say_end_of_run, say_outcome, say_policy_fault, say_unsaved, say_used_twice, say_wrong_expectations, settled, standard_source, texts_of, watched_where,
+    DiffInput, ExpectingInput, LiveFiles, LiveInterfaces, NamedPolicy, Output, Ran, SeenFiles,
+    SystemFiles, Watched, Words, asked_or_status, check_file, expand_file, failure_status,
+    hold_closed_streams, mistyped_status, opened_diff, opened_expecting, opened_input, opened_live,
+    opened_live_interfaces, read_interface_input, saves_to, say_capture_fault,
+    say_end_of_interfaces, say_end_of_live, say_end_of_live_interfaces, say_end_of_run,
+    say_outcome, say_policy_fault, say_read_twice, say_unsaved, say_used_twice,
+    say_wrong_expectations, settled, standard_source, texts_of, watched_where,
 };
 use std::alloc::Global;
 use std::env::args;
@@ -28,6 +34,8 @@ use std::thread::Threads;
 use std::time::Clock;
 
 fn main(rt: HostRuntime) -> ExitCode {
+    // Where the root folder can't be opened there is none to hold streams by, and the run goes on.
+    let _ = hold_closed_streams(&rt);
     let status = match status_of_main(&rt, &rt, rt.alloc()) {
         Ok(status) => status,
         Err(error) => failure_status(&rt, &error),
@@ -61,13 +69,17 @@ fn status_of_main<T: Clock + Threads + Wait + Sync + Copy + Send + 'static>(
     }
 }
 
-// Does the run that is asked for, and answers the exit status.
+// Runs what is asked for, unless a pipe would be read twice, tells how that ended, and answers the exit status.
 fn status_of_run<T: Clock + Threads + Wait + Sync + Copy + Send + 'static>(
     rt: &HostRuntime,
     threads: &T,
     alloc: Global,
     asked: &Asked<'_>,
 ) -> io::Result<u8> {
+    let names = names_read(alloc, asked)?;
+    if let Some(status) = say_read_twice(rt, alloc, names.as_slice())? {
+        return Ok(status);
+    }
     match (&asked.origin, asked.expected) {
         (Origin::Files(files), Some(name)) => {
             status_of_expecting(rt, threads, alloc, asked, files, name)
@@ -84,6 +96,28 @@ fn status_of_run<T: Clock + Threads + Wait + Sync + Copy + Send + 'static>(
         }
         (Origin::Standard, _) => status_of_standard(rt, threads, alloc, &asked.options),
     }
+}
+
+// The names of the files that a run reads.
+fn names_read<'a>(alloc: Global, asked: &Asked<'a>) -> io::Result<Vec<&'a str>> {
+    let mut names = Vec::new(alloc);
+    match &asked.origin {
+        Origin::Standard => {}
+        Origin::Files(files) => {
+            names.push(files.policy)?;
+            names.push(files.capture)?;
+        }
+        Origin::Interfaces(interfaces) => {
+            names.push(interfaces.policy)?;
+            for file in &interfaces.captures {
+                names.push(file.name)?;
+            }
+        }
+    }
+    if let Some(name) = asked.expected {
+        names.push(name)?;
+    }
+    Ok(names)
 }
 
 // Whether what is asked for is told while the capture is read.
@@ -326,6 +360,10 @@ fn status_of_diff<T: Clock + Threads + Wait + Sync>(
     alloc: Global,
     files: &DiffFiles<'_>,
 ) -> io::Result<u8> {
+    let names = [files.before, files.after, files.capture];
+    if let Some(status) = say_read_twice(rt, alloc, &names)? {
+        return Ok(status);
+    }
     let DiffInput {
         before,
         after,
@@ -339,7 +377,7 @@ fn status_of_diff<T: Clock + Threads + Wait + Sync>(
         before: before.as_slice(),
         after: after.as_slice(),
     };
-    let options = diff_options();
+    let options = diff_options(files.ages);
     let mut reader = Device::new(FrontKept::new(capture));
     let mut writer = Device::new(rt.stdout());
     match run_diff(threads, alloc, &options, texts, &mut reader, &mut writer) {

@@ -94,9 +94,10 @@ module _ (c : Command) (words : List Text) (m : ArgMatches) (is : app_of c ≡ r
       → option_map (λ p. p.1) (subcommand_rows_of m) ≡ Some (rows_of (found_of found))
       → (named_task words ≡ task_in name (values_in (found_of found))) × (named_command words ≡ Some name)
   met name found named held =
-      let entry = sym entered_is ∙ same_entry (out-ArgMatches m).subcommand name (rows_of (found_of found)) named held in
-      (ap (option_and_then (λ (p : Text × List Row). task_in p.0 (values_of p.1))) entry ∙ ap (task_in name) (sym (values_by_rows found)),
-      ap (option_map (λ (p : Text × List Row). p.0)) entry)
+      let entry = sym entered_is ∙ same_entry (out-ArgMatches m).subcommand name (rows_of (found_of found)) named held in (
+        ap (option_and_then (λ (p : Text × List Row). task_in p.0 (values_of p.1))) entry ∙ ap (task_in name) (sym (values_by_rows found)),
+        ap (option_map (λ (p : Text × List Row). p.0)) entry,
+      )
 
   pub met_none : subcommand_name_of m ≡ None → (named_task words ≡ None) × (named_command words ≡ None)
   met_none named =

@@ -11,10 +11,7 @@ use clap::{Arg, ArgAction, Command};
 use std::alloc::{AllocError, Global};
 
 /// A command line with the subcommands.
-pub fn with_subcommands<'a>(
-    alloc: Global,
-    command: Command<'a>,
-) -> Result<Command<'a>, AllocError>
+pub fn with_subcommands<'a>(alloc: Global, command: Command<'a>) -> Result<Command<'a>, AllocError>
     ensures { IfOk result (λ c. app_of c ≡ with_commands (app_of command.entry)) }
 {
     with_question_commands(alloc, with_check_commands(alloc, command)?)?
@@ -23,10 +20,7 @@ pub fn with_subcommands<'a>(
 }
 
 // A command line with those that read one file.
-fn with_check_commands<'a>(
-    alloc: Global,
-    command: Command<'a>,
-) -> Result<Command<'a>, AllocError>
+fn with_check_commands<'a>(alloc: Global, command: Command<'a>) -> Result<Command<'a>, AllocError>
     ensures { IfOk result (λ c. app_of c ≡ with_checks (app_of command.entry)) }
 {
     command
@@ -57,9 +51,11 @@ fn check_command<'a>(alloc: Global) -> Result<Command<'a>, AllocError>
         "racl check POLICY",
         "Tells every wrong line of a policy, and what in a right one is unlikely to be meant",
     );
-    command
-        .after_help(after_check())
-        .arg(word(alloc, "POLICY", "The policy's file; `-` is standard input"))
+    command.after_help(after_check()).arg(word(
+        alloc,
+        "POLICY",
+        "The policy's file; `-` is standard input",
+    ))
 }
 
 fn expand_command<'a>(alloc: Global) -> Result<Command<'a>, AllocError>
@@ -182,7 +178,12 @@ fn version_command<'a>(alloc: Global) -> Command<'a>
     ensures app { app_of result ≡ version }
     ensures local { (fields_of result).has_globals ≡ false }
 {
-    described(alloc, "version", "racl version", "Tells the version, as --version")
+    described(
+        alloc,
+        "version",
+        "racl version",
+        "Tells the version, as --version",
+    )
 }
 
 // A command of this name with its texts, and no argument yet.
@@ -190,9 +191,7 @@ fn described<'a>(alloc: Global, name: &'a str, usage: &'a str, about: &'a str) -
     ensures app { app_of result ≡ new_app name.entry.now }
     ensures local { (fields_of result).has_globals ≡ false }
 {
-    Command::new(alloc, name)
-        .about(about)
-        .override_usage(usage)
+    Command::new(alloc, name).about(about).override_usage(usage)
 }
 
 // A word that has to be there, and is known by its place.

@@ -23,7 +23,8 @@ static HELP_WORDS: [&str; 2] = ["racl", "--help"];
 
 static VERSION_WORDS: [&str; 2] = ["racl", "--version"];
 
-const NOT_ASKED: &str = "that can't be done: one file at most is standard input, `ask` takes --explain or --expect, and `import` is a script beside the program";
+const NOT_ASKED: &str =
+    "that can't be done: one file at most is standard input, `ask` takes --explain or --expect, and `import` is a script beside the program";
 
 /// What the words ask for that begin with the name of a command, behind the program's. `None`: they begin with none. An `Err` is a
 /// request for help or for the version, a mistake in the words, or that memory ran out, by its kind.

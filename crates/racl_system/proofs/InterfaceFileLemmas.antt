@@ -18,7 +18,8 @@ use Rattle.racl_report.specs.InterfaceInputs.{AreAllBytes, bytes_in}
 use Rattle.racl_report.specs.Statuses.{status_of_fault}
 use Rattle.racl_system.specs.InterfaceFiles.{AreAllOf, AreOver, AreUnread, GivenFacts, IsInterfacesStatus, IsUnreadInput, given_by}
 use Rattle.racl_system.specs.declared.interface_capture.InterfaceCapture.{InterfaceCapture}
-use Rattle.racl_system.proofs.ReaderLemmas.{all_of_front, status_is, status_of_unheld}
+use Rattle.racl_system.specs.PolicyTexts.{ended_lines}
+use Rattle.racl_system.proofs.ReaderLemmas.{status_is, status_of_unheld}
 
 -- ---- one capture
 
@@ -129,11 +130,11 @@ unread_there remaining text captures rest from all most why are left (inr (inr (
 -- ---- a text and captures
 
 -- captures that aren't read behind a text
-pub unread_behind : (text : Option (List ℕ)) (read : List ℕ) (givens : List GivenFacts) (why : Fault) → IfSome text (λ all. read ≡ take (most_bytes + 1) all)
-    → length read ≤ most_bytes → AreUnread (length read + 1) givens why → IsUnreadInput text givens why
-unread_behind None read givens why front few unread = inr tt
-unread_behind (Some all) read givens why front few unread =
-    inr (subst (λ (b : List ℕ). AreUnread (length b + 1) givens why) (all_of_front all read front few) unread)
+pub unread_behind : (known : Option (List ℕ)) (text : List ℕ) (givens : List GivenFacts) (why : Fault) → IfSome known (λ all. text ≡ ended_lines all)
+    → AreUnread (length text) givens why → IsUnreadInput known givens why
+unread_behind None text givens why same unread = inr tt
+unread_behind (Some all) text givens why same unread =
+    inr (subst (λ n. AreUnread n givens why) (ap length same ∙ length-append all (10 ∷ [])) unread)
 
 -- and the status then
 pub status_of_unread : (text : Option (List ℕ)) (givens : List GivenFacts) (why : Fault) (status : ℕ) → status ≡ status_of_fault why → IsUnreadInput text givens why

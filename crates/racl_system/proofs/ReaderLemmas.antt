@@ -8,7 +8,9 @@ use Rattle.racl_io.specs.declared.device.Device.{Device}
 use Rattle.racl_io.specs.declared.fault.Fault.{Fault}
 use Rattle.racl_io.specs.declared.fault.Fault.TheVariants as fault
 use Rattle.racl_report.specs.Statuses.{status_of_fault}
+use Rattle.racl_system.specs.CheckStatuses.{IsCheckStatus, IsNoPolicy}
 use Rattle.racl_system.specs.MarkedPolicies.{IsFileFault, IsFileStatus, IsMarkedFault, IsUnheld}
+use Rattle.racl_system.specs.PolicyTexts.{IsUnread, ended_lines}
 use Rattle.racl_system.specs.Readers.{IsLiveStatus}
 
 -- what was read up to so many bytes is the front of all
@@ -35,37 +37,58 @@ front_of_reader remaining reader device after old read least at_end made none ha
     read_front (remaining reader) after read least at_end
     (subst (λ d. HasRead (remaining d.inner) after [] read least at_end) made (subst (λ o. HasRead (remaining device.inner) after o read least at_end) none has))
 
--- where the front that was read has more bytes than an input may have, so has the text, and 1 is the status
-pub status_of_long : (text : Option (List ℕ)) (read : List ℕ) (status : ℕ) → status ≡ 1 → IfSome text (λ all. read ≡ take (most_bytes + 1) all)
-    → most_bytes < length read → IsLiveStatus text status
-status_of_long None read status one front long = subst (IsLiveStatus None) (sym one) tt
-status_of_long (Some all) read status one front long =
-    let count : length read ≡ length (take (most_bytes + 1) all) = ap length front in
-    let more : most_bytes < length all = omega (arith, long, count, length-take (most_bytes + 1) all) in
-    subst (IsLiveStatus (Some all)) (sym one) more
-
 -- a front that has no more bytes than an input may have is all
-pub all_of_front : (all read : List ℕ) → read ≡ take (most_bytes + 1) all → length read ≤ most_bytes → read ≡ all
+all_of_front : (all read : List ℕ) → read ≡ take (most_bytes + 1) all → length read ≤ most_bytes → read ≡ all
 all_of_front all read front few =
     let count : length read ≡ length (take (most_bytes + 1) all) = ap length front in
     let short : length all ≤ most_bytes + 1 = omega (arith, few, count, length-take (most_bytes + 1) all) in
     front ∙ take_all (most_bytes + 1) all short
 
--- where the front that was read is refused, so is the text
-pub unheld_of_marked : (text : Option (List ℕ)) (read : List ℕ) (why : Fault) → IfSome text (λ all. read ≡ take (most_bytes + 1) all)
-    → length read ≤ most_bytes → (why ≡ fault.Memory) ⊎ IsMarkedFault read why → IsUnheld text why
-unheld_of_marked text read why front few (inl memory) = inl memory
-unheld_of_marked None read why front few (inr marked) = inr (inr tt)
-unheld_of_marked (Some all) read why front few (inr marked) =
-    inr (inr (inr (subst (λ bytes. IsMarkedFault bytes why) (all_of_front all read front few) marked)))
+-- with a line feed behind it, that is the text
+pub text_of_front : (known : Option (List ℕ)) (read text : List ℕ) → IfSome known (λ all. read ≡ take (most_bytes + 1) all) → length read ≤ most_bytes
+    → text ≡ ended_lines read → IfSome known (λ all. text ≡ ended_lines all)
+text_of_front None read text front few same = tt
+text_of_front (Some all) read text front few same = same ∙ ap ended_lines (all_of_front all read front few)
 
-pub unheld_of_long : (text : Option (List ℕ)) (read : List ℕ) → IfSome text (λ all. read ≡ take (most_bytes + 1) all)
-    → most_bytes < length read → IsUnheld text fault.TooLarge
-unheld_of_long None read front long = inr (inr tt)
-unheld_of_long (Some all) read front long =
-    let count : length read ≡ length (take (most_bytes + 1) all) = ap length front in
-    let more : most_bytes < length all = omega (arith, long, count, length-take (most_bytes + 1) all) in
-    inr (inr (inl (more, refl)))
+-- where the front that was read has more bytes than an input may have, so has the file
+pub unread_of_long : (known : Option (List ℕ)) (read : List ℕ) → IfSome known (λ all. read ≡ take (most_bytes + 1) all)
+    → most_bytes < length read → IsUnread known fault.TooLarge
+unread_of_long known read front long = inr (inr (refl, go known front))
+  where
+    go : (known : Option (List ℕ)) → IfSome known (λ all. read ≡ take (most_bytes + 1) all) → IfSome known (λ all. most_bytes < length all)
+    go None front = tt
+    go (Some all) front =
+        let count : length read ≡ length (take (most_bytes + 1) all) = ap length front in
+        omega (arith, long, count, length-take (most_bytes + 1) all)
+
+-- a file that can't be read isn't held, and its status where no marker line is looked for
+pub unheld_of_unread : (known : Option (List ℕ)) (why : Fault) → IsUnread known why → IsUnheld known why
+unheld_of_unread known why (inl memory) = inl memory
+unheld_of_unread known why (inr (inl read)) = inr (inl read)
+unheld_of_unread None why (inr (inr (large, long))) = inr (inr tt)
+unheld_of_unread (Some all) why (inr (inr (large, long))) = inr (inr (inl (long, large)))
+
+pub status_of_unread_file : (known : Option (List ℕ)) (why : Fault) (status : ℕ) → status ≡ status_of_fault why → IsUnread known why → IsLiveStatus known status
+status_of_unread_file known why status same (inl memory) = subst (IsLiveStatus known) (sym (same ∙ ap status_of_fault memory)) refl
+status_of_unread_file known why status same (inr (inl read)) = subst (IsLiveStatus known) (sym (same ∙ ap status_of_fault read)) refl
+status_of_unread_file known why status same (inr (inr (large, long))) = subst (IsLiveStatus known) (sym (same ∙ ap status_of_fault large)) long
+
+pub check_status_of_unread : (known : Option (List ℕ)) (why : Fault) (status : ℕ) → status ≡ status_of_fault why → IsUnread known why → IsCheckStatus known status
+check_status_of_unread known why status same (inl memory) = subst (IsCheckStatus known) (sym (same ∙ ap status_of_fault memory)) refl
+check_status_of_unread known why status same (inr (inl read)) = subst (IsCheckStatus known) (sym (same ∙ ap status_of_fault read)) refl
+check_status_of_unread known why status same (inr (inr (large, long))) =
+    subst (IsCheckStatus known) (sym (same ∙ ap status_of_fault large)) (go known long)
+  where
+    go : (known : Option (List ℕ)) → IfSome known (λ all. most_bytes < length all) → IfSome known IsNoPolicy
+    go None long = tt
+    go (Some all) long = inl long
+
+-- where the text has a marker line, the file isn't held
+pub unheld_of_marked : (known : Option (List ℕ)) (text : List ℕ) (why : Fault) → IfSome known (λ all. text ≡ ended_lines all)
+    → (why ≡ fault.Memory) ⊎ IsMarkedFault text why → IsUnheld known why
+unheld_of_marked known text why same (inl memory) = inl memory
+unheld_of_marked None text why same (inr marked) = inr (inr tt)
+unheld_of_marked (Some all) text why same (inr marked) = inr (inr (inr (subst (λ bytes. IsMarkedFault bytes why) same marked)))
 
 -- a fault's status is 4 or 1
 pub status_is : (why : Fault) → (status_of_fault why ≡ 4) ⊎ (status_of_fault why ≡ 1)

@@ -5,6 +5,7 @@ pub mod InterfaceFiles
 pub mod LiveInterfaces
 pub mod MarkedPolicies
 pub mod Places
+pub mod PolicyTexts
 pub mod Readers
 pub mod SaveFiles
 pub mod Syncs

@@ -6,6 +6,7 @@ use Rattle.racl_io.specs.Faults.{policy_fault}
 use Rattle.racl_io.specs.Inputs.{InputFacts, IsInput, most_bytes}
 use Rattle.racl_io.specs.declared.fault.Fault.{Fault}
 use Rattle.racl_io.specs.declared.fault.Fault.TheVariants.{Memory, Read, TooLarge}
+use Rattle.racl_system.specs.PolicyTexts.{ended_lines}
 
 -- no marker line stands in the text, unless all of it is a policy
 abbrev pub IsUnmarked : List ℕ → Type 0
@@ -15,14 +16,14 @@ IsUnmarked text = (parts : InputFacts) → IsInput text parts → (policy : Poli
 abbrev pub IsMarkedFault : List ℕ → Fault → Type 0
 IsMarkedFault text fault = ((parts : InputFacts) × IsInput text parts) × ((cause : PolicyFault) × IsPolicyFault text cause × (fault ≡ policy_fault cause))
 
--- why the text of a policy's file is refused: it has more bytes than an input may have, or else a marker line
+-- why a policy's file with these bytes is refused: an input may not have so many, or else there is a marker line
 abbrev pub IsFileFault : List ℕ → Fault → Type 0
-IsFileFault text fault = ((most_bytes < length text) × (fault ≡ TooLarge)) ⊎ IsMarkedFault text fault
+IsFileFault bytes fault = ((most_bytes < length bytes) × (fault ≡ TooLarge)) ⊎ IsMarkedFault (ended_lines bytes) fault
 
--- why a text, as far as it is known, isn't held: memory ran out, a read failed, or it is refused
+-- why a file whose bytes are these, as far as they are known, isn't held: memory ran out, a read failed, or it is refused
 abbrev pub IsUnheld : Option (List ℕ) → Fault → Type 0
-IsUnheld text fault = (fault ≡ Memory) ⊎ ((fault ≡ Read) ⊎ IfSome text (λ all. IsFileFault all fault))
+IsUnheld bytes fault = (fault ≡ Memory) ⊎ ((fault ≡ Read) ⊎ IfSome bytes (λ all. IsFileFault all fault))
 
--- 1 where the text, as far as it is known, is refused, and else 4
+-- 1 where the file, as far as its bytes are known, is refused, and else 4
 abbrev pub IsFileStatus : Option (List ℕ) → ℕ → Type 0
-IsFileStatus text status = (status ≡ 4) ⊎ ((status ≡ 1) × IfSome text (λ all. (fault : Fault) × IsFileFault all fault))
+IsFileStatus bytes status = (status ≡ 4) ⊎ ((status ≡ 1) × IfSome bytes (λ all. (fault : Fault) × IsFileFault all fault))

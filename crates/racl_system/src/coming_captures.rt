@@ -1,5 +1,5 @@
 //! The captures of a live run on several interfaces, each of which is read as it comes.
-ghost use Rattle.std.specs.Prelude.{◌≡◌, ◌≤◌, ◌==◌, IfErr, IfNone, IfOk, IfSome, None, length};
+ghost use Rattle.std.specs.Prelude.{◌≡◌, ◌+◌, ◌≤◌, ◌==◌, IfErr, IfNone, IfOk, IfSome, None, length};
 ghost use Rattle.std.specs.List.{list_any};
 ghost use Rattle.racl_io.specs.Inputs.{most_bytes};
 ghost use Rattle.racl_system.specs.LiveInterfaces.{AreApart, IsComingStatus, IsFirstTwice, interfaces_of};
@@ -11,6 +11,7 @@ use crate::merged_files::{MergedFile, hand_merged};
 use crate::named_reader::opened_reader;
 use crate::say_and_answer_status::say_fault;
 use crate::say_policy_remarks::{Seen, say_unlooked};
+use crate::system_files::refuse_folder;
 use capture_stream::{Arrival, Arrivals, FaultAt};
 use crossbeam_channel::{Receiver, Sender, bounded};
 use racl_io::{Device, Fault};
@@ -113,9 +114,13 @@ fn begin_capture<T: Threads + Wait + Copy + Send + 'static>(
         interface,
         to,
     };
-    if name != "-" && metadata(system, name)?.is_file() {
-        files.push(MergedFile::new(feed, File::open(system, name)?))?;
-        return Ok(());
+    if name != "-" {
+        let found = metadata(system, name)?;
+        refuse_folder(&found)?;
+        if found.is_file() {
+            files.push(MergedFile::new(feed, File::open(system, name)?))?;
+            return Ok(());
+        }
     }
     let (system, copied) = (*system, *rt);
     let name = String::from_str(alloc, name)?;
@@ -234,7 +239,7 @@ pub fn opened_live_interfaces<'a, T: Threads + Wait + Copy + Send + 'static>(
     alloc: Global,
     interfaces: &Interfaces<'_>,
 ) -> io::Result<Result<LiveInterfaces<'a, T>, u8>>
-    ensures few { IfOk result (λ found. IfOk found (λ opened. length opened.text.items ≤ most_bytes)) }
+    ensures few { IfOk result (λ found. IfOk found (λ opened. length opened.text.items ≤ most_bytes + 1)) }
     ensures left { IfOk result (λ found. IfOk found (λ opened. opened.captures.left ≡ length interfaces.now.captures.items)) }
     ensures failures { IfOk result (λ found. IfOk found (λ opened. opened.captures.failures ≡ 0)) }
     ensures status { IfOk result (λ found. IfErr found (IsLiveStatus None)) }

@@ -1,7 +1,7 @@
 //! The files of a comparison of two policies, and what is said where it fails.
-ghost use Rattle.std.specs.Prelude.{◌≡◌, ◌+◌, IfOk, IfSome, take};
-ghost use Rattle.racl_io.specs.Inputs.{most_bytes};
+ghost use Rattle.std.specs.Prelude.{◌≡◌, IfOk, IfSome};
 ghost use Rattle.racl_report.specs.Statuses.{status_of_fault};
+ghost use Rattle.racl_system.specs.PolicyTexts.{ended_lines};
 ghost use Rattle.racl_system.specs.Readers.{left_in};
 
 use crate::end_of_run::is_kind_said;
@@ -33,9 +33,9 @@ pub fn opened_diff<S: SystemFiles + Eprint>(
     files: &DiffFiles<'_>,
 ) -> io::Result<Result<DiffInput<S::Input, S::File>, u8>>
     ensures before { IfOk result (λ found. IfOk found (λ opened.
-        IfSome (S.named system.now files.now.before.now) (λ all. opened.before.items ≡ take (most_bytes + 1) all))) }
+        IfSome (S.named system.now files.now.before.now) (λ all. opened.before.items ≡ ended_lines all))) }
     ensures after { IfOk result (λ found. IfOk found (λ opened.
-        IfSome (S.named system.now files.now.after.now) (λ all. opened.after.items ≡ take (most_bytes + 1) all))) }
+        IfSome (S.named system.now files.now.after.now) (λ all. opened.after.items ≡ ended_lines all))) }
     ensures capture { IfOk result (λ found. IfOk found (λ opened.
         left_in S.Input.remaining S.File.remaining opened.capture ≡ S.named system.now files.now.capture.now)) }
 {

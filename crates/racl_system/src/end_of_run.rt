@@ -67,12 +67,7 @@ fn is_told_of_capture(rt: &HostRuntime, name: &str, front: &[u8], fault: Fault) 
 
 /// Says what a capture's file of this name is, which begins with these bytes, where it isn't read for what it is, or for its
 /// frames; and answers whether that is so.
-pub fn is_kind_said(
-    rt: &impl Eprint,
-    name: &str,
-    front: &[u8],
-    fault: Fault,
-) -> io::Result<bool> {
+pub fn is_kind_said(rt: &impl Eprint, name: &str, front: &[u8], fault: Fault) -> io::Result<bool> {
     if let Some(other) = remark(&Err(fault), front) {
         rt.eprintln(&KindRemark { name, other })?;
         return Ok(true);
@@ -153,12 +148,7 @@ fn say_unwritten(rt: &impl Eprint, ran: &Ran) -> io::Result<()> {
 }
 
 // Says how a run on files ended, but for the notes on these; and answers the status.
-fn say_ran(
-    rt: &impl Eprint,
-    alloc: Global,
-    policy: NamedPolicy<'_>,
-    ran: &Ran,
-) -> io::Result<u8>
+fn say_ran(rt: &impl Eprint, alloc: Global, policy: NamedPolicy<'_>, ran: &Ran) -> io::Result<u8>
     ensures { IfOk result (λ status. status ≡ status_of ran.now.outcome) }
 {
     if ran.is_closed {

@@ -1,6 +1,6 @@
 //! The files of a run whose verdicts are compared with expected ones, and what is said where these are wrong.
-ghost use Rattle.std.specs.Prelude.{◌≡◌, ◌≢◌, ◌+◌, IfOk, IfSome, take};
-ghost use Rattle.racl_io.specs.Inputs.{most_bytes};
+ghost use Rattle.std.specs.Prelude.{◌≡◌, ◌≢◌, IfOk, IfSome};
+ghost use Rattle.racl_system.specs.PolicyTexts.{ended_lines};
 ghost use Rattle.racl_system.specs.Readers.{left_in};
 
 use crate::live_files::{live_policy_text, opened_live};
@@ -31,9 +31,9 @@ pub fn opened_expecting<S: SystemFiles + Eprint>(
     name: &str,
 ) -> io::Result<Result<ExpectingInput<S::Input, S::File>, u8>>
     ensures text { IfOk result (λ found. IfOk found (λ opened.
-        IfSome (S.named system.now files.now.policy.now) (λ all. opened.text.items ≡ take (most_bytes + 1) all))) }
+        IfSome (S.named system.now files.now.policy.now) (λ all. opened.text.items ≡ ended_lines all))) }
     ensures expected { IfOk result (λ found. IfOk found (λ opened.
-        IfSome (S.named system.now name.now) (λ all. opened.expected.items ≡ take (most_bytes + 1) all))) }
+        IfSome (S.named system.now name.now) (λ all. opened.expected.items ≡ ended_lines all))) }
     ensures capture { IfOk result (λ found. IfOk found (λ opened.
         left_in S.Input.remaining S.File.remaining opened.capture ≡ S.named system.now files.now.capture.now)) }
 {

@@ -130,7 +130,11 @@ fn told_policy(alloc: Global, files: &[PolicyFile]) -> Result<Told, AllocError> 
 /// Writes the plain policy of the file of this name, and answers the status: 0 where it was written, 1 where a file is
 /// wrong, which is told, and 4 where memory ran out or a file or a device failed. No clause says what standard output gets:
 /// `tests/run` looks at it.
-pub fn expand_file<S: SystemFiles + Eprint>(system: &S, alloc: Global, name: &str) -> io::Result<u8> {
+pub fn expand_file<S: SystemFiles + Eprint>(
+    system: &S,
+    alloc: Global,
+    name: &str,
+) -> io::Result<u8> {
     let mut files = Vec::new(alloc);
     if let Some(status) = add_files(system, alloc, name, &mut files)? {
         return Ok(status);

@@ -1,16 +1,17 @@
 //! What an input comes from: standard input, or the files of a policy and of a capture.
-ghost use Rattle.std.specs.Prelude.{◌≡◌, ◌≤◌, ◌+◌, ◌⊎◌, IfErr, IfNone, IfOk, IfSome, codes, length, take};
+ghost use Rattle.std.specs.Prelude.{◌≡◌, ◌≤◌, ◌+◌, ◌⊎◌, ℕ, List, IfErr, IfNone, IfOk, IfSome, codes, length};
 ghost use Rattle.racl_io.specs.Inputs.{most_bytes};
 ghost use Rattle.racl_io.specs.Joined.{joined_bytes, joined_left, text_of};
 ghost use Rattle.racl_io.specs.declared.fault.Fault.TheVariants.{Memory};
 ghost use Rattle.racl_system.specs.MarkedPolicies.{IsFileStatus, IsMarkedFault, IsUnheld, IsUnmarked};
+ghost use Rattle.racl_system.specs.PolicyTexts.{IsEnded, ended_lines};
 ghost use Rattle.racl_system.specs.Readers.{left_in};
 
-use crate::named_reader::{Reader, bytes_of, opened_or_told};
+use crate::named_reader::{Reader, opened_or_told, text_of_file};
 use crate::say_and_answer_status::say_fault;
 use crate::system_files::SystemFiles;
 use acl_policy::read_policy;
-use racl_io::{Device, Fault, Joined, MOST_BYTES, split_input};
+use racl_io::{Device, Fault, Joined, split_input};
 use racl_options::Files;
 use racl_report::Hint;
 use std::alloc::Global;
@@ -43,21 +44,19 @@ fn marked_policy_fault(alloc: Global, text: &[u8]) -> Option<Fault>
     }
 }
 
-/// The text of a policy's file. TooLarge: it has more bytes than an input may. Another fault but Memory and Read: a marker line
-/// stands there.
+/// The text of a policy's file (`text_of_file`). TooLarge: it has more bytes than an input may. Another fault but Memory and Read: a
+/// marker line stands there.
 pub fn unmarked_text<R: Read + Drop>(alloc: Global, reader: R) -> Result<Vec<u8>, Fault>
-    ensures few { IfOk result (λ text. length text.items ≤ most_bytes) }
-    ensures text { IfOk result (λ text. IfSome (R.remaining reader) (λ all. text.items ≡ take (most_bytes + 1) all)) }
+    ensures few { IfOk result (λ text. length text.items ≤ most_bytes + 1) }
+    ensures text { IfOk result (λ text. IfSome (R.remaining reader) (λ all. text.items ≡ ended_lines all)) }
+    ensures ended { IfOk result (λ text. IsEnded text.items) }
     ensures unmarked { IfOk result (λ text. IsUnmarked text.items) }
     ensures fault { IfErr result (IsUnheld (R.remaining reader)) }
 {
-    let text = match bytes_of(alloc, reader) {
+    let text = match text_of_file(alloc, reader) {
         Ok(text) => text,
         Err(fault) => return Err(fault),
     };
-    if MOST_BYTES < text.len() {
-        return Err(Fault::TooLarge);
-    }
     match marked_policy_fault(alloc, &text) {
         None => Ok(text),
         Some(fault) => Err(fault),
@@ -70,8 +69,9 @@ fn text_or_told<S: Eprint, R: Read + Drop>(
     alloc: Global,
     reader: R,
 ) -> io::Result<Result<Vec<u8>, u8>>
-    ensures few { IfOk result (λ found. IfOk found (λ text. length text.items ≤ most_bytes)) }
-    ensures text { IfOk result (λ found. IfOk found (λ text. IfSome (R.remaining reader) (λ all. text.items ≡ take (most_bytes + 1) all))) }
+    ensures few { IfOk result (λ found. IfOk found (λ text. length text.items ≤ most_bytes + 1)) }
+    ensures text { IfOk result (λ found. IfOk found (λ text. IfSome (R.remaining reader) (λ all. text.items ≡ ended_lines all))) }
+    ensures ended { IfOk result (λ found. IfOk found (λ text. IsEnded text.items)) }
     ensures unmarked { IfOk result (λ found. IfOk found (λ text. IsUnmarked text.items)) }
     ensures status { IfOk result (λ found. IfErr found (IsFileStatus (R.remaining reader))) }
 {
@@ -92,9 +92,8 @@ pub fn policy_text<S: SystemFiles + Eprint>(
     alloc: Global,
     name: &str,
 ) -> io::Result<Result<Vec<u8>, u8>>
-    ensures few { IfOk result (λ found. IfOk found (λ text. length text.items ≤ most_bytes)) }
-    ensures text { IfOk result (λ found. IfOk found (λ text.
-        IfSome (S.named system.now name.now) (λ all. text.items ≡ take (most_bytes + 1) all))) }
+    ensures few { IfOk result (λ found. IfOk found (λ text. length text.items ≤ most_bytes + 1)) }
+    ensures text { IfOk result (λ found. IfOk found (λ text. IfSome (S.named system.now name.now) (λ all. text.items ≡ ended_lines all))) }
     ensures unmarked { IfOk result (λ found. IfOk found (λ text. IsUnmarked text.items)) }
     ensures status { IfOk result (λ found. IfErr found (IsFileStatus (S.named system.now name.now))) }
 {
@@ -105,7 +104,17 @@ pub fn policy_text<S: SystemFiles + Eprint>(
     }
 }
 
-/// Opens the files of a policy and of a capture, and reads the policy, as of `policy_text`.
+// The bytes of a file that has this text.
+fn bytes_behind(text: Vec<u8>) -> Vec<u8>
+    ensures { (bytes : List ℕ) → text.items ≡ ended_lines bytes → result.items ≡ bytes }
+{
+    let mut bytes = text;
+    let _ = bytes.pop();
+    bytes
+}
+
+/// Opens the files of a policy and of a capture, and reads the policy, as of `policy_text`; both become one source, in which a line
+/// feed stands behind the policy's bytes.
 pub fn opened_input<S: SystemFiles + Eprint>(
     system: &S,
     alloc: Global,
@@ -115,8 +124,8 @@ pub fn opened_input<S: SystemFiles + Eprint>(
         joined_left (left_in S.Input.remaining S.File.remaining) input ≡ joined_bytes (text_of input) (S.named system.now files.now.capture.now))) }
     ensures few { IfOk result (λ found. IfOk found (λ input. length (text_of input) ≤ most_bytes)) }
     ensures text { IfOk result (λ found. IfOk found (λ input.
-        IfSome (S.named system.now files.now.policy.now) (λ all. text_of input ≡ take (most_bytes + 1) all))) }
-    ensures unmarked { IfOk result (λ found. IfOk found (λ input. IsUnmarked (text_of input))) }
+        IfSome (S.named system.now files.now.policy.now) (λ all. text_of input ≡ all))) }
+    ensures unmarked { IfOk result (λ found. IfOk found (λ input. IsUnmarked (ended_lines (text_of input)))) }
     ensures sound { IfOk result (λ found. IfOk found (λ input. input.device.failures ≡ 0)) }
     ensures status { IfOk result (λ found. IfErr found (IsFileStatus (S.named system.now files.now.policy.now))) }
 {
@@ -131,7 +140,7 @@ pub fn opened_input<S: SystemFiles + Eprint>(
         Err(error) => return Err(error),
     };
     match text_or_told(system, alloc, policy) {
-        Ok(Ok(text)) => Ok(Ok(Joined::new(text, capture))),
+        Ok(Ok(text)) => Ok(Ok(Joined::new(bytes_behind(text), capture))),
         Ok(Err(status)) => Ok(Err(status)),
         Err(error) => Err(error),
     }

@@ -1,5 +1,5 @@
 //! The files of an input whose captures come apart, and what they have.
-ghost use Rattle.std.specs.Prelude.{◌≡◌, [], ◌∷◌, ◌++◌, ◌+◌, ◌-◌, ◌<◌, ◌≤◌, ◌^◌, ◌⊎◌, IfErr, IfOk, IfSome, length, map, take};
+ghost use Rattle.std.specs.Prelude.{◌≡◌, ◌+◌, ◌-◌, ◌<◌, ◌≤◌, ◌^◌, ◌⊎◌, IfErr, IfOk, IfSome, length, map};
 ghost use Rattle.packet_view.specs.Bytes.{AreBytes};
 ghost use Rattle.racl_io.specs.Inputs.{most_bytes};
 ghost use Rattle.racl_io.specs.Transfers.{HasReadWithin};
@@ -7,6 +7,7 @@ ghost use Rattle.racl_io.specs.declared.fault.Fault.TheVariants.{Memory, Read as
 ghost use Rattle.racl_options.specs.Origins.{capture_facts};
 ghost use Rattle.racl_report.specs.InterfaceInputs.{AreAllBytes, bytes_in};
 ghost use Rattle.racl_system.specs.InterfaceFiles.{AreAllOf, AreUnread, IsInterfacesStatus, IsUnreadInput, given_by, given_in};
+ghost use Rattle.racl_system.specs.PolicyTexts.{ended_lines};
 ghost use Rattle.racl_system.specs.Readers.{left_in};
 
 use crate::input_files::unmarked_text;
@@ -103,22 +104,21 @@ fn read_interfaces<R: Read + Drop>(
     Ok(all)
 }
 
-// Reads a policy's text, which gets a line feed at its end, and then the captures behind it.
+// Reads a policy's text, and then the captures behind it.
 fn read_parts<R: Read + Drop>(
     rt: &HostRuntime,
     alloc: Global,
     policy: R,
     captures: Vec<InterfaceCapture<R>>,
 ) -> Result<InterfaceInput, Fault>
-    ensures text { IfOk result (λ input. IfSome (R.remaining policy) (λ all. input.text.items ≡ take (most_bytes + 1) all ++ 10 ∷ [])) }
+    ensures text { IfOk result (λ input. IfSome (R.remaining policy) (λ all. input.text.items ≡ ended_lines all)) }
     ensures captures { IfOk result (λ input. AreAllOf (given_by R.remaining captures.items) input.captures.items) }
     ensures fault { IfErr result (IsUnreadInput (R.remaining policy) (given_by R.remaining captures.items)) }
 {
-    let mut text = match unmarked_text(alloc, policy) {
+    let text = match unmarked_text(alloc, policy) {
         Ok(text) => text,
         Err(fault) => return Err(fault),
     };
-    text.push(b'\n')?;
     match read_interfaces(rt, alloc, text.len(), captures) {
         Ok(captures) => Ok(InterfaceInput { text, captures }),
         Err(fault) => Err(fault),
@@ -134,7 +134,7 @@ pub fn read_interface_input<S: SystemFiles + Eprint>(
     interfaces: &Interfaces<'_>,
 ) -> io::Result<Result<InterfaceInput, u8>>
     ensures text { IfOk result (λ found. IfOk found (λ input.
-        IfSome (S.named system.now interfaces.now.policy.now) (λ all. input.text.items ≡ take (most_bytes + 1) all ++ 10 ∷ []))) }
+        IfSome (S.named system.now interfaces.now.policy.now) (λ all. input.text.items ≡ ended_lines all))) }
     ensures captures { IfOk result (λ found. IfOk found (λ input.
         AreAllOf (given_in (S.named system.now) (map capture_facts interfaces.now.captures.items)) input.captures.items)) }
     ensures status { IfOk result (λ found. IfErr found (IsInterfacesStatus (S.named system.now interfaces.now.policy.now)

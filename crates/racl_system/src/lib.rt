@@ -4,6 +4,7 @@
 
 mod asked_words;
 mod capture_feeding;
+mod closed_streams;
 mod coming_captures;
 mod command_words;
 mod diff_input;
@@ -29,6 +30,7 @@ mod say_wrong_policy;
 mod system_files;
 
 pub use asked_words::Words;
+pub use closed_streams::hold_closed_streams;
 pub use coming_captures::{ComingCaptures, LiveInterfaces, opened_live_interfaces};
 pub use command_words::{asked_or_status, mistyped_status, texts_of};
 pub use diff_input::{DiffInput, opened_diff, say_capture_fault};
@@ -46,7 +48,7 @@ pub use named_reader::Reader;
 pub use output::Output;
 pub use progress::{Progress, Watched, watched_where};
 pub use save_file::{SaveFile, saves_to, say_unsaved, settled};
-pub use saved_names::say_used_twice;
+pub use saved_names::{say_read_twice, say_used_twice};
 pub use say_and_answer_status::failure_status;
 pub use say_wrong_policy::{NamedPolicy, say_policy_fault};
 pub use system_files::SystemFiles;

@@ -1,13 +1,13 @@
 //! The files of a run over a capture that comes.
-ghost use Rattle.std.specs.Prelude.{◌≡◌, ◌+◌, ◌≤◌, IfErr, IfOk, IfSome, length, take};
+ghost use Rattle.std.specs.Prelude.{◌≡◌, ◌+◌, ◌≤◌, IfErr, IfOk, IfSome, length};
 ghost use Rattle.racl_io.specs.Inputs.{most_bytes};
+ghost use Rattle.racl_system.specs.PolicyTexts.{ended_lines};
 ghost use Rattle.racl_system.specs.Readers.{IsLiveStatus, left_in};
 
-use crate::named_reader::{Reader, bytes_of, opened_or_told};
+use crate::named_reader::{Reader, opened_or_told, text_of_file};
 use crate::say_and_answer_status::say_fault;
 use crate::say_policy_remarks::{Seen, say_unlooked};
 use crate::system_files::SystemFiles;
-use racl_io::{Fault, MOST_BYTES};
 use racl_options::Files;
 use std::alloc::Global;
 use std::io;
@@ -20,15 +20,15 @@ pub struct LiveFiles<S, F> {
     pub capture: Reader<S, F>,
 }
 
-/// The text of the policy's file of a live run. Where it can't be had that is told, and the status is answered.
+/// The text of the policy's file of a live run (`text_of_file`). Where it can't be had that is told, and the status is answered.
 pub fn live_policy_text<S: SystemFiles + Eprint>(
     system: &S,
     alloc: Global,
     name: &str,
 ) -> io::Result<Result<Vec<u8>, u8>>
-    ensures few { IfOk result (λ found. IfOk found (λ text. length text.items ≤ most_bytes)) }
+    ensures few { IfOk result (λ found. IfOk found (λ text. length text.items ≤ most_bytes + 1)) }
     ensures text { IfOk result (λ found. IfOk found (λ text.
-        IfSome (S.named system.now name.now) (λ all. text.items ≡ take (most_bytes + 1) all))) }
+        IfSome (S.named system.now name.now) (λ all. text.items ≡ ended_lines all))) }
     ensures status { IfOk result (λ found. IfErr found (IsLiveStatus (S.named system.now name.now))) }
 {
     let policy = match opened_or_told(system, name) {
@@ -36,12 +36,8 @@ pub fn live_policy_text<S: SystemFiles + Eprint>(
         Ok(None) => return Ok(Err(4)),
         Err(error) => return Err(error),
     };
-    match bytes_of(alloc, policy) {
-        Ok(text) if text.len() <= MOST_BYTES => Ok(Ok(text)),
-        Ok(_) => match say_fault(system, Fault::TooLarge) {
-            Ok(status) => Ok(Err(status)),
-            Err(error) => Err(error),
-        },
+    match text_of_file(alloc, policy) {
+        Ok(text) => Ok(Ok(text)),
         Err(fault) => match say_fault(system, fault) {
             Ok(status) => Ok(Err(status)),
             Err(error) => Err(error),
@@ -56,9 +52,9 @@ pub fn opened_live<S: SystemFiles + Eprint>(
     alloc: Global,
     files: &Files<'_>,
 ) -> io::Result<Result<LiveFiles<S::Input, S::File>, u8>>
-    ensures few { IfOk result (λ found. IfOk found (λ opened. length opened.text.items ≤ most_bytes)) }
+    ensures few { IfOk result (λ found. IfOk found (λ opened. length opened.text.items ≤ most_bytes + 1)) }
     ensures text { IfOk result (λ found. IfOk found (λ opened.
-        IfSome (S.named system.now files.now.policy.now) (λ all. opened.text.items ≡ take (most_bytes + 1) all))) }
+        IfSome (S.named system.now files.now.policy.now) (λ all. opened.text.items ≡ ended_lines all))) }
     ensures capture { IfOk result (λ found. IfOk found (λ opened.
         left_in S.Input.remaining S.File.remaining opened.capture ≡ S.named system.now files.now.capture.now)) }
     ensures status { IfOk result (λ found. IfErr found (IsLiveStatus (S.named system.now files.now.policy.now))) }

@@ -7,7 +7,7 @@ use std::alloc::Global;
 use std::fs::{Metadata, metadata, read_link};
 use std::io;
 use std::io::ErrorKind;
-use std::os::unix::fs::MetadataExt;
+use std::os::unix::fs::{FileTypeExt, MetadataExt};
 use std::path::PathBuf;
 
 /// How many links a name may lead through (Linux: 40).
@@ -23,11 +23,11 @@ pub struct FileNumber {
 /// Where a name leads.
 #[derive(Drop)]
 pub enum NamedPlace {
-    /// To a regular file.
+    /// To a file that may be named once: a regular one, or a pipe that is read.
     Standing(FileNumber),
     /// To no file yet: the folder in which it would be created, and its name there.
     Unmade(FileNumber, String),
-    /// To a device or a pipe, which may be named twice, or nobody can tell where.
+    /// To a device or a pipe that may be named twice, or nobody can tell where.
     Unknown,
 }
 
@@ -111,5 +111,13 @@ pub fn place_of(rt: &HostRuntime, alloc: Global, name: &str) -> io::Result<Named
         Ok(_) => Ok(NamedPlace::Unknown),
         Err(error) if error.kind() == ErrorKind::NotFound => unmade_place(rt, alloc, name),
         Err(error) => place_refused(error),
+    }
+}
+
+/// Where this name leads, if to a pipe, whose bytes two readers would share. No clause says where names lead, as of `place_of`.
+pub fn place_of_pipe(rt: &HostRuntime, name: &str) -> NamedPlace {
+    match metadata(rt, name) {
+        Ok(found) if found.file_type().is_fifo() => NamedPlace::Standing(number_of(&found)),
+        _ => NamedPlace::Unknown,
     }
 }

@@ -2,6 +2,7 @@
 ghost use Rattle.std.specs.Prelude.{◌≡◌, ◌+◌, ◌≤◌, ◌⊎◌, IfErr, IfOk, IfSome, length, take};
 ghost use Rattle.racl_io.specs.Inputs.{most_bytes};
 ghost use Rattle.racl_io.specs.declared.fault.Fault.TheVariants.{Memory, Read as ReadFault};
+ghost use Rattle.racl_system.specs.PolicyTexts.{IsEnded, IsUnread, ended_lines};
 ghost use Rattle.racl_system.specs.Readers.{left_in};
 
 use crate::system_files::SystemFiles;
@@ -73,4 +74,23 @@ pub fn bytes_of<R: Read + Drop>(alloc: Global, reader: R) -> Result<Vec<u8>, Fau
         Ok(_) => Ok(bytes),
         Err(fault) => Err(fault),
     }
+}
+
+/// The text of a policy's file, or of another that is written in lines: its bytes and a line feed, which ends its last line as that
+/// of an input whose capture follows. TooLarge: the file has more bytes than an input may have.
+pub fn text_of_file<R: Read + Drop>(alloc: Global, reader: R) -> Result<Vec<u8>, Fault>
+    ensures few { IfOk result (λ text. length text.items ≤ most_bytes + 1) }
+    ensures text { IfOk result (λ text. IfSome (R.remaining reader) (λ all. text.items ≡ ended_lines all)) }
+    ensures ended { IfOk result (λ text. IsEnded text.items) }
+    ensures fault { IfErr result (IsUnread (R.remaining reader)) }
+{
+    let mut text = match bytes_of(alloc, reader) {
+        Ok(text) => text,
+        Err(fault) => return Err(fault),
+    };
+    if MOST_BYTES < text.len() {
+        return Err(Fault::TooLarge);
+    }
+    text.push(b'\n')?;
+    Ok(text)
 }

@@ -1,8 +1,8 @@
-//! Whether files that packets are to be saved in are others than those that the run uses besides.
+//! Whether no pipe is read twice, and files that packets are to be saved in are others than those that the run uses besides.
 ghost use Rattle.std.specs.Prelude.{◌≡◌, ◌<◌, IfOk, IfSome, None, Ok, length, position};
 ghost use Rattle.racl_system.specs.Places;
 
-use crate::named_place::{NamedPlace, is_one_file, place_of};
+use crate::named_place::{NamedPlace, is_one_file, place_of, place_of_pipe};
 use racl_options::{Files, Saved};
 use racl_report::shown_name;
 use std::alloc::Global;
@@ -36,15 +36,52 @@ fn first_at(place: &NamedPlace, used: &[Used<'_>]) -> Option<usize>
     used.iter().position(|it| is_one_file(place, &it.place))
 }
 
-// A file that is read by this name, or standard input.
-fn used_input<'a>(rt: &HostRuntime, alloc: Global, name: &'a str) -> io::Result<Used<'a>> {
-    let is_stream = name == "-";
-    let place = place_of(rt, alloc, if is_stream { INPUT } else { name })?;
-    Ok(Used {
-        name: if is_stream { "standard input" } else { name },
+// The name that the system has for what is read by this one, which may be standard input.
+fn input_name(name: &str) -> &str {
+    if name == "-" { INPUT } else { name }
+}
+
+// A file that is read by this name, or standard input, at this place.
+fn used_input(name: &str, place: NamedPlace) -> Used<'_> {
+    Used {
+        name: if name == "-" { "standard input" } else { name },
         fate: "which is read",
         place,
-    })
+    }
+}
+
+// Says that the file of this name is one that the run uses besides, and answers the status.
+fn say_one_file(rt: &HostRuntime, name: &str, used: &Used<'_>) -> io::Result<u8>
+    ensures { IfOk result (λ status. status ≡ 2) }
+{
+    let Used {
+        name: other,
+        fate,
+        ..
+    } = used;
+    let (shown, other) = (shown_name(name), shown_name(other));
+    rt.eprintln(format_args!("racl: {shown}: the same file as {other}, {fate}"))?;
+    Ok(ONE_FILE_TWICE)
+}
+
+/// Says which of these names that are read leads to the same pipe as one before, and answers the status then. Nothing is opened. No
+/// clause says which files names lead to, as of `place_of`.
+pub fn say_read_twice<'a>(
+    rt: &HostRuntime,
+    alloc: Global,
+    names: &'a [&'a str],
+) -> io::Result<Option<u8>>
+    ensures { IfOk result (λ found. IfSome found (λ status. status ≡ 2)) }
+{
+    let mut used = Vec::new(alloc);
+    for name in names {
+        let place = place_of_pipe(rt, input_name(name));
+        if let Some(first) = first_at(&place, used.as_slice()) {
+            return Ok(Some(say_one_file(rt, name, &used[first])?));
+        }
+        used.push(used_input(name, place))?;
+    }
+    Ok(None)
 }
 
 // The files that a run uses besides those in which it saves packets.
@@ -55,7 +92,7 @@ fn used_besides<'a>(
 ) -> io::Result<Vec<Used<'a>>> {
     let mut used = Vec::new(alloc);
     for name in [files.policy, files.capture] {
-        used.push(used_input(rt, alloc, name)?)?;
+        used.push(used_input(name, place_of(rt, alloc, input_name(name))?))?;
     }
     for (name, stream) in [("standard output", OUTPUT), ("standard error", MESSAGES)] {
         used.push(Used {
@@ -88,14 +125,7 @@ pub fn say_used_twice<'a>(
         };
         let place = place_of(rt, alloc, name)?;
         if let Some(first) = first_at(&place, used.as_slice()) {
-            let Used {
-                name: other,
-                fate,
-                ..
-            } = &used[first];
-            let (shown, other) = (shown_name(name), shown_name(other));
-            rt.eprintln(format_args!("racl: {shown}: the same file as {other}, {fate}"))?;
-            return Ok(Some(ONE_FILE_TWICE));
+            return Ok(Some(say_one_file(rt, name, &used[first])?));
         }
         used.push(Used {
             name,

@@ -19,7 +19,10 @@ pub struct NamedPolicy<'a> {
 
 // Whether a fault is of a policy.
 fn is_of_policy(fault: Fault) -> bool {
-    matches!(fault, Fault::NotUtf8 | Fault::BadLine(_) | Fault::TooMany(_))
+    matches!(
+        fault,
+        Fault::NotUtf8 | Fault::BadLine(_) | Fault::TooMany(_)
+    )
 }
 
 // Says which line of a policy is wrong, and why, where that is the fault; whether it was said, which isn't so where memory runs
@@ -54,7 +57,10 @@ pub fn say_ended(
 ) -> io::Result<u8>
     ensures { IfOk result (λ status. status ≡ status_of outcome.now) }
 {
-    let Ending { mut message, status } = ending(outcome);
+    let Ending {
+        mut message,
+        status,
+    } = ending(outcome);
     if let Err(fault) = outcome {
         if is_wrong_policy_said(rt, alloc, policy, *fault)? {
             message = None;

@@ -3,12 +3,20 @@ ghost use Rattle.std.specs.Prelude.{◌≡◌, ℕ, List, Option, None, IfOk, Is
 ghost use Rattle.racl_options.specs.Origins.{is_standard};
 
 use crate::draft::{Draft, created_draft};
-use std::fs::{File, remove_file};
+use std::fs::{File, Metadata, remove_file};
 use std::io;
 use std::io::{IsTerminal, Read, Stdin, Stdout, Write};
 
 /// The number of the system's reason for what a folder refuses (Linux: EISDIR).
 const IS_A_DIRECTORY: i32 = 21;
+
+/// An `Err` where a folder was found, whose bytes can't be read.
+pub fn refuse_folder(found: &Metadata) -> io::Result<()> {
+    if found.is_dir() {
+        return Err(io::Error::from_raw_os_error(IS_A_DIRECTORY));
+    }
+    Ok(())
+}
 
 /// What the program asks of a system that has files by names. Where these tell their bytes, so does all that stands on
 /// them. The operating system's don't: `tests/run` looks at what a name opens there.
@@ -81,9 +89,7 @@ impl SystemFiles for HostRuntime {
 
     fn opened_file(&self, name: &str) -> io::Result<File> {
         let file = File::open(self, name)?;
-        if file.metadata()?.is_dir() {
-            return Err(io::Error::from_raw_os_error(IS_A_DIRECTORY));
-        }
+        refuse_folder(&file.metadata()?)?;
         Ok(file)
     }
 
