@@ -5,6 +5,10 @@ use Rattle.rule_index.specs.declared.column.Column.{Column}
 use Rattle.rule_index.specs.Numbered.{AreOf, Laid, numbered_bit}
 use Rattle.rule_index.specs.Rows.{IsPlace, IsWithin}
 
+-- the most intervals of a column
+abbrev pub most_intervals : ℕ
+most_intervals = 5000
+
 -- Each range has its bit in each row that may be of a number of the range.
 pub record Holds (ranges : List (ℕ × ℕ)) (column : Column) : Type 0 where
   pub width : column.width ≡ length ranges / 64 + 1

@@ -1,8 +1,13 @@
 //! Where the intervals of a column begin.
-ghost use Rattle.std.specs.Prelude.{◌≤◌, ◌+◌, ◌*◌, IfOk, length};
+ghost use Rattle.std.specs.Prelude.{◌≤◌, ◌<◌, ◌+◌, ◌*◌, IfOk, length};
 ghost use Rattle.rule_index.specs.Rows.{AreStarts, IsPlace};
+ghost use Rattle.rule_index.specs.inner.Columns.{most_intervals};
 
 use std::alloc::{AllocError, Global};
+
+/// The most intervals of a column. Where ranges have more bounds, intervals that follow each other are taken together, so that a
+/// column of the most rules takes half a mebibyte.
+const MOST_INTERVALS: usize = 5000;
 
 /// The last interval that begins at a number or below it.
 pub fn place(starts: &[u128], x: u128) -> usize
@@ -21,10 +26,10 @@ pub fn place(starts: &[u128], x: u128) -> usize
     row
 }
 
-/// An interval begins at 0, where a range begins, and after its end.
+/// An interval begins at 0, and where a range begins or after its end: at each of these bounds where they are few.
 pub fn starts_of(alloc: Global, ranges: &[(u128, u128)]) -> Result<Vec<u128>, AllocError>
     ensures starts { IfOk result (λ starts. AreStarts starts.items) }
-    ensures few { IfOk result (λ starts. length starts.items ≤ 2 * length ranges.now + 1) }
+    ensures few { IfOk result (λ starts. length starts.items ≤ most_intervals) }
 {
     let mut bounds = Vec::new(alloc);
     for range in ranges {
@@ -34,23 +39,26 @@ pub fn starts_of(alloc: Global, ranges: &[(u128, u128)]) -> Result<Vec<u128>, Al
         }
     }
     bounds.sort_unstable();
-    distinct(alloc, &bounds)
+    bounds.dedup();
+    thin(alloc, &bounds)
 }
 
-/// The starts of intervals: 0, and then each number that is above all before it.
-fn distinct(alloc: Global, bounds: &[u128]) -> Result<Vec<u128>, AllocError>
+/// The starts of intervals: 0, and of the bounds each where they are few, else each second one, or third one, and so on.
+fn thin(alloc: Global, bounds: &[u128]) -> Result<Vec<u128>, AllocError>
     ensures starts { IfOk result (λ starts. AreStarts starts.items) }
-    ensures few { IfOk result (λ starts. length starts.items ≤ length bounds.now + 1) }
+    ensures few { IfOk result (λ starts. length starts.items ≤ most_intervals) }
 {
+    let step = bounds.len() / MOST_INTERVALS + 1;
     let mut starts = Vec::new(alloc);
     starts.push(0)?;
     let mut last = 0;
-    for bound in bounds {
-        if *bound <= last {
+    for k in 0..bounds.len() / step {
+        let bound = bounds[k * step];
+        if bound <= last {
             continue;
         }
-        starts.push(*bound)?;
-        last = *bound;
+        starts.push(bound)?;
+        last = bound;
     }
     Ok(starts)
 }

@@ -1,10 +1,10 @@
-use Rattle.std.proofs.Common.{◌≤◌, ◌<◌, ◌-◌, ◌++◌, ◌∙◌, ℕ, List, [], ◌∷◌, length, get_or, ap, subst, sym, arith}
+use Rattle.std.proofs.Common.{◌≤◌, ◌<◌, ◌-◌, ◌+◌, ◌*◌, ◌/◌, ◌++◌, ◌∙◌, ℕ, List, [], ◌∷◌, length, get_or, ap, subst, sym, arith}
 use Rattle.std.specs.Prelude.{slice_index}
 use Rattle.std.proofs.Math.ListN.{get_or-append}
 use Rattle.std.proofs.lemmas.List.{get_or_default, get_or_push, length_push}
 use Rattle.std.proofs.lemmas.List.Sorted.{IsNonDecreasingBy-push}
 use Rattle.rule_index.specs.Rows.{AreStarts}
-use Rattle.rule_index.proofs.column.interval_starts.distinct.Goals as goal
+use Rattle.rule_index.proofs.column.interval_starts.thin.Goals as goal
 
 -- each of the starts is at most this
 abbrev AreUpTo : List ℕ → ℕ → Type 0
@@ -22,14 +22,14 @@ more_starts starts x last are up above = record {
 more_up : (starts : List ℕ) (x last : ℕ) → AreUpTo starts last → last < x → AreUpTo (starts ++ x ∷ []) x
 more_up starts x last up above k within = grind (arith, length_push starts x, get_or-append, get_or_push, up)
 
-pub loop-bound-preserved : goal.loop-bound-preserved
-loop-bound-preserved c =
-    let starts = c.loop-bound.starts.items in
-    let last = c.loop-bound.last in
-    let bound : ℕ = get_or c.args.bounds.now c.loop-bound.bound-index 0 in
+pub loop-k-preserved : goal.loop-k-preserved
+loop-k-preserved c =
+    let starts = c.loop-k.starts.items in
+    let last = c.loop-k.last in
+    let bound : ℕ = get_or c.args.bounds.now (c.loop-k.k * (length c.args.bounds.now / 5000 + 1)) 0 in
     let pushed = c.in_ok-push-2.ensures.items in
     record {
-      ordered = subst AreStarts (sym pushed) (more_starts starts bound last c.loop-bound.invariant.ordered c.loop-bound.invariant.last c.if-bound-last.false);
+      ordered = subst AreStarts (sym pushed) (more_starts starts bound last c.loop-k.invariant.ordered c.loop-k.invariant.last c.if-bound-last.false);
       few = omega (arith, ap length pushed, length_push starts bound);
-      last = subst (λ (s : List ℕ). AreUpTo s bound) (sym pushed) (more_up starts bound last c.loop-bound.invariant.last c.if-bound-last.false);
+      last = subst (λ (s : List ℕ). AreUpTo s bound) (sym pushed) (more_up starts bound last c.loop-k.invariant.last c.if-bound-last.false);
     }
