@@ -89,7 +89,7 @@ at_each P home at here other =
     ] refl
 
 -- a packet's update is of its reading's moment
-patch_is : (times : Timeouts) (reading : Reading) (u : Update) → update_of times reading ≡ Some u
+pub patch_is : (times : Timeouts) (reading : Reading) (u : Update) → update_of times reading ≡ Some u
     → (moment_of_reading reading ≡ Some u.patch.moment) × (times ≡ u.patch.times)
 patch_is times (Framed verdict) u is = let c : ⊥ = cc in absurd c
 patch_is times (Ruled moment tuple ruling) u is = go (flow_of tuple) is
@@ -135,7 +135,7 @@ more_removed l times r steps rest js least maps aged counts aged_counts same thr
     })
 
 -- the moments go on from one of a packet that has none, or from its own
-goes_on : (least : ℕ) (moment : Option ℕ) (moments : List (Option ℕ)) → NeverFall least (moment ∷ moments)
+pub goes_on : (least : ℕ) (moment : Option ℕ) (moments : List (Option ℕ)) → NeverFall least (moment ∷ moments)
     → (next : ℕ) × (least ≤ next) × NeverFall next moments
 goes_on least None moments in_time = (least, le_refl least, in_time)
 goes_on least (Some moment) moments in_time = (moment, in_time.0, in_time.1)
@@ -362,6 +362,21 @@ as_many [] (k ∷ ks) same = let f : ⊥ = cc in absurd f
 as_many (j ∷ js) [] same = let f : ⊥ = cc in absurd f
 as_many (j ∷ js) (k ∷ ks) same = let rest : readings_of js ≡ readings_of ks = cc in ap suc (as_many js ks rest)
 
+-- no bucket is worn for the packets of the one-thread filter, nor where so few steps are made on the same packets
+pub unworn_both : (l : Layout) (times : Timeouts) (policy : PolicyFacts) (packets : List PacketFacts) (verdicts : List Verdict)
+    (steps : List Step) (all : AreVerdicts l times policy packets verdicts) → IsAgedThread l times nothing steps
+    → readings_of (packets_in steps) ≡ readings_of all.judged → ((family : Family) → length steps ≤ (bounds_in l family).limit)
+    → All IsUnworn all.judged × All IsUnworn (packets_in steps)
+unworn_both l times policy packets verdicts steps all aged same few =
+    let js = all.judged in
+    let long = as_many (packets_in steps) js same in
+    let short = fewer_packets steps in (
+      unworn_thread l times js nothing (λ home. 0) (of_one_thread l times nothing js all.one_thread)
+          (λ home. let limit = few home.family in omega arith),
+      unworn_steps l times steps nothing (λ home. 0) (record { right = aged.right; runs = aged.runs })
+          (λ home. let limit = few home.family in omega arith),
+    )
+
 -- the one-thread filter's verdicts are those of a filter that ages
 pub aged_verdicts : (l : Layout) (times : Timeouts) (policy : PolicyFacts) (packets : List PacketFacts) (verdicts : List Verdict)
     (steps : List Step) → AreVerdicts l times policy packets verdicts → IsAgedThread l times nothing steps
@@ -371,13 +386,9 @@ aged_verdicts l times policy packets verdicts steps all aged read few =
     let js = all.judged in
     let same : readings_of (packets_in steps) ≡ readings_of js
     = one_readings policy packets (readings_of (packets_in steps)) (readings_of js) read all.read in
-    let long = as_many (packets_in steps) js same in
-    let short = fewer_packets steps in
+    let unworn = unworn_both l times policy packets verdicts steps all aged same few in
     let none = len-empty (slice_cmp nat_cmp) ℕ in
-    removals_change_no_verdict l times nothing js steps (λ home. omega (arith, none)) all.one_thread aged same
-    (unworn_thread l times js nothing (λ home. 0) (of_one_thread l times nothing js all.one_thread)
-    (λ home. let limit = few home.family in omega arith))
-    (unworn_steps l times steps nothing (λ home. 0) (record { right = aged.right; runs = aged.runs }) (λ home. let limit = few home.family in omega arith))
+    removals_change_no_verdict l times nothing js steps (λ home. omega (arith, none)) all.one_thread aged same unworn.0 unworn.1
     ∙ sym all.said
 
 -- what was removed is live for no packet from then on

@@ -4,6 +4,7 @@ pub mod ApartLemmas
 pub mod AskedLemmas
 pub mod FullLemmas
 pub mod HomeLemmas
+pub mod LiveLemmas
 pub mod NumberLemmas
 pub mod OneThreadLemmas
 pub mod OrderLemmas

@@ -1,5 +1,6 @@
 -- The one-thread filter that ages: between packets, sessions that have ended are removed (this project's profile).
-use Rattle.std.specs.Prelude.{◌≡◌, ◌≢◌, ◌<◌, ◌≤◌, ◌^◌, ℕ, true, if◌then◌else◌, List, [], ◌∷◌, Option, Some, None, All, map}
+use Rattle.std.specs.Prelude.{◌≡◌, ◌≢◌, ◌<◌, ◌≤◌, ◌^◌, ◌↔◌, ℕ, false, true, if◌then◌else◌, List, [], ◌∷◌, Option, Some, None, All, map}
+use Rattle.std.specs.FinMap.{get}
 use Rattle.bihash_words.specs.Maps.{Event, Pairs}
 use Rattle.bihash_words.specs.Runs.{IsRun}
 use Rattle.bihash_words.specs.declared.patch.Change.TheVariants.{Remove}
@@ -85,6 +86,11 @@ pub record IsAgedThread (l : Layout) (times : Timeouts) (opening : Home → Pair
   pub runs : (home : Home) → IsHome l home → (last : Pairs) × (writes : ℕ)
       × IsRun (bounds_in l home.family) (opening home) 0 (steps_at l home steps) last writes
   pub in_time : NeverFall 0 (map moment_of steps)
+
+-- the maps hold the same sessions that are live at this moment
+abbrev pub HoldSameLive : Timeouts → ℕ → Pairs → Pairs → Type 0
+HoldSameLive times moment m n = (key : List ℕ) (value : ℕ) → is_expired_at times moment value ≡ false
+    → (get m key ≡ Some value) ↔ (get n key ≡ Some value)
 
 -- the packet's bucket was not worn
 abbrev pub IsNotWorn : Reply → Type 0

@@ -16,8 +16,8 @@ mod verdict_laws;
 mod verdict_table_laws;
 
 pub use ageing_laws::{
-    ageing_filter_says_the_same, removed_sessions_are_live_for_no_later_packet,
-    removing_ended_sessions_changes_no_verdict,
+    ageing_filter_keeps_what_is_live, ageing_filter_says_the_same,
+    removed_sessions_are_live_for_no_later_packet, removing_ended_sessions_changes_no_verdict,
 };
 pub use interface_filters::{InterfaceFilter, InterfaceFilters};
 pub use lazy_patch::{HasReading, LazyPatch};
