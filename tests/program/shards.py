@@ -85,8 +85,8 @@ class Shards(Case):
         empty, none = self.hold("empty", b""), f"{self.folder}/none"
         for names, why in (([one, two], b"no report is of 3"), ([one, two, two], b"shard 2 stands twice"), ([one, two, three, three], b"twice"),
                            ([one, two, stale], b"different captures"), ([one, two, of_four], b"different numbers of shards"),
-                           ([one, two, objects], b"JSON"), ([one, two, counts], b"count the same"), ([one, two, failed], b"its run failed"),
-                           ([one, two, empty], b"its run failed"), ([one, two, none], b"can't be read"), ([], b"takes the reports")):
+                           ([one, two, objects], b"JSON"), ([one, two, counts], b"count the same"), ([one, two, failed], b"doesn't say"),
+                           ([one, two, empty], b"doesn't say"), ([one, two, none], b"can't be read"), ([], b"takes the reports")):
             got = self.merge(*names)
             self.compare({"stdout": got["stdout"], "status": got["status"], "said": why in got["stderr"]}, {"stdout": b"", "status": 1, "said": True}, why)
 
