@@ -100,6 +100,7 @@ INCLUDED = [
     ("wrong lines of both files", {"main": "in allow ipv4 any any\ninclude a\n", "a": "\nin deny ipv4 any any tcp dport 70000\n"},
      ("main:1: `allow` is no action: deny, permit or permit+reflect\nracl: {}/a:2: `70000` is over 65535", 1)),
     ("an included file that is not UTF-8", {"main": "include a\n", "a": b"\xff\n"}, ("main:1: includes a file that is not UTF-8", 1)),
+    ("a file that is not UTF-8 from its third line on", {"main": b"in deny ipv4 any any\n\nin \xff\n\xff\n"}, ("main:3: is not UTF-8", 1)),
     ("an included file that isn't there", {"main": "set web 10.0.0.1\ninclude a\n", "a": "\ninclude sub/b\n", "sub/a": ""},
      ("a:2: {}/sub/b: No such file or directory (os error 2)", 4)),
 ]
@@ -138,6 +139,14 @@ class Expansions(Case):
         want = wanted(f"in deny ipv4 any any # {rules}:1\n".encode())
         self.compare(self.program.run(["expand", sub]), want)
         self.compare(self.program.run(["expand", "-"], f"include {rules}\n".encode()), want)
+
+    @each([("a wrong line", b"in allow ipv4 any any\n", "1: `allow` is no action: deny, permit or permit+reflect", 1),
+           ("a line without its name", b"\ninclude\n", "2: ends too early", 1),
+           ("no UTF-8", b"\xff", "1: is not UTF-8", 1)])
+    def names_with_control_bytes(self, text, said, status):
+        """Each byte of a file's name that isn't printable ASCII is told as its number, so that a terminal shows it."""
+        path = self.hold("\x1b[31mrules\x7f", text)
+        self.compare(self.program.run(["expand", path]), wanted(b"", f"racl: {self.folder}/\\x1b[31mrules\\x7f:{said}\n", status))
 
     def test_example(self):
         """The expansion of the example is a policy, and that of a plain one."""

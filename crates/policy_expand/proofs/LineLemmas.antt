@@ -5,7 +5,7 @@ use Rattle.acl_policy.specs.Lines.{Begins, Say}
 use Rattle.policy_expand.specs.Sections.{BeginAlike}
 use Rattle.policy_expand.specs.Written.{LineWritten, Nothing, Plain, Rule, word_text}
 use Rattle.policy_expand.specs.WrittenLines.{IsReadAs}
-use Rattle.policy_expand.specs.inner.Rows.{line_rows}
+use Rattle.policy_expand.specs.Rows.{line_rows}
 use Rattle.policy_expand.specs.declared.set_lists.NamedSet.{NamedSet}
 use Rattle.policy_expand.specs.declared.visible_word.Word.{Word}
 use Rattle.policy_expand.proofs.RuleLemmas.{long_rows, rule_alike}

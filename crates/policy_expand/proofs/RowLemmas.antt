@@ -7,7 +7,7 @@ use Rattle.std.specs.Prelude.{filter}
 use Rattle.policy_expand.specs.Meaning.{AreChosen, IsOneOf}
 use Rattle.policy_expand.specs.Written.{list_words}
 use Rattle.policy_expand.specs.declared.visible_word.WordList.{WordList}
-use Rattle.policy_expand.specs.inner.Rows.{grown}
+use Rattle.policy_expand.specs.Rows.{grown}
 use Rattle.policy_expand.specs.declared.visible_word.Word.{Word}
 
 pub one_of-left : {X : Type 0} (x : X) (xs ys : List X) → IsOneOf x xs → IsOneOf x (xs ++ ys)

@@ -17,7 +17,7 @@ use Rattle.acl_policy.proofs.PrefixLaws.{prefix_in-complete}
 use Rattle.policy_expand.specs.Families.{is_of_other, kept}
 use Rattle.policy_expand.specs.Meaning.{AreChosen, IsOneOf, MatchAlike, MatchesPlain, MatchesWritten}
 use Rattle.policy_expand.specs.Written.{AreFamilies, Rule, RuleWritten, word_text}
-use Rattle.policy_expand.specs.inner.Rows.{family_rows, rule_rows, rows_by_family}
+use Rattle.policy_expand.specs.Rows.{family_rows, rule_rows, rows_by_family}
 use Rattle.policy_expand.specs.declared.visible_word.Word.{Word}
 use Rattle.policy_expand.proofs.RowLemmas.{in_rows, one_of-append, one_of-filter, one_of-kept, one_of-left, one_of-right, to_rows}
 

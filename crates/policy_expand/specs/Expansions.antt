@@ -3,6 +3,7 @@ use Rattle.std.specs.Prelude.{◌≡◌, ℕ, List, [], ◌∷◌, ◌++◌, map
 use Rattle.acl_policy.specs.Words.{without_comment, words_of}
 use Rattle.policy_expand.specs.IcmpParts.{IsOfOneIcmp}
 use Rattle.policy_expand.specs.Meaning.{MatchAlike}
+use Rattle.policy_expand.specs.Rows.{line_rows}
 use Rattle.policy_expand.specs.Sections.{BeginAlike}
 use Rattle.policy_expand.specs.Sources.{SourceFacts}
 use Rattle.policy_expand.specs.Texts.{place_mark, plain_text}
@@ -11,13 +12,14 @@ use Rattle.policy_expand.specs.WrittenLines.{IsReadAs}
 use Rattle.policy_expand.specs.declared.set_lists.NamedSet.{NamedSet}
 use Rattle.policy_expand.specs.declared.visible_word.Word.{Word}
 
--- A line behind these sets is read as what is written, behind it there are those sets, and the text that is added is of
--- plain lines that match and begin sections as it does, each with a comment that names the line's place; a rule for both
+-- A line behind these sets is read as what is written, behind it there are those sets, and the text that is added is of the
+-- plain lines that it stands for, which match and begin sections as it does, each with a comment that names the line's place; a rule for both
 -- families names no message of ICMP, which would be another one in each.
 pub record IsLineExpanded (sets : List NamedSet) (line : SourceFacts) (news : List NamedSet) (written : LineWritten) (rows : List (List Word)) (added : List ℕ) : Type 0 where
   pub words : List Word
   pub said : map word_text words ≡ words_of (without_comment line.text)
   pub read : IsReadAs sets words written news
+  pub stands : rows ≡ line_rows written
   pub icmp : IsOfOneIcmp written
   pub alike : MatchAlike written rows
   pub begin : BeginAlike written rows

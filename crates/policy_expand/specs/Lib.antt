@@ -6,6 +6,7 @@ pub mod Inclusions
 pub mod Lists
 pub mod Meaning
 pub mod Missing
+pub mod Rows
 pub mod Sections
 pub mod Sources
 pub mod Texts
@@ -14,4 +15,3 @@ pub mod Visible
 pub mod WholePolicies
 pub mod Written
 pub mod WrittenLines
-pub mod inner

@@ -5,7 +5,7 @@ ghost use Rattle.policy_expand.specs.IcmpParts.{IsOfOneIcmp};
 ghost use Rattle.policy_expand.specs.Sources.{source_facts};
 ghost use Rattle.policy_expand.specs.Written.{LineWritten, list_words};
 ghost use Rattle.policy_expand.specs.WrittenLines.{line_written};
-ghost use Rattle.policy_expand.specs.inner.Rows;
+ghost use Rattle.policy_expand.specs.Rows;
 ghost use Rattle.policy_expand.specs.declared.visible_word.Word.{Word};
 
 use crate::file_lines::SourceLine;

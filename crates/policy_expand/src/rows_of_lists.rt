@@ -1,7 +1,7 @@
 //! Rows of words, one of each list, the words of the first lists changing last.
 ghost use Rattle.std.specs.Prelude.{◌≡◌, ◌++◌, ◌∷◌, [], OnOk, IfOk, map, fold};
 ghost use Rattle.policy_expand.specs.Written.{list_words};
-ghost use Rattle.policy_expand.specs.inner.Rows.{grown};
+ghost use Rattle.policy_expand.specs.Rows.{grown};
 
 use crate::visible_word::{Word, WordList};
 use crate::written_fault::{LineFault, WrittenReason, wrong};

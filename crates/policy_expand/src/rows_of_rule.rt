@@ -3,7 +3,7 @@ ghost use Rattle.std.specs.Prelude.{◌≡◌, ◌∷◌, [], IfOk, filter, map,
 ghost use Rattle.policy_expand.specs.Families;
 ghost use Rattle.policy_expand.specs.Written.{list_words, word_text};
 ghost use Rattle.policy_expand.specs.WrittenLines.{rule_written};
-ghost use Rattle.policy_expand.specs.inner.Rows;
+ghost use Rattle.policy_expand.specs.Rows;
 
 use crate::rows_of_lists::{chosen_rows, next_rows};
 use crate::visible_word::{Word, WordList};

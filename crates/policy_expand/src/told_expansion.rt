@@ -1,5 +1,5 @@
 //! What is told of a written policy: the plain one, or what is wrong.
-ghost use Rattle.std.specs.Prelude.{◌≢◌, IfNone, IfOk, map};
+ghost use Rattle.std.specs.Prelude.{◌≢◌, IfNone, IfOk, IfSome, map};
 ghost use Rattle.acl_policy.specs.Policies.{IsPolicyText, PolicyFacts};
 ghost use Rattle.policy_expand.specs.Sources.{source_facts};
 ghost use Rattle.policy_expand.specs.ToldExpansions.{IsToldOf};
@@ -44,7 +44,8 @@ fn push_told_fault<R: Display>(
     word: &[u8],
     reason: &R,
 ) -> Result<(), AllocError> {
-    out.push_str(format!(in alloc; "racl: {}:{}: ", line.file, line.number)?.as_str())?;
+    let file = line.file.as_bytes().escape_ascii();
+    out.push_str(format!(in alloc; "racl: {file}:{}: ", line.number)?.as_str())?;
     if !word.is_empty() {
         out.push('`')?;
         push_shown_word(alloc, out, word)?;
@@ -71,7 +72,8 @@ fn told_complaints(
     lines: &[SourceLine<'_>],
     expansion: &Expansion,
 ) -> Result<Option<String>, AllocError>
-    ensures { IfOk result (λ told. IfNone told ((policy : PolicyFacts) × IsPolicyText expansion.now.text.items policy)) }
+    ensures none { IfOk result (λ told. IfNone told ((policy : PolicyFacts) × IsPolicyText expansion.now.text.items policy)) }
+    ensures some { IfOk result (λ told. IfSome told (λ _. (policy : PolicyFacts) → IsPolicyText expansion.now.text.items policy → ⊥)) }
 {
     let checked = check_policy(alloc, expansion.text.as_slice())?;
     if checked.complaints.is_empty() {

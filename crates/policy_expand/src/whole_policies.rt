@@ -15,6 +15,16 @@ pub enum Whole<'a> {
     Faults(String),
 }
 
+// The number of the line in which the text of a file stops being UTF-8.
+fn line_that_breaks(text: &[u8]) -> u64 {
+    let right = match str::from_utf8(text) {
+        Ok(_) => text,
+        Err(error) => &text[..error.valid_up_to()],
+    };
+    let ended = right.iter().filter(|byte| **byte == b'\n').count();
+    (ended as u64).saturating_add(1)
+}
+
 /// The whole text of the first of these files, which may include the others. Where there is none, nothing is told. An `Err`
 /// says that memory ran out.
 #[tactic(auto, using(crate::proofs::InclusionLemmas::first_file))]
@@ -25,8 +35,9 @@ pub fn whole_policy<'a>(alloc: Global, files: &'a [PolicyFile]) -> Result<Whole<
         return Ok(Whole::Faults(String::new(alloc)));
     };
     let Some(lines) = lines_of_file(alloc, first)? else {
-        let file = first.name.as_str();
-        return Ok(Whole::Faults(format!(in alloc; "racl: {file}: is not UTF-8\n")?));
+        let file = first.name.as_bytes().escape_ascii();
+        let number = line_that_breaks(first.text.as_slice());
+        return Ok(Whole::Faults(format!(in alloc; "racl: {file}:{number}: is not UTF-8\n")?));
     };
     match included_lines(alloc, files, lines) {
         Ok(lines) => Ok(Whole::Lines(lines)),

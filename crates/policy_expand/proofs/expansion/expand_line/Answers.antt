@@ -1,4 +1,4 @@
-use Rattle.std.proofs.Common.{◌++◌, ◌∙◌, List, ℕ, ap, ap₂, map, refl, subst}
+use Rattle.std.proofs.Common.{◌++◌, ◌∙◌, List, ℕ, ap, ap₂, map, refl, subst, sym}
 use Rattle.policy_expand.specs.Meaning.{MatchAlike}
 use Rattle.policy_expand.specs.Sections.{BeginAlike}
 use Rattle.policy_expand.specs.Sources.{source_facts}
@@ -25,6 +25,7 @@ returns c =
         words = c.in_ok-words.words.items;
         said = c.in_ok-words.ensures;
         read = c.in_ok-written.ensures;
+        stands = sym c.in_ok-rows.ensures.rows;
         icmp = c.in_ok-rows.ensures.icmp;
         alike = subst (λ (rs : List (List Word)). MatchAlike said rs) c.in_ok-rows.ensures.rows
             (line_alike c.args.sets.now.items c.in_ok-words.words.items said c.read_written_words.new.sets.items c.in_ok-written.ensures);

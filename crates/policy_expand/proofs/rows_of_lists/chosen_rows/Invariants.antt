@@ -1,6 +1,6 @@
 use Rattle.std.proofs.Common.{◌≡◌, fold, map, take}
 use Rattle.policy_expand.specs.Written.{list_words}
-use Rattle.policy_expand.specs.inner.Rows.{grown}
+use Rattle.policy_expand.specs.Rows.{grown}
 use Rattle.policy_expand.proofs.rows_of_lists.chosen_rows.Given as goal
 
 -- The rows have a word of each list so far.

@@ -1,6 +1,6 @@
 use Rattle.std.proofs.Common.{◌≡◌, map, take}
 use Rattle.policy_expand.specs.Written.{list_words}
-use Rattle.policy_expand.specs.inner.Rows.{grown}
+use Rattle.policy_expand.specs.Rows.{grown}
 use Rattle.policy_expand.proofs.rows_of_lists.grown_rows.Given as goal
 
 -- The rows so far stand with each word.

@@ -1,4 +1,4 @@
--- The rows that have a word of each list.
+-- The plain lines that a written one stands for, as rows of words: those with a word of each list (this project's profile).
 use Rattle.std.specs.Prelude.{List, ◌∷◌, ◌++◌, [], fold, map}
 use Rattle.std.specs.List.{flat_map}
 use Rattle.packet_view.specs.declared.tuple.Family.TheVariants.{V4, V6}
@@ -26,7 +26,7 @@ rows_by_family rule (first ∷ second ∷ third ∷ more) = []
 abbrev pub rule_rows : RuleWritten → List (List Word)
 rule_rows rule = rows_by_family rule rule.families
 
--- the plain lines of a written one
+-- The plain lines of a written one: none where it says nothing of its own, a plain line itself, as it is, and the rows of a rule.
 abbrev pub line_rows : LineWritten → List (List Word)
 line_rows Nothing = []
 line_rows (Plain words) = words ∷ []

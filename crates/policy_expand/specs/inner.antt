@@ -1,2 +1,0 @@
--- Definitions that go as the code goes. No promise is said by them.
-pub mod Rows
