@@ -3,6 +3,7 @@ pub mod ChunkLemmas
 pub mod DealtEvents
 pub mod DealtLists
 pub mod FewPackets
+pub mod FewRemovals
 pub mod HandedPackets
 pub mod ListCounts
 pub mod OneOwner

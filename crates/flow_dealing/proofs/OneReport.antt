@@ -91,7 +91,7 @@ module _ (d : Deal) (times : Timeouts) (policy : PolicyFacts) (packets : List Pa
       (ap (λ vs. get_elem? vs k) are.said ∙ after_map verdict_on are.judged k j at)))
 
   -- the events on a bucket lead to the map that all workers know of it
-  run_of_steps : (d.dealing ≡ Bucket) ⊎ (d.workers ≡ 1) → All (IsByOwner d) (removals_in are.steps) → (home : Home)
+  pub run_of_steps : (d.dealing ≡ Bucket) ⊎ (d.workers ≡ 1) → All (IsByOwner d) (removals_in are.steps) → (home : Home)
       → IsHome d.layout home → (writes : ℕ)
       × IsRun (bounds_in d.layout home.family) empty 0 (steps_at d.layout home are.steps)
       (map_now (view_in are.views home.family) home.bucket) writes
@@ -161,6 +161,13 @@ step_count (Removes r ∷ steps) = let more = step_count steps in omega arith
 readings_counted : (js : List Judged) → length (readings_of js) ≡ length js
 readings_counted [] = refl
 readings_counted (j ∷ js) = ap suc (readings_counted js)
+
+-- as many packets are among the steps as there are
+pub packets_counted : (d : Deal) (times : Timeouts) (policy : PolicyFacts) (packets : List PacketFacts) (verdicts : List Verdict)
+    (removals : List Removal) (are : AreJudgedBetween d times policy packets removals verdicts)
+    → length (packets_in are.steps) ≡ length packets
+packets_counted d times policy packets verdicts removals are =
+    ap length are.packets_are ∙ sym (readings_counted are.judged) ∙ sym (zip_count (IsReading policy) packets (readings_of are.judged) are.read)
 
 pub one_report_ageing : (d : Deal) (times : Timeouts) (ages : Bool) (policy : PolicyFacts) (packets : List PacketFacts)
     (verdicts : List Verdict) (v : Views) (are : AreJudgedAgeing d times ages policy packets verdicts v)

@@ -141,6 +141,10 @@ pub record AreJudgedAgeing (d : Deal) (times : Timeouts) (ages : Bool) (policy :
 abbrev pub AreWithinLimit : Deal → List PacketFacts → List Removal → Type 0
 AreWithinLimit d packets removals = (family : Family) → length packets + length removals ≤ (bounds_in d.layout family).limit
 
+-- twice as many packets are no more than these
+abbrev pub AreWithinHalf : Deal → List PacketFacts → Type 0
+AreWithinHalf d packets = (family : Family) → 2 * length packets ≤ (bounds_in d.layout family).limit
+
 -- Each session is removed by the worker of its bucket, moments never fall, and packets and removals are no more than the
 -- writes that a bucket may have.
 pub record RemoveInTime (d : Deal) (steps : List Step) : Type 0 where

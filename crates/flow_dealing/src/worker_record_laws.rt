@@ -1,7 +1,7 @@
 //! What traces and records of all workers mean for the verdicts.
 //!
 //! The functions do nothing: their contracts are the laws.
-ghost use Rattle.std.specs.Prelude.{◌≡◌, ◌⊎◌, ◌<◌, Bool, List, All, map};
+ghost use Rattle.std.specs.Prelude.{◌≡◌, ◌⊎◌, ◌<◌, ◌≤◌, Bool, List, All, length, map};
 ghost use Rattle.packet_view.specs.Captures.{PacketFacts};
 ghost use Rattle.packet_view.specs.declared.tuple.Family.{Family};
 ghost use Rattle.acl_policy.specs.Policies.{PolicyFacts};
@@ -15,7 +15,7 @@ ghost use Rattle.flow_dealing.specs.AgeingTraces.{AreAllDeeds, Deed, HaveDone, i
 ghost use Rattle.flow_dealing.specs.Dealings.{Deal};
 ghost use Rattle.flow_dealing.specs.Traces.{ArePlaced};
 ghost use Rattle.flow_dealing.specs.Places.{HaveOwnCalls, PassAtPlaces};
-ghost use Rattle.flow_dealing.specs.WorkerRecords.{AreFew, AreFewBetween, AreInTimeOrder, AreJudged, AreJudgedAgeing, AreJudgedBetween, AreWithinLimit, HasPagesIn, HavePages, RemoveInTime};
+ghost use Rattle.flow_dealing.specs.WorkerRecords.{AreFew, AreFewBetween, AreInTimeOrder, AreJudged, AreJudgedAgeing, AreJudgedBetween, AreWithinHalf, AreWithinLimit, HasPagesIn, HavePages, IsByOwner, RemoveInTime};
 
 /// Where each worker judged the packets that were dealt to it, and where workers age removed sessions that had ended between
 /// them, each packet was judged once, and its event and each removal's are in the record of its worker, in one order of steps.
@@ -51,6 +51,16 @@ pub fn ageing_workers_give_one_report()
         (verdicts : List Verdict) (v : Views) (are : AreJudgedAgeing d times ages policy packets verdicts v)
         → (d.dealing ≡ Bucket) ⊎ (d.workers ≡ 1) → HavePages verdicts → AreInTimeOrder packets
         → AreWithinLimit d packets are.removals → AreVerdicts d.layout times policy packets verdicts }
+{}
+
+/// By the records of all workers, with one worker or where packets are dealt by bucket, and where each session is removed by the worker
+/// of its bucket: no more sessions are removed than there are packets, where twice as many packets are no more than the writes that
+/// a bucket may have.
+pub fn removals_are_at_most_packets()
+    ensures { (d : Deal) (times : Timeouts) (policy : PolicyFacts) (packets : List PacketFacts) (removals : List Removal)
+        (verdicts : List Verdict) → AreJudgedBetween d times policy packets removals verdicts
+        → (d.dealing ≡ Bucket) ⊎ (d.workers ≡ 1) → All (IsByOwner d) removals → AreWithinHalf d packets
+        → length removals ≤ length packets }
 {}
 
 /// By the records of all workers: with so few packets of a family's flows that its pages can't run out, none of them is
