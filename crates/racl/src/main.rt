@@ -339,7 +339,7 @@ fn status_of_diff<T: Clock + Threads + Wait + Sync>(
         before: before.as_slice(),
         after: after.as_slice(),
     };
-    let options = diff_options();
+    let options = diff_options(files.ages);
     let mut reader = Device::new(FrontKept::new(capture));
     let mut writer = Device::new(rt.stdout());
     match run_diff(threads, alloc, &options, texts, &mut reader, &mut writer) {

@@ -1,15 +1,16 @@
 //! What a comparison of two policies by a capture goes by.
-ghost use Rattle.std.specs.Prelude.{◌≡◌, true};
+ghost use Rattle.std.specs.Prelude.{◌≡◌};
 ghost use Rattle.racl_options.specs.declared.settings.TableSize.TheVariants.{Standard};
 
 use crate::settings::{Lines, Options, TableSize};
 use session_state::{Shown, Timeouts};
 
-/// What a comparison goes by: what a run without options does, but that sessions that have ended are removed.
-pub fn diff_options() -> Options
+/// What a comparison goes by: what a run without options does, but that sessions that have ended are removed where that is asked
+/// for.
+pub fn diff_options(ages: bool) -> Options
     ensures times { (result.times.established ≡ 86400) × (result.times.transient ≡ 120) × (result.times.udp ≡ 600) }
     ensures tables { result.tables ≡ Standard }
-    ensures ages { result.ages ≡ true }
+    ensures ages { result.ages ≡ ages }
 {
     Options {
         workers: 1,
@@ -21,6 +22,6 @@ pub fn diff_options() -> Options
         sessions: false,
         live: true,
         any_length: false,
-        ages: true,
+        ages,
     }
 }
