@@ -30,9 +30,15 @@ pub record IsRenewedJudge {A B K L : Type 0} (ga : Ghosts A K) (gb : Ghosts B L)
   pub renewed : AreRenewed ga gb family s t
   pub own : t.shared ≡ false
 
--- why it was not renewed: by the table's own answer, of a judge that has it for itself, or another one may have a share of it
-pub record IsRenewRefusedJudge {A B K L : Type 0} (ga : Ghosts A K) (gb : Ghosts B L) (family : Family) (s : JudgeState)
-    (fault : EndFault) (t : JudgeState) : Type 0 where
+-- a judge that has its tables for itself was not renewed, by the table's own answer
+pub record IsRefusedOwn {A B K L : Type 0} (ga : Ghosts A K) (gb : Ghosts B L) (family : Family) (s : JudgeState)
+    (cause : RenewFault) (t : JudgeState) : Type 0 where
   pub by : (t.policy ≡ s.policy) × (t.times ≡ s.times) × (t.counts ≡ s.counts)
-  pub refused : ((cause : RenewFault) × (fault ≡ end_of_renewal cause) × AreNotRenewed ga gb family s cause t × (t.shared ≡ false))
-      ⊎ ((s.shared ≡ true) × AreHeld ga gb family s fault t)
+  pub refused : AreNotRenewed ga gb family s cause t
+  pub own : t.shared ≡ false
+
+-- why a judge was not renewed: for this cause, or another one may have a share of its tables
+abbrev pub IsRenewRefusedJudge : {A B K L : Type 0} (ga : Ghosts A K) (gb : Ghosts B L) → Family → JudgeState → EndFault → JudgeState → Type 0
+IsRenewRefusedJudge ga gb family s fault t =
+    ((cause : RenewFault) × (fault ≡ end_of_renewal cause) × IsRefusedOwn ga gb family s cause t)
+    ⊎ ((s.shared ≡ true) × AreHeld ga gb family s fault t)

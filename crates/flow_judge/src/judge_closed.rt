@@ -20,8 +20,8 @@ use packet_view::Family;
 use std::alloc::Global;
 use std::sync::Arc;
 
-// What a judge has, where its tables are its own.
-type Parts<A, B> = (
+/// What a judge has, where its tables are its own.
+pub(crate) type Parts<A, B> = (
     Arc<PreparedFilter, Global>,
     Tables<A, B>,
     Callers<A, B>,
@@ -52,8 +52,8 @@ fn reopen<S: Shape>(
 }
 
 impl<A: Shape, B: Shape> Judge<A, B> {
-    // The judge in parts, where no other one has a share of its tables; else it comes back.
-    fn into_parts(self) -> Result<Parts<A, B>, Judge<A, B>>
+    /// The judge in parts, where no other one has a share of its tables; else it comes back.
+    pub(crate) fn into_parts(self) -> Result<Parts<A, B>, Judge<A, B>>
         ensures parts { IfOk result (λ r. MayAsk r.1 r.2 × (self ≡ record {
           policy = policy_facts (arc_value r.0).policy;
           times = (arc_value r.0).times;

@@ -82,11 +82,11 @@ impl<A: Shape, B: Shape> Judge<A, B> {
             self.filter = filter;
             return Ok(());
         }
-        if !self.is_lone() {
-            return Err(TakeFault::Strangers);
+        if self.is_lone() {
+            self.filter = filter;
+            return Ok(());
         }
-        self.filter = filter;
-        Ok(())
+        Err(TakeFault::Strangers)
     }
 
     /// How many packets the judge gave each kind of verdict, those of judges that were joined into it too.

@@ -20,23 +20,9 @@ impl<A: Shape, B: Shape> Judge<A, B> {
         ensures renewed { IfOk result (λ r. IsRenewedJudge ⟦<A as Shape>⟧ ⟦<B as Shape>⟧ family self r) }
         ensures refused { IfErr result (λ r. IsRenewRefusedJudge ⟦<A as Shape>⟧ ⟦<B as Shape>⟧ family self r.0 r.1) }
     {
-        let Judge {
-            filter,
-            tables,
-            callers,
-            counts,
-        } = self;
-        let tables = match tables.into_own() {
-            Ok(tables) => tables,
-            Err(tables) => {
-                return Err(Judge {
-                    filter,
-                    tables,
-                    callers,
-                    counts,
-                }
-                .held(family));
-            }
+        let (filter, tables, callers, counts) = match self.into_parts() {
+            Ok(parts) => parts,
+            Err(judge) => return Err(judge.held(family)),
         };
         match renew_tables(alloc, tables, callers, family) {
             Ok((tables, callers)) => Ok(Judge {

@@ -25,10 +25,11 @@ impl<A: Shape, B: Shape> Judge<A, B> {
             micros: 0,
             frame,
         };
+        let tables = self.tables.tables();
         let Some(seen) = see_plain::<A, B>(&packet) else {
             return 0;
         };
-        self.tables.tables().four.peek_bucket(seen.hash);
+        tables.four.peek_bucket(seen.hash);
         seen.hash
     }
 
