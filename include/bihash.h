@@ -1,6 +1,6 @@
 /* A session table that many threads share without a lock round it: keys of two words (IPv4 flows) or of five words (IPv6
    flows), each with a value of 64 bits. Link libbihash_c.a, behind it liblibc_c.a (the toolchain's three functions over
-   malloc), and the C library. It needs C11, or C++.
+   malloc), and the C library. It needs C99, or C++, and a processor of x86-64-v2, as any of the last fifteen years is.
 
    A thread calls the table through a handle of its own, a caller: bihash_create makes the first, bihash_split one for
    each other thread, bihash_join takes one back. Each call is one try. Where another caller stood in its way it
@@ -45,8 +45,10 @@
 #include <stddef.h>
 #include <stdint.h>
 
-/* The version, which is that of the program `racl`. */
+/* The version, which is that of the program `racl`: as text, and as a number, of which three digits each are the second and
+   the third part. */
 #define BIHASH_VERSION "0.1.0"
+#define BIHASH_VERSION_NUMBER 1000
 
 #ifdef __cplusplus
 extern "C" {
@@ -57,8 +59,12 @@ typedef struct bihash_handle {
   void *at;
 } bihash_handle;
 
-/* A handle with nothing behind it. */
-#define BIHASH_NO_HANDLE {0}
+/* A handle with nothing behind it: what a handle begins with, or is given later. */
+#ifdef __cplusplus
+#define BIHASH_NO_HANDLE bihash_handle()
+#else
+#define BIHASH_NO_HANDLE ((bihash_handle){0})
+#endif
 
 enum bihash_tables {
   BIHASH_STANDARD = 0, /* 4,096 buckets, 65,536 places and some 1.9 MB where keys have two words, and where they have
@@ -68,12 +74,22 @@ enum bihash_tables {
 
 /* Which kind of table is meant. Of each kind a bucket has up to 256 pairs. */
 typedef struct bihash_options {
-  uint32_t size;   /* how many bytes this has */
+  uint32_t size;   /* how many bytes this has; where a program has more of them than the library knows, those behind must be 0 */
   uint32_t words;  /* of a key: 2 or 5 */
   uint32_t tables; /* an enum bihash_tables */
 } bihash_options;
 
 #define BIHASH_OPTIONS(words, tables) {sizeof(bihash_options), words, tables}
+
+/* The bytes of options. */
+static inline const uint8_t *bihash_bytes_of(const bihash_options *options) {
+  const void *at = options;
+#ifdef __cplusplus
+  return static_cast<const uint8_t *>(at);
+#else
+  return (const uint8_t *)at;
+#endif
+}
 
 /* How many buckets a table has, numbered from 0 on. */
 #define BIHASH_BUCKETS_OF_TWO 4096
@@ -106,7 +122,8 @@ enum bihash_kind {
   BIHASH_MEMORY = 9,     /* nothing was done: memory was refused */
   BIHASH_NUMBERS = 10,   /* nothing was done: the table had 65,535 callers, and can have no more */
   BIHASH_STRANGERS = 11,  /* nothing was done: a caller of the table was not joined into this one */
-  BIHASH_BAD_OPTIONS = 12 /* nothing was done: options of another size, other words or other tables */
+  BIHASH_BAD_OPTIONS = 12 /* nothing was done: options that are cut short, say more than is known, or have other words or
+                             other tables */
 };
 
 /* What the calls on callers answer where they are done. */
@@ -115,6 +132,9 @@ enum bihash_kind {
 /* The answer of a call on a key. Where the kind says nothing of a field it is 0. */
 typedef struct bihash_answer {
   uint32_t kind; /* an enum bihash_kind */
+#ifdef __GNUC__
+  __extension__ /* C99 has no unions without a name */
+#endif
   union {
     uint64_t value;
     uint64_t pages_left;
@@ -146,9 +166,19 @@ typedef struct bihash_pair {
 
 /* ---- Callers ---- */
 
+/* BIHASH_VERSION_NUMBER of the library, which a program's own is not where it was made with another header. */
+uint32_t bihash_version(void);
+
 /* A new table of this kind with its first caller, at `handle`. What the handle had, if anything, is not freed. DONE, or
-   BAD_OPTIONS or MEMORY, which leave the handle as it was. It asks for twice the memory that it keeps. */
-uint32_t bihash_create(bihash_handle *handle, const bihash_options *options);
+   BAD_OPTIONS or MEMORY, which leave the handle as it was. It asks for twice the memory that it keeps. The `rest` of the
+   options are those of their bytes that stand behind the first 12, as `size` says. */
+uint32_t bihash_create_with(bihash_handle *handle, const bihash_options *options, const uint8_t *rest, size_t rest_length);
+
+/* The same, where `size` says how many bytes lie at `options`. */
+static inline uint32_t bihash_create(bihash_handle *handle, const bihash_options *options) {
+  size_t size = options->size;
+  return bihash_create_with(handle, options, bihash_bytes_of(options) + 12, size > 12 ? size - 12 : 0);
+}
 
 /* A new caller of the table of `handle`, at `fresh`, in the same way. DONE, or MEMORY, NUMBERS or CONTENDED, which
    leave `fresh` as it was. A table gives 65,535 numbers to callers until it is renewed, and none twice: keep callers for
@@ -211,7 +241,12 @@ void bihash_look_ahead(bihash_handle *handle, const bihash_key *keys, size_t cou
 /* The bucket of a key in a table of this kind; BIHASH_NO_BUCKET where options would be BAD_OPTIONS. Any thread may ask. Keys
    that are dealt to threads by their bucket (bucket_of(key) % threads, as racl deals flows) let no two threads meet in a
    bucket; that both directions of a flow have one key is the caller's matter. */
-uint64_t bihash_bucket_of(const bihash_options *options, const bihash_key *key);
+uint64_t bihash_bucket_of_with(const bihash_options *options, const uint8_t *rest, size_t rest_length, const bihash_key *key);
+
+static inline uint64_t bihash_bucket_of(const bihash_options *options, const bihash_key *key) {
+  size_t size = options->size;
+  return bihash_bucket_of_with(options, bihash_bytes_of(options) + 12, size > 12 ? size - 12 : 0, key);
+}
 
 /* Looks at a bucket, and takes away one pair there whose value is expired: REPLACED, with the value that went, or
    WORN_FOUND. ABSENT: no pair of the bucket was expired, as far as the caller knew then, or the table has no such
@@ -248,6 +283,13 @@ void bihash_free(bihash_handle *handle);
    away the expired pairs of the buckets from `from` to before `to`, of each until a look finds none there or its changes
    are used up, and says how many went. Callers may sweep the same buckets at once ---- */
 
+/* The name of a kind, as it stands in this page behind BIHASH_, and "?" of none. */
+static inline const char *bihash_kind_name(uint32_t kind) {
+  static const char *const names[] = {"ABSENT", "FOUND", "ADDED", "REPLACED", "WORN", "WORN_FOUND", "FULL", "NO_PAGES", "CONTENDED",
+                                      "MEMORY", "NUMBERS", "STRANGERS", "BAD_OPTIONS"};
+  return kind <= BIHASH_BAD_OPTIONS ? names[kind] : "?";
+}
+
 /* A pause between two tries. */
 static inline void bihash_pause(void) {
 #if defined(__x86_64__)
@@ -265,7 +307,8 @@ static inline bihash_expiry bihash_expiry_at(uint32_t moment, uint32_t timeout) 
 /* The expiry of values whose low 32 bits are the second at which they end: expired at `moment` are those that end then
    or before. */
 static inline bihash_expiry bihash_expiry_of_deadlines(uint32_t moment) {
-  bihash_expiry expiry = {UINT32_MAX, (uint64_t)moment + 1};
+  uint64_t least = moment;
+  bihash_expiry expiry = {UINT32_MAX, least + 1};
   return expiry;
 }
 

@@ -1,5 +1,6 @@
 /* The packet filter of `racl` in other programs: a frame is handed over, and whether it passes is answered. Link libracl,
-   as `make library` makes it, and the C library. It needs C11, or C++.
+   as `make library` makes it, and the C library. It needs C99, or C++, and a processor of x86-64-v2, as any of the last
+   fifteen years is.
 
        racl_handle judge;
        racl_options options = RACL_OPTIONS;
@@ -17,6 +18,9 @@
 
    What stands in a policy before its first line `interface N` is the section of interface 0. An interface without a section
    has no rules, and lets no IP packet in that is of no session.
+
+   Timeouts belong to the tables: all judges over them have those with which the first was made, and only a judge that is
+   alone over its tables may take others. So a session that one judge enters lives as long for each other.
 
    Any judge may judge any flow. Where another one stood in the way of a session's change, the answer is RACL_CONTENDED and
    nothing was done: try again, as the functions at the end of this page do. Frames of one flow that two threads hand over at
@@ -45,8 +49,10 @@
 #include <stddef.h>
 #include <stdint.h>
 
-/* The version, which is that of the program. */
+/* The version, which is that of the program: as text, and as a number, of which three digits each are the second and the third
+   part. */
 #define RACL_VERSION "0.1.0"
+#define RACL_VERSION_NUMBER 1000
 
 #ifdef __cplusplus
 extern "C" {
@@ -57,9 +63,6 @@ typedef struct racl_handle {
   void *at;
 } racl_handle;
 
-/* A handle with nothing behind it, as join and free leave it. */
-#define RACL_NO_HANDLE {0}
-
 /* The sessions that a closed table had, and counts by rule, each behind a handle of its own in the same way. */
 typedef struct racl_sessions {
   void *at;
@@ -69,17 +72,29 @@ typedef struct racl_rule_counts {
   void *at;
 } racl_rule_counts;
 
+/* Handles with nothing behind them, as join and free leave them: what a handle begins with, or is given later. */
+#ifdef __cplusplus
+#define RACL_NO_HANDLE racl_handle()
+#define RACL_NO_SESSIONS racl_sessions()
+#define RACL_NO_RULE_COUNTS racl_rule_counts()
+#else
+#define RACL_NO_HANDLE ((racl_handle){0})
+#define RACL_NO_SESSIONS ((racl_sessions){0})
+#define RACL_NO_RULE_COUNTS ((racl_rule_counts){0})
+#endif
+
 enum racl_kind {
   /* Of calls on judges */
   RACL_DONE = 0,        /* it was done; of a bucket: no session in it has ended */
-  RACL_MEMORY = 1,      /* nothing was done: memory was refused */
+  RACL_MEMORY = 1,      /* nothing was done, but that a split may have used up a number: memory was refused */
   RACL_NOT_UTF8 = 2,    /* nothing was done: the policy isn't UTF-8 */
   RACL_BAD_LINE = 3,    /* nothing was done: the policy's line `line` is wrong */
   RACL_TOO_MANY = 4,    /* nothing was done: the policy's line `line` is one rule too many */
-  RACL_BAD_OPTIONS = 5, /* nothing was done: options of another size or with other tables, or a timeout of 0 */
+  RACL_BAD_OPTIONS = 5, /* nothing was done: options that are cut short, say more than is known, or have other tables or a
+                           timeout of 0 */
   RACL_NUMBERS = 6,     /* nothing was done: the tables had 65,535 judges, and can have no more */
   RACL_CONTENDED = 7,   /* nothing was done: another judge stood in the way; try again */
-  RACL_STRANGERS = 8,   /* nothing was done: another judge over the tables is left */
+  RACL_STRANGERS = 8,   /* nothing was done: another judge over the tables was not joined into this one */
   RACL_ENDED = 9,       /* of a bucket: a session that had ended went */
 
   /* Of frames: what becomes of them */
@@ -107,7 +122,8 @@ enum racl_tables {
   RACL_LARGE = 1     /* 1,048,576 places for each, and some 85 MB */
 };
 
-/* What a judge is made with. `size` is how many bytes this has. The seconds are how long sessions outlive their last packet
+/* What a judge is made with. `size` is how many bytes this has; where a program has more of them than the library knows,
+   those behind must be 0. The seconds are how long sessions outlive their last packet
    (at 600 one is live 600 seconds later, and has ended after 601): of TCP where exactly SYN and ACK were seen of both sides, of
    other TCP, and of UDP and echoes; each is at least 1. */
 typedef struct racl_options {
@@ -142,7 +158,7 @@ typedef struct racl_descriptor {
   uint64_t at;
   uint32_t length;
   uint32_t second;
-  uint8_t interface;
+  uint8_t interface_number;
 } racl_descriptor;
 
 /* The family of a frame's flow, 4 or 6, and the hash of the flow's key, the same for both directions at one interface. Both
@@ -179,7 +195,7 @@ typedef struct racl_end {
 typedef struct racl_session {
   uint64_t until;
   uint32_t last;
-  uint8_t interface;
+  uint8_t interface_number;
   uint8_t family; /* 4 or 6 */
   uint8_t protocol;
   racl_end first;
@@ -203,13 +219,31 @@ typedef struct racl_count {
 
 /* ---- Judges ---- */
 
+/* RACL_VERSION_NUMBER of the library, which a program's own is not where it was made with another header. */
+uint32_t racl_version(void);
+
 /* A judge at `handle` by the policy of this text of `length` bytes (docs/FORMATS.md), over new tables. What the handle had,
    if anything, is not freed. DONE, or BAD_OPTIONS, MEMORY, NOT_UTF8, BAD_LINE or TOO_MANY, which leave the handle as it was.
-   What is told of a text is its first fault. */
-racl_made racl_new(racl_handle *handle, const uint8_t *text, size_t length, const racl_options *options);
+   What is told of a text is its first fault. The `rest` of the options are those of their bytes that stand behind the first
+   20, as `size` says. */
+racl_made racl_new_with(racl_handle *handle, const uint8_t *text, size_t length, const racl_options *options,
+                        const uint8_t *rest, size_t rest_length);
+
+/* The same, where `size` says how many bytes lie at `options`. */
+static inline racl_made racl_new(racl_handle *handle, const uint8_t *text, size_t length, const racl_options *options) {
+  const void *at = options;
+#ifdef __cplusplus
+  const uint8_t *bytes = static_cast<const uint8_t *>(at);
+#else
+  const uint8_t *bytes = (const uint8_t *)at;
+#endif
+  size_t size = options->size;
+  return racl_new_with(handle, text, length, options, bytes + 20, size > 20 ? size - 20 : 0);
+}
 
 /* A new judge over the same tables by the same policy, at `fresh`, in the same way; it counted no frame. DONE, or MEMORY,
-   NUMBERS or CONTENDED, which leave `fresh` as it was. A split that was CONTENDED may have used up a number. */
+   NUMBERS or CONTENDED, which leave `fresh`, the judge's policy and its counts as they were, and all sessions. What is
+   refused may have used up a number, and a judge that was alone may be CONTENDED until racl_is_lone says so again. */
 uint32_t racl_split(racl_handle *handle, racl_handle *fresh);
 
 /* Ends the judge `other`, and leaves nothing behind its handle. */
@@ -239,11 +273,12 @@ racl_checked racl_check(const uint8_t *text, size_t length, uint8_t *buffer, siz
 
 /* The line of a policy's text in which the rule stands that an answer names with this direction, on a frame of this interface:
    DONE and `line`, which is 0 where the policy has no such rule. MEMORY. */
-racl_made racl_line_of(const uint8_t *text, size_t length, uint8_t interface, uint32_t direction, uint32_t rule);
+racl_made racl_line_of(const uint8_t *text, size_t length, uint8_t interface_number, uint32_t direction, uint32_t rule);
 
-/* Judges by the policy and the timeouts of `other` from now on, of which it reads nothing anew, whatever tables `other` has.
-   Both handles are the call's own: threads that take from one do so under a lock. DONE; MEMORY where more judges than the
-   memory could have share the policy, and then the policy stays. */
+/* Judges by the policy of `other` from now on, of which it reads nothing anew, whatever tables `other` has, and by its
+   timeouts. Both handles are the call's own: threads that take from one do so under a lock. DONE; STRANGERS where the
+   timeouts are others and the judge isn't alone over its tables; MEMORY where more judges than the memory could have share
+   the policy. Where it isn't DONE, policy and timeouts stay. */
 uint32_t racl_take_policy(racl_handle *handle, racl_handle *other);
 
 /* ---- Frames: from their Ethernet addresses on and without their checksum; seconds count from whenever the caller likes,
@@ -252,18 +287,26 @@ uint32_t racl_take_policy(racl_handle *handle, racl_handle *other);
 
 /* One try of judging a frame of `length` bytes that was seen at the interface with this number in this second. It is never
    CONTENDED where the judge's tables are new and it was not split, nor where the frame takes no part in sessions. */
-racl_answer racl_judge(racl_handle *handle, uint8_t interface, uint32_t second, const uint8_t *frame, size_t length);
+racl_answer racl_judge(racl_handle *handle, uint8_t interface_number, uint32_t second, const uint8_t *frame, size_t length);
 
 /* Judges the frames that `count` descriptors name in an area of `length` bytes, in their order, and answers each at its place
    among `room` answers, so many at most. It ends before the first frame that is answered CONTENDED, and says how many were
-   judged: that frame's answer says so, and answers behind it are as they were. */
+   judged: that frame's answer says so, and answers behind it are as they were. Over large tables it loads ahead what
+   judging the next frames will load, so that the processor waits for all of it at once. */
 size_t racl_judge_burst(racl_handle *handle, const uint8_t *memory, size_t length, const racl_descriptor *descriptors,
                         size_t count, racl_answer *answers, size_t room);
 
 /* By what a frame's flow is dealt that is seen at this interface. */
-racl_flow racl_flow_of(uint8_t interface, const uint8_t *frame, size_t length);
+racl_flow racl_flow_of(uint8_t interface_number, const uint8_t *frame, size_t length);
 
-/* How many frames the judge gave each verdict. */
+/* Of so many workers, from 0 on, the one to which a flow's frames are dealt, and to which a bucket of the tables of family 4
+   or 6 is: a flow's worker is that of its bucket, in tables of either size. In standard tables that is the bucket modulo the
+   number of workers. Worker 0 gets the frames of no flow, and all where there is no worker. */
+uint32_t racl_worker_of(racl_flow flow, uint32_t workers);
+uint32_t racl_worker_of_bucket(uint32_t family, uint64_t bucket, uint32_t workers);
+
+/* How many frames the judge gave each verdict. The handle is the call's own, as everywhere: for other threads the judge's own
+   publishes its counts, by racl_publish_counts below. */
 void racl_counts(racl_handle *handle, racl_count *counts);
 
 /* ---- Counts by rule: those of the section that a frame's interface has, by the numbers that answers have. Who counts while
@@ -275,18 +318,19 @@ racl_made racl_rule_counts_new(racl_rule_counts *counts, const uint8_t *text, si
 
 /* Counts a frame of this interface that was answered with this direction and this rule. Where the rule is 0 it counts among those
    of the direction that no rule decided. One without a direction, or with a rule that the policy doesn't have, isn't counted. */
-void racl_count_rule(racl_rule_counts *counts, uint8_t interface, uint32_t direction, uint32_t rule);
+void racl_count_rule(racl_rule_counts *counts, uint8_t interface_number, uint32_t direction, uint32_t rule);
 
 /* How many frames of this interface and direction were counted for this rule, and 0 where there is no such rule. */
-uint64_t racl_rule_count(racl_rule_counts *counts, uint8_t interface, uint32_t direction, uint32_t rule);
+uint64_t racl_rule_count(racl_rule_counts *counts, uint8_t interface_number, uint32_t direction, uint32_t rule);
 
 /* Lets go of counts, and leaves nothing behind their handle. */
 void racl_free_rule_counts(racl_rule_counts *counts);
 
 /* ---- Sessions that have ended hold their places until another takes them, or someone looks at their buckets, of which
    tables have so many. Any judge may, at any time, by a second behind which no judge falls: a
-   session that went lets no late frame through. A frame, too, takes away its flow's session that has ended. Threads that sweep
-   the buckets that are dealt to them, as racl_worker_of deals flows, don't meet there ---- */
+   session that went lets no late frame through. A frame, too, takes away its flow's session that has ended. Threads that each
+   judge the flows that racl_worker_of deals to them, and sweep the buckets that racl_worker_of_bucket does, as
+   racl_sweep_ipv4_own_wait and racl_sweep_ipv6_own_wait do, meet in no bucket ---- */
 
 #define RACL_IPV4_BUCKETS 4096
 #define RACL_IPV6_BUCKETS 1024
@@ -314,13 +358,14 @@ uint64_t racl_unused_ipv6(racl_handle *handle);
 #define RACL_PAGE_PLACES 4
 
 /* Opens the table of a family again: its sessions stay, and no bucket is worn. Each other judge over the tables was joined
-   before. DONE, or STRANGERS or MEMORY. It asks for three times the table's memory. */
+   before. DONE, or STRANGERS or MEMORY; or CONTENDED, where each was joined and another one's hold of the tables was not let
+   go of yet. It asks for three times the table's memory. */
 uint32_t racl_renew_ipv4(racl_handle *handle);
 uint32_t racl_renew_ipv6(racl_handle *handle);
 
 /* Closes the table of a family: its sessions are at `sessions`, in the way of racl_new, and the judge goes on over a new table
-   without any. Each other judge over the tables was joined before. DONE, or STRANGERS or MEMORY, which leave the table and
-   `sessions` as they were. It asks for the table's memory twice more, and for that of its sessions. */
+   without any. Each other judge over the tables was joined before. DONE, or STRANGERS, MEMORY or CONTENDED, as of a renewal,
+   which leave the table and `sessions` as they were. It asks for the table's memory twice more, and for that of its sessions. */
 uint32_t racl_close_ipv4(racl_handle *handle, racl_sessions *sessions);
 uint32_t racl_close_ipv6(racl_handle *handle, racl_sessions *sessions);
 
@@ -334,6 +379,40 @@ uint32_t racl_session_at(racl_sessions *sessions, uint64_t at, racl_session *ses
 /* Lets go of sessions, and leaves nothing behind their handle. */
 void racl_free_sessions(racl_sessions *sessions);
 
+/* ---- What is read without a judge ---- */
+
+/* The name of a kind, as it stands in this page behind RACL_, and "?" of none. */
+static inline const char *racl_kind_name(uint32_t kind) {
+  static const char *const names[] = {"DONE",       "MEMORY",  "NOT_UTF8",  "BAD_LINE",  "TOO_MANY", "BAD_OPTIONS", "NUMBERS",
+                                      "CONTENDED",  "STRANGERS", "ENDED",   "?",         "?",        "?",           "?",
+                                      "?",          "?",       "SESSION",   "REFLECT",   "PERMIT",   "DENY",        "BY_DEFAULT",
+                                      "WORN",       "FULL",    "NO_PAGES",  "NOT_IP",    "MALFORMED", "SHORT"};
+  return kind <= RACL_SHORT ? names[kind] : "?";
+}
+
+/* Writes the judge's counts to `published`, in the judge's own thread, as often as it likes; any thread reads them there at any
+   time by racl_published_counts. Each number is one that the judge had when it published, and none falls; numbers of two
+   publications may stand beside one another. */
+#define RACL_COUNTS(EACH) \
+  EACH(session) EACH(reflect) EACH(permit) EACH(deny) EACH(by_default) EACH(worn) EACH(full) EACH(no_pages) EACH(not_ip) \
+  EACH(malformed) EACH(cut_short)
+
+static inline void racl_publish_counts(racl_handle *handle, racl_count *published) {
+  racl_count counts;
+  racl_counts(handle, &counts);
+#define RACL_PUBLISH(NAME) __atomic_store_n(&published->NAME, counts.NAME, __ATOMIC_RELAXED);
+  RACL_COUNTS(RACL_PUBLISH)
+#undef RACL_PUBLISH
+}
+
+static inline void racl_published_counts(const racl_count *published, racl_count *counts) {
+#define RACL_READ(NAME) counts->NAME = __atomic_load_n(&published->NAME, __ATOMIC_RELAXED);
+  RACL_COUNTS(RACL_READ)
+#undef RACL_READ
+}
+
+#undef RACL_COUNTS
+
 /* ---- Tries until one is answered ---- */
 
 /* A pause between two tries. */
@@ -343,12 +422,12 @@ static inline void racl_pause(void) {
 #endif
 }
 
-static inline racl_answer racl_judge_wait(racl_handle *handle, uint8_t interface, uint32_t second, const uint8_t *frame,
+static inline racl_answer racl_judge_wait(racl_handle *handle, uint8_t interface_number, uint32_t second, const uint8_t *frame,
                                           size_t length) {
-  racl_answer answer = racl_judge(handle, interface, second, frame, length);
+  racl_answer answer = racl_judge(handle, interface_number, second, frame, length);
   while (answer.kind == RACL_CONTENDED) {
     racl_pause();
-    answer = racl_judge(handle, interface, second, frame, length);
+    answer = racl_judge(handle, interface_number, second, frame, length);
   }
   return answer;
 }
@@ -371,7 +450,7 @@ static inline uint32_t racl_split_wait(racl_handle *handle, racl_handle *fresh) 
   return answer;
 }
 
-#define RACL_SWEEPING(FAMILY)                                                                                          \
+#define RACL_SWEEPING(FAMILY, NUMBER)                                                                                        \
   /* Sessions of the buckets from `from` to before `to` that have ended by this second go; how many went. */           \
   static inline uint64_t racl_sweep_##FAMILY##_wait(racl_handle *handle, uint64_t from, uint64_t to, uint32_t second) { \
     racl_swept swept = racl_sweep_##FAMILY(handle, from, to, second, UINT64_MAX);                                      \
@@ -382,18 +461,24 @@ static inline uint32_t racl_split_wait(racl_handle *handle, racl_handle *fresh) 
       went += swept.went;                                                                                              \
     }                                                                                                                  \
     return went;                                                                                                       \
+  }                                                                                                                    \
+  /* So they go from those of `buckets` buckets that are dealt to one worker of so many; how many went. */             \
+  static inline uint64_t racl_sweep_##FAMILY##_own_wait(racl_handle *handle, uint64_t buckets, uint32_t worker,        \
+                                                        uint32_t workers, uint32_t second) {                           \
+    uint64_t went = 0;                                                                                                 \
+    for (uint64_t bucket = 0; bucket < buckets; bucket++)                                                              \
+      if (racl_worker_of_bucket(NUMBER, bucket, workers) == worker)                                                    \
+        went += racl_sweep_##FAMILY##_wait(handle, bucket, bucket + 1, second);                                        \
+    return went;                                                                                                       \
   }
 
-RACL_SWEEPING(ipv4)
-RACL_SWEEPING(ipv6)
+RACL_SWEEPING(ipv4, 4)
+RACL_SWEEPING(ipv6, 6)
 
 #undef RACL_SWEEPING
 
 /* The bucket of a flow in tables of which its family has so many buckets. */
 static inline uint64_t racl_bucket_of(racl_flow flow, uint64_t buckets) { return flow.hash % buckets; }
-
-/* Of so many workers, from 0 on, the one to which a flow's frames are dealt; worker 0 gets those of no flow. */
-static inline uint32_t racl_worker_of(racl_flow flow, uint32_t workers) { return (uint32_t)(flow.hash % workers); }
 
 #ifdef __cplusplus
 }

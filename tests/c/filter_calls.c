@@ -1,5 +1,5 @@
-// Calls each function of include/racl.h: judges that are split, met, joined, given policies, aged, renewed and closed, frames that are
-// counted by rule, texts that are checked, and four threads that judge one flow at once. Whenever a call was refused memory, what was there is looked at: nothing may be lost. The call is
+// Calls each function of include/racl.h: judges that are split, met, joined, given policies and timeouts, aged, renewed and closed, frames
+// that are counted by rule, flows and buckets that are dealt, texts that are checked, and four threads that judge one flow at once. Whenever a call was refused memory, what was there is looked at: nothing may be lost. The call is
 // made once more then. Each refusal is written in a line with the call's name. Ends with 0 where all was done, with 4 where a
 // call was refused twice, and with 1 where anything is wrong. ./c_filter_calls [ROUNDS [large]]
 #include "racl.h"
@@ -114,6 +114,77 @@ static void judge_bursts(racl_handle *handle) {
     expect(racl_judge_burst(handle, area, sizeof area, frames, 0, answers, 4) == 0, "an empty burst", 0);
 }
 
+/* Each flow's worker is that of its bucket, in tables of both sizes and for each number of workers. In standard tables that is the
+   bucket modulo this number. */
+static void deal_buckets(void) {
+    for (uint32_t workers = 1; workers <= 17; workers++)
+        for (uint16_t port = 1; port <= 2000; port++) {
+            uint8_t frame[42];
+            set_frame(frame, 1, port);
+            racl_flow four = racl_flow_of(0, frame, 42), six = {6, four.hash};
+            uint32_t worker = racl_worker_of(four, workers), other = racl_worker_of(six, workers);
+            expect(worker == racl_bucket_of(four, RACL_IPV4_BUCKETS) % workers, "a worker of IPv4", port);
+            expect(other == racl_bucket_of(six, RACL_IPV6_BUCKETS) % workers, "a worker of IPv6", port);
+            expect(worker == racl_worker_of_bucket(4, racl_bucket_of(four, RACL_IPV4_BUCKETS), workers), "the worker of a bucket", port);
+            expect(worker == racl_worker_of_bucket(4, racl_bucket_of(four, RACL_LARGE_BUCKETS), workers), "the worker of a large bucket", port);
+            expect(other == racl_worker_of_bucket(6, racl_bucket_of(six, RACL_IPV6_BUCKETS), workers), "the worker of a bucket of IPv6", port);
+            expect(other == racl_worker_of_bucket(6, racl_bucket_of(six, RACL_LARGE_BUCKETS), workers), "the worker of a large bucket of IPv6", port);
+        }
+    racl_flow none = {0, 0}, some = {4, 7};
+    expect(racl_worker_of(none, 3) == 0 && racl_worker_of(some, 0) == 0, "the worker of no flow", 0);
+}
+
+enum { SWEEPERS = 3, FLOWS = 6000 };
+
+struct sweeper {
+    racl_handle judge;
+    pthread_t thread;
+    uint32_t number;
+    uint64_t buckets, contended, went;
+};
+
+/* Judges the flows that are dealt to it, and sweeps the buckets that are: nobody stands in its way there. */
+static void *judge_and_sweep_own(void *given) {
+    struct sweeper *it = given;
+    for (uint32_t second = 10; second < 4010; second += 1000) {
+        for (uint16_t port = 1; port <= FLOWS; port++) {
+            uint8_t frame[42];
+            set_frame(frame, 1, port);
+            if (racl_worker_of(racl_flow_of(0, frame, 42), SWEEPERS) != it->number) continue;
+            racl_judge_wait(&it->judge, 0, second, frame, 42);
+        }
+        for (uint64_t bucket = 0; bucket < it->buckets; bucket++) {
+            if (racl_worker_of_bucket(4, bucket, SWEEPERS) != it->number) continue;
+            racl_swept swept = racl_sweep_ipv4(&it->judge, bucket, bucket + 1, second + 900, UINT64_MAX);
+            it->contended += swept.kind == RACL_CONTENDED, it->went += swept.went;
+        }
+    }
+    return NULL;
+}
+
+/* Three threads over new tables, none of which meets another one. */
+static void sweep_own(int is_large) {
+    static struct sweeper sweepers[SWEEPERS];
+    racl_handle first = RACL_NO_HANDLE;
+    racl_options options = RACL_OPTIONS;
+    if (is_large) options.tables = RACL_LARGE;
+    expect(racl_new(&first, outward, sizeof OUTWARD - 1, &options).kind == RACL_DONE, "new tables to sweep", 0);
+    for (uint32_t i = 0; i < SWEEPERS; i++) {
+        sweepers[i].number = i, sweepers[i].buckets = is_large ? RACL_LARGE_BUCKETS : RACL_IPV4_BUCKETS;
+        expect(racl_split_wait(&first, &sweepers[i].judge) == RACL_DONE, "a split for a sweeper", i);
+    }
+    for (int i = 0; i < SWEEPERS; i++) expect(!pthread_create(&sweepers[i].thread, NULL, judge_and_sweep_own, &sweepers[i]), "a thread", 0);
+    uint64_t went = 0;
+    for (int i = 0; i < SWEEPERS; i++) {
+        pthread_join(sweepers[i].thread, NULL);
+        expect(sweepers[i].contended == 0, "sweepers met", sweepers[i].contended);
+        went += sweepers[i].went;
+        racl_join(&first, &sweepers[i].judge);
+    }
+    expect(went == 4 * FLOWS, "sessions that were swept", went);
+    racl_free(&first);
+}
+
 static void deal_flows(void) {
     uint8_t out[42], in[42];
     set_frame(out, 1, 7), set_frame(in, 0, 7);
@@ -122,6 +193,7 @@ static void deal_flows(void) {
     expect(racl_worker_of(one, 3) == racl_worker_of(other, 3), "both directions' worker", 0);
     expect(racl_flow_of(1, out, 42).hash != one.hash, "another interface's hash", 1);
     expect(none.family == 0 && none.hash == 0, "a cut frame's flow", none.family);
+    deal_buckets();
 }
 
 /* Sessions of bucket after bucket go once they have ended, and none before. */
@@ -192,7 +264,7 @@ static racl_answer judge_ipv6(racl_handle *handle, uint32_t second) {
 
 /* The tables are closed one by one, and have no sessions then. Whether a call was refused twice. */
 static int close_tables(racl_handle *handle) {
-    racl_sessions four = {0}, six = {0};
+    racl_sessions four = RACL_NO_SESSIONS, six = RACL_NO_SESSIONS;
     racl_session it;
     uint32_t answer;
     int refused;
@@ -203,7 +275,7 @@ static int close_tables(racl_handle *handle) {
         if (refused == 2) return 1;
     }
     expect(answer == RACL_DONE && racl_session_count(&four) == 1, "sessions of IPv4", answer);
-    expect(racl_session_at(&four, 0, &it) == 1 && it.family == 4 && it.protocol == 17 && it.interface == 0, "a session of IPv4", it.family);
+    expect(racl_session_at(&four, 0, &it) == 1 && it.family == 4 && it.protocol == 17 && it.interface_number == 0, "a session of IPv4", it.family);
     expect(it.last == 5007 && it.until == 5607, "the seconds of a session", it.last);
     static const uint8_t host[16] = {10, 0, 0, 1}, server[16] = {10, 0, 0, 2};
     expect(!memcmp(it.first.address, host, 16) && it.first.port == 4000 && !it.first.flags, "the first end", it.first.port);
@@ -228,7 +300,7 @@ static int close_tables(racl_handle *handle) {
 
 /* Frames are counted by rule. Whether a call was refused twice. */
 static int count_rules(void) {
-    racl_rule_counts counts = {0};
+    racl_rule_counts counts = RACL_NO_RULE_COUNTS;
     racl_made made;
     for (int refused = 0; is_refused("rule_counts_new", (made = racl_rule_counts_new(&counts, outward, sizeof OUTWARD - 1)).kind, &refused);) {
         expect(!counts.at, "refused counts leave a handle", 0);
@@ -249,6 +321,78 @@ static int count_rules(void) {
     return 0;
 }
 
+/* Judges over the same tables have the same timeouts: a session lives as long for each. One that is alone may take others. */
+static void take_timeouts(void) {
+    racl_handle one = RACL_NO_HANDLE, other = RACL_NO_HANDLE, brief = RACL_NO_HANDLE;
+    racl_options options = RACL_OPTIONS;
+    expect(racl_new(&one, outward, sizeof OUTWARD - 1, &options).kind == RACL_DONE, "a judge with timeouts", 0);
+    options.udp = 10;
+    expect(racl_new(&brief, outward, sizeof OUTWARD - 1, &options).kind == RACL_DONE, "a judge with brief timeouts", 0);
+    expect(racl_split(&one, &other) == RACL_DONE, "a split with timeouts", 0);
+    expect(judge(&one, 1, 1, 105).kind == RACL_REFLECT, "a session with timeouts", 105);
+    expect(racl_take_policy(&other, &brief) == RACL_STRANGERS, "other timeouts beside a judge", 0);
+    expect(racl_sweep_ipv4_wait(&other, 0, RACL_IPV4_BUCKETS, 116) == 0, "a session live for another judge went", 116);
+    expect(judge(&other, 0, 1, 116).kind == RACL_SESSION, "a session of another judge", 116);
+    expect(judge(&one, 0, 1, 117).kind == RACL_SESSION, "a session beside another judge", 117);
+    racl_join(&one, &other);
+    expect(racl_take_policy(&one, &brief) == RACL_DONE, "other timeouts of a lone judge", 0);
+    expect(racl_sweep_ipv4_own_wait(&one, RACL_IPV4_BUCKETS, 0, 1, 127) == 0, "a session that is live went", 127);
+    expect(racl_sweep_ipv4_own_wait(&one, RACL_IPV4_BUCKETS, 0, 1, 128) == 1, "a session that ended", 128);
+    racl_free(&brief), racl_free(&one);
+}
+
+/* What is known of the library without a judge. */
+static void tell_names(void) {
+    expect(racl_version() == RACL_VERSION_NUMBER, "the version", racl_version());
+    expect(!strcmp(racl_kind_name(RACL_DONE), "DONE") && !strcmp(racl_kind_name(RACL_ENDED), "ENDED"), "names of kinds", 0);
+    expect(!strcmp(racl_kind_name(RACL_SESSION), "SESSION") && !strcmp(racl_kind_name(RACL_SHORT), "SHORT"), "names of kinds", 16);
+    expect(!strcmp(racl_kind_name(RACL_NO_PAGES), "NO_PAGES") && !strcmp(racl_kind_name(RACL_STRANGERS), "STRANGERS"), "names of kinds", 23);
+    expect(!strcmp(racl_kind_name(12), "?") && !strcmp(racl_kind_name(27), "?"), "names of no kind", 12);
+}
+
+/* Options of which a program knows more than the library does. */
+static void make_by_larger_options(void) {
+    struct {
+        racl_options known;
+        uint32_t more[3];
+    } options = {RACL_OPTIONS, {0}};
+    options.known.size = sizeof options;
+    racl_handle handle = RACL_NO_HANDLE;
+    expect(racl_new(&handle, outward, sizeof OUTWARD - 1, &options.known).kind == RACL_DONE, "larger options", 0);
+    racl_free(&handle);
+    handle = RACL_NO_HANDLE;
+    options.more[2] = 1;
+    expect(racl_new(&handle, outward, sizeof OUTWARD - 1, &options.known).kind == RACL_BAD_OPTIONS && !handle.at, "options that say more", 0);
+}
+
+/* Counts that another thread reads while they are published. */
+static racl_count published;
+
+static void *read_counts(void *given) {
+    racl_count counts;
+    uint64_t last = 0;
+    do {
+        racl_published_counts(&published, &counts);
+        expect(counts.by_default >= last, "counts that fall", (unsigned long)counts.by_default);
+        last = counts.by_default;
+    } while (last < 1000);
+    return given;
+}
+
+static void publish_counts(void) {
+    racl_handle counted = RACL_NO_HANDLE;
+    racl_options options = RACL_OPTIONS;
+    pthread_t reader;
+    expect(racl_new(&counted, outward, sizeof OUTWARD - 1, &options).kind == RACL_DONE, "a judge to count", 0);
+    expect(!pthread_create(&reader, NULL, read_counts, NULL), "a thread", 0);
+    for (int i = 0; i < 1000; i++) {
+        expect(judge(&counted, 0, 1, 10).kind == RACL_BY_DEFAULT, "a frame to count", i);
+        racl_publish_counts(&counted, &published);
+    }
+    pthread_join(reader, NULL);
+    racl_free(&counted);
+}
+
 /* Judges that meet, and neither is alone. */
 static void meet(racl_handle *handle, racl_handle *other) {
     expect(!racl_is_lone(handle) && !racl_is_lone(other), "a judge of two is alone", 2);
@@ -263,6 +407,7 @@ int main(int count, char **given) {
     racl_made made;
     uint32_t answer;
     int refused = 0;
+    tell_names();
     if (count > 2) options.tables = RACL_LARGE;
     while (is_refused("new", (made = racl_new(&first, outward, sizeof OUTWARD - 1, &options)).kind, &refused))
         if (first.at) wrong("a refused new leaves a handle", 0);
@@ -282,7 +427,7 @@ int main(int count, char **given) {
     expect(answer == RACL_DONE, "split", answer);
     look(&second);
     expect(racl_renew_ipv4(&first) == RACL_STRANGERS, "renew with a stranger", 0);
-    racl_sessions sessions = {0};
+    racl_sessions sessions = RACL_NO_SESSIONS;
     for (refused = 0; is_refused("close", answer = racl_close_ipv4(&first, &sessions), &refused);)
         if (refused == 2) return racl_free(&second), racl_free(&first), 4;
     expect(answer == RACL_STRANGERS && !sessions.at, "close with a stranger", answer);
@@ -308,7 +453,11 @@ int main(int count, char **given) {
     racl_counts(&first, &counts);
     expect(counts.reflect == 4 && counts.deny == 2 && counts.permit == 0, "counts", (unsigned long)counts.reflect);
 
-    if (rounds > 0) run_threads(&first, rounds);
+    if (rounds > 0) {
+        run_threads(&first, rounds);
+        sweep_own(count > 2);
+        take_timeouts(), make_by_larger_options(), publish_counts();
+    }
     judge_bursts(&first);
     deal_flows();
     for (refused = 0; is_refused("renew", answer = racl_renew_ipv4(&first), &refused);) {

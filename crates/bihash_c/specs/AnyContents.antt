@@ -65,9 +65,9 @@ abbrev pub MadeTold : Option Kind → (before after : AnyContent) → ℕ → Ty
 MadeTold (Some kind) before after answer = ((answer ≡ 0) × IsFirst kind after) ⊎ ((answer ≡ 9) × (after ≡ before))
 MadeTold None before after answer = (answer ≡ 12) × (after ≡ before)
 
-pub record CreateTold (options : Options) (before after : AnyContent) (answer : ℕ) : Type 0 where
+pub record CreateTold (options : Options) (rest : List ℕ) (before after : AnyContent) (answer : ℕ) : Type 0 where
   pub kind : Option Kind
-  pub asked : KindTold options kind
+  pub asked : KindTold options rest kind
   pub made : MadeTold kind before after answer
 
 -- the caller and a new one of its table

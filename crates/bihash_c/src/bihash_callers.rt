@@ -11,12 +11,17 @@ use crate::handle::{Handle, Place};
 use crate::options::{Options, kind_of};
 use std::alloc::Global;
 
-/// A new table of the kind that is meant, with its first caller.
+/// A new table of the kind that is meant, with its first caller. The rest are the bytes of the options behind those that are known.
 #[unsafe(no_mangle)]
-pub extern "C" fn bihash_create(alloc: Global, handle: &mut Handle, options: &Options) -> u32
-    ensures { CreateTold options.now (content_in handle.old.place) (content_in handle.new.place) result }
+pub extern "C" fn bihash_create_with(
+    alloc: Global,
+    handle: &mut Handle,
+    options: &Options,
+    rest: &[u8],
+) -> u32
+    ensures { CreateTold options.now rest.now (content_in handle.old.place) (content_in handle.new.place) result }
 {
-    let Some(kind) = kind_of(options) else {
+    let Some(kind) = kind_of(options, rest) else {
         return BAD_OPTIONS;
     };
     let Some(content) = AnyContent::first_caller(alloc, kind) else {

@@ -27,12 +27,13 @@ fn bucket_in(kind: Kind, key: &Key) -> u64
     }
 }
 
-/// The bucket of a key in a table of the kind that is meant, and the number that no bucket has where none is.
+/// The bucket of a key in a table of the kind that is meant, and the number that no bucket has where none is. The rest are the bytes
+/// of the options behind those that are known.
 #[unsafe(no_mangle)]
-pub extern "C" fn bihash_bucket_of(options: &Options, key: &Key) -> u64
-    ensures { BucketTold options.now key.now result }
+pub extern "C" fn bihash_bucket_of_with(options: &Options, rest: &[u8], key: &Key) -> u64
+    ensures { BucketTold options.now rest.now key.now result }
 {
-    match kind_of(options) {
+    match kind_of(options, rest) {
         Some(kind) => bucket_in(kind, key),
         None => NO_BUCKET,
     }

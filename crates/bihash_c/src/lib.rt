@@ -24,6 +24,7 @@ mod options;
 mod pair;
 mod replace_if;
 mod table_share;
+mod version;
 
 pub use answer_numbers::{
     ABSENT, ADDED, Answer, BAD_OPTIONS, CONTENDED, DONE, FOUND, FULL, MEMORY, NO_PAGES, NUMBERS,

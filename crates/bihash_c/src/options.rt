@@ -1,5 +1,6 @@
 //! What C asks for when a table is made, or a bucket is asked for.
-ghost use Rattle.bihash_c.specs.Options.{KindTold};
+ghost use Rattle.std.specs.Prelude.{◌↔◌, ◌≡◌, IsTrue};
+ghost use Rattle.bihash_c.specs.Options.{AskNothing, KindTold};
 
 /// A table of the usual size.
 pub const STANDARD: u32 = 0;
@@ -32,11 +33,22 @@ pub enum Kind {
     LargeFive,
 }
 
-/// The kind of table that is meant. `None`: another size, another number of words or other tables.
-pub fn kind_of(options: &Options) -> Option<Kind>
-    ensures { KindTold options.now result }
+// Whether the bytes behind those that are known ask for nothing.
+fn ask_nothing(rest: &[u8]) -> bool
+    ensures { IsTrue result ↔ AskNothing rest.now }
 {
-    if options.size != 12 || (options.tables != STANDARD && options.tables != LARGE) {
+    rest.iter().all(|byte| *byte == 0)
+}
+
+/// The kind of table that is meant, where these are the bytes behind those that are known. `None`: another size, another number of
+/// words or other tables, or something unknown.
+pub fn kind_of(options: &Options, rest: &[u8]) -> Option<Kind>
+    ensures { KindTold options.now rest.now result }
+{
+    if options.size as usize != rest.len().saturating_add(12) || !ask_nothing(rest) {
+        return None;
+    }
+    if options.tables != STANDARD && options.tables != LARGE {
         return None;
     }
     let is_large = options.tables == LARGE;

@@ -1,5 +1,5 @@
 -- What becomes of a judge: s is the judge before a call, t after it.
-use Rattle.std.specs.Prelude.{◌≡◌, ◌≤◌, ◌<◌, ◌⊎◌, ℕ, List, true, false, Result, IfOk, IfErr, is_ok}
+use Rattle.std.specs.Prelude.{◌≡◌, ◌≢◌, ◌≤◌, ◌<◌, ◌⊎◌, ℕ, List, true, false, Result, IfOk, IfErr, is_ok}
 use Rattle.packet_view.specs.Captures.{PacketFacts}
 use Rattle.acl_policy.specs.Policies.{IsPolicyText}
 use Rattle.bihash_words.specs.Sizes.{Sizes}
@@ -19,8 +19,11 @@ use Rattle.flow_workers.specs.OutOfPages.{IsPacketOutOfPages}
 use Rattle.flow_workers.specs.Verdicts.{HasNoFlow}
 use Rattle.flow_judge.specs.Counting.{added, counted, no_counts}
 use Rattle.flow_judge.specs.JudgeStates.{JudgeState, views_in}
+use Rattle.flow_judge.specs.Meetings.{TellsLoneJudge}
 use Rattle.flow_judge.specs.Ways.{GoesBy}
 use Rattle.flow_judge.specs.declared.judged.Judged.{Judged}
+use Rattle.flow_judge.specs.declared.take_fault.TakeFault.{TakeFault}
+use Rattle.flow_judge.specs.declared.take_fault.TakeFault.TheVariants as takes
 
 -- a judge of new tables, by the policy of this text
 pub record IsNewJudge (l : Layout) (text : List ℕ) (times : Timeouts) (t : JudgeState) : Type 0 where
@@ -35,9 +38,18 @@ pub record IsRuledAnew (text : List ℕ) (s t : JudgeState) : Type 0 where
   pub policy : IsPolicyText text t.policy
   pub same : t ≡ record s { policy = t.policy }
 
--- the judge goes by the other one's policy and timeouts, and is the same elsewhere
-abbrev pub IsRuledAs : (other s t : JudgeState) → Type 0
-IsRuledAs other s t = t ≡ record s { policy = other.policy; times = other.times }
+-- The judge goes by the other one's policy, and the timeouts were the same; or it was found to be alone over its tables, and has the
+-- other one's timeouts too.
+abbrev pub IsRuledAs : Layout → (other s t : JudgeState) → Type 0
+IsRuledAs l other s t =
+    ((other.times ≡ s.times) × (t ≡ record s { policy = other.policy }))
+    ⊎ ((lone : JudgeState) × TellsLoneJudge l s lone true × (t ≡ record lone { policy = other.policy; times = other.times }))
+
+-- why it doesn't, and keeps its policy and timeouts: too many share the other one's, or the timeouts are others and some judge over
+-- its tables wasn't joined into it
+abbrev pub IsTakeRefused : Layout → (other s : JudgeState) → TakeFault → (t : JudgeState) → Type 0
+IsTakeRefused l other s takes.Memory t = t ≡ s
+IsTakeRefused l other s takes.Strangers t = (other.times ≢ s.times) × TellsLoneJudge l s t false
 
 -- the judge is the same, but for what its callers know and what it counts
 abbrev pub IsSameJudge : JudgeState → JudgeState → Type 0
@@ -81,7 +93,8 @@ pub record IsSplitAndJoined (z : Sizes) (s t : CallerState) : Type 0 where
   pub split : IsSplit z s left right
   pub joined : IsJoined z left right t
 
--- nothing was done, or one family's caller was refused its split
+-- Nothing was done, or one family's caller was refused its split. Where that is the one of IPv6, the other one was split and joined
+-- again: a number of its table is used up, and it doesn't know any more that it is lone, where it did.
 abbrev pub AreSplitRefused : Layout → SplitFault → (four six four' six' : CallerState) → Type 0
 AreSplitRefused l fault four six four' six' =
     ((four' ≡ four) × (six' ≡ six) × (fault ≡ Memory))

@@ -1,6 +1,7 @@
 pub mod Ageing
 pub mod Closings
 pub mod Counting
+pub mod EndFaults
 pub mod FlowBuckets
 pub mod Judges
 pub mod JudgeStates

@@ -9,8 +9,9 @@ use Rattle.bihash_steps.specs.Seats.{with_view}
 use Rattle.bihash_table.specs.Closing.{WasWhole}
 use Rattle.bihash_table.specs.Renewing.{IsRenewRefused}
 use Rattle.bihash_table.specs.declared.renew_fault.RenewFault.{RenewFault}
-use Rattle.bihash_table.specs.declared.renew_fault.RenewFault.TheVariants.{Strangers}
+use Rattle.flow_judge.specs.EndFaults.{AreHeld, end_of_renewal}
 use Rattle.flow_judge.specs.JudgeStates.{JudgeState}
+use Rattle.flow_judge.specs.declared.end_fault.EndFault.{EndFault}
 
 -- the family's caller had every number, and the new one begins with what it knew; the other family's is the same
 abbrev pub AreRenewed : {A B K L : Type 0} (ga : Ghosts A K) (gb : Ghosts B L) → Family → JudgeState → JudgeState → Type 0
@@ -29,9 +30,15 @@ pub record IsRenewedJudge {A B K L : Type 0} (ga : Ghosts A K) (gb : Ghosts B L)
   pub renewed : AreRenewed ga gb family s t
   pub own : t.shared ≡ false
 
--- why it was not renewed; where the tables are shared another judge may have a share of them still, and then nothing was done
-pub record IsRenewRefusedJudge {A B K L : Type 0} (ga : Ghosts A K) (gb : Ghosts B L) (family : Family) (s : JudgeState)
-    (fault : RenewFault) (t : JudgeState) : Type 0 where
+-- a judge that has its tables for itself was not renewed, by the table's own answer
+pub record IsRefusedOwn {A B K L : Type 0} (ga : Ghosts A K) (gb : Ghosts B L) (family : Family) (s : JudgeState)
+    (cause : RenewFault) (t : JudgeState) : Type 0 where
   pub by : (t.policy ≡ s.policy) × (t.times ≡ s.times) × (t.counts ≡ s.counts)
-  pub refused : (AreNotRenewed ga gb family s fault t × (t.shared ≡ false))
-      ⊎ ((fault ≡ Strangers) × (s.shared ≡ true) × (t ≡ s))
+  pub refused : AreNotRenewed ga gb family s cause t
+  pub own : t.shared ≡ false
+
+-- why a judge was not renewed: for this cause, or another one may have a share of its tables
+abbrev pub IsRenewRefusedJudge : {A B K L : Type 0} (ga : Ghosts A K) (gb : Ghosts B L) → Family → JudgeState → EndFault → JudgeState → Type 0
+IsRenewRefusedJudge ga gb family s fault t =
+    ((cause : RenewFault) × (fault ≡ end_of_renewal cause) × IsRefusedOwn ga gb family s cause t)
+    ⊎ ((s.shared ≡ true) × AreHeld ga gb family s fault t)

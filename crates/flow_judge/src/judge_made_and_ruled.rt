@@ -1,21 +1,30 @@
 //! A judge made, and its policy replaced.
-ghost use Rattle.std.specs.Prelude.{◌≡◌, ◌≢◌, IfOk, IfErr};
+ghost use Rattle.std.specs.Prelude.{◌≡◌, ◌≢◌, ◌↔◌, IfOk, IfErr, IsTrue};
 ghost use Rattle.acl_policy.specs.Policies.{IsPolicyFault};
 ghost use Rattle.acl_policy.specs.declared.policy.PolicyFault.TheVariants.{Memory};
 ghost use Rattle.flow_filter.specs.OneThread.{layout_of};
 ghost use Rattle.flow_workers.specs.Callers.{AreShapes};
-ghost use Rattle.flow_judge.specs.Judges.{IsNewJudge, IsRuledAnew, IsRuledAs};
+ghost use Rattle.flow_judge.specs.Judges.{IsNewJudge, IsRuledAnew, IsRuledAs, IsTakeRefused};
 
 use crate::counts::Counts;
 use crate::judge::Judge;
 use crate::tables_share::TablesShare;
+use crate::take_fault::TakeFault;
 use acl_policy::{PolicyFault, read_policy};
 use bihash_words::Shape;
 use flow_filter::{Filter, PreparedFilter};
 use flow_workers::create_cutting_tables;
 use session_state::Timeouts;
-use std::alloc::{AllocError, Global};
+use std::alloc::Global;
 use std::sync::Arc;
+
+// Whether these are the same timeouts.
+fn same_times(one: Timeouts, other: Timeouts) -> bool
+    ensures { IsTrue result ↔ one ≡ other }
+{
+    one.established == other.established
+        && (one.transient == other.transient && one.udp == other.udp)
+}
 
 impl<A: Shape, B: Shape> Judge<A, B> {
     /// A judge of new session tables, by the policy that the text says. A fault other than `Memory` is the text's first.
@@ -60,17 +69,24 @@ impl<A: Shape, B: Shape> Judge<A, B> {
         Ok(())
     }
 
-    /// Judges by the other one's policy and timeouts from now on. Sessions stay. `AllocError`: as many share that policy as
-    /// may, and the judge keeps its own.
-    pub fn take_policy<C: Shape, D: Shape>(&mut self, other: &Judge<C, D>) -> Result<(), AllocError>
-        ensures ruled { IfOk result (λ _. IsRuledAs other.now self.old self.new) }
-        ensures kept { IfErr result (λ _. self.new ≡ self.old) }
+    /// Judges by the other one's policy from now on, and by its timeouts, which must be the judge's own already unless the judge
+    /// is alone over its tables: judges over the same tables have the same. Sessions stay. Refused, the judge keeps its own.
+    pub fn take_policy<C: Shape, D: Shape>(&mut self, other: &Judge<C, D>) -> Result<(), TakeFault>
+        ensures ruled { IfOk result (λ _. IsRuledAs (layout_of ⟦<A as Shape>⟧ ⟦<B as Shape>⟧) other.now self.old self.new) }
+        ensures kept { IfErr result (λ fault. IsTakeRefused (layout_of ⟦<A as Shape>⟧ ⟦<B as Shape>⟧) other.now self.old fault self.new) }
     {
         let Ok(filter) = Arc::try_clone(&other.filter) else {
-            return Err(AllocError);
+            return Err(TakeFault::Memory);
         };
-        self.filter = filter;
-        Ok(())
+        if same_times(other.times(), self.times()) {
+            self.filter = filter;
+            return Ok(());
+        }
+        if self.is_lone() {
+            self.filter = filter;
+            return Ok(());
+        }
+        Err(TakeFault::Strangers)
     }
 
     /// How many packets the judge gave each kind of verdict, those of judges that were joined into it too.

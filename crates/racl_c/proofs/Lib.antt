@@ -1,3 +1,4 @@
 pub mod AsBox
 pub mod BurstLemmas
 pub mod ClosingLemmas
+pub mod WorkerLemmas

@@ -4,11 +4,7 @@ use Rattle.acl_policy.specs.declared.policy.PolicyFault.{PolicyFault}
 use Rattle.acl_policy.specs.declared.policy.PolicyFault.TheVariants as Faults
 use Rattle.bihash_steps.specs.declared.split_fault.SplitFault.{SplitFault}
 use Rattle.bihash_steps.specs.declared.split_fault.SplitFault.TheVariants as SplitFaults
-use Rattle.bihash_table.specs.declared.close_fault.CloseFault.{CloseFault}
-use Rattle.bihash_table.specs.declared.close_fault.CloseFault.TheVariants as CloseFaults
 use Rattle.bihash_table.specs.declared.contended.Contended.{Contended}
-use Rattle.bihash_table.specs.declared.renew_fault.RenewFault.{RenewFault}
-use Rattle.bihash_table.specs.declared.renew_fault.RenewFault.TheVariants as RenewFaults
 use Rattle.packet_view.specs.declared.tuple.Direction.{Direction}
 use Rattle.packet_view.specs.declared.tuple.Direction.TheVariants.{Inbound, Outbound}
 use Rattle.bihash_words.specs.declared.patch.Reply.{Reply}
@@ -16,7 +12,11 @@ use Rattle.bihash_words.specs.declared.patch.Reply.TheVariants as replies
 use Rattle.session_state.specs.Passes.{passes}
 use Rattle.session_state.specs.declared.verdict.Verdict.{Verdict}
 use Rattle.session_state.specs.declared.verdict.Verdict.TheVariants.{ByDefault, Deny, Full, Malformed, NoPages, NotIp, Permit, Reflect, Session, Short, Worn}
+use Rattle.flow_judge.specs.declared.end_fault.EndFault.{EndFault}
+use Rattle.flow_judge.specs.declared.end_fault.EndFault.TheVariants as EndFaults
 use Rattle.flow_judge.specs.declared.judged.Judged.{Judged}
+use Rattle.flow_judge.specs.declared.take_fault.TakeFault.{TakeFault}
+use Rattle.flow_judge.specs.declared.take_fault.TakeFault.TheVariants as TakeFaults
 use Rattle.racl_c.specs.declared.answer_numbers.Answer.{Answer}
 use Rattle.racl_c.specs.declared.answer_numbers.Made.{Made}
 
@@ -74,10 +74,11 @@ split_number SplitFaults.Memory = 1
 split_number SplitFaults.Numbers = 6
 split_number SplitFaults.Contended = 7
 
-abbrev pub renew_number : RenewFault → ℕ
-renew_number RenewFaults.Memory = 1
-renew_number RenewFaults.Strangers = 8
+abbrev pub end_number : EndFault → ℕ
+end_number EndFaults.Memory = 1
+end_number EndFaults.Strangers = 8
+end_number EndFaults.Contended = 7
 
-abbrev pub close_number : CloseFault → ℕ
-close_number CloseFaults.Memory = 1
-close_number CloseFaults.Strangers = 8
+abbrev pub take_number : TakeFault → ℕ
+take_number TakeFaults.Memory = 1
+take_number TakeFaults.Strangers = 8

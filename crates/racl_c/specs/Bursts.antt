@@ -12,7 +12,7 @@ abbrev pub frame_in : List ℕ → Descriptor → List ℕ
 frame_in memory d = if nat_le (d.at + d.length) (length memory) then take d.length (drop d.at memory) else []
 
 abbrev pub packet_in : List ℕ → Descriptor → PacketFacts
-packet_in memory d = record { interface = d.interface; moment = d.second; micros = 0; frame = frame_in memory d }
+packet_in memory d = record { interface = d.interface_number; moment = d.second; micros = 0; frame = frame_in memory d }
 
 -- the frame at place n was judged from s to t, by one try, and that is its answer
 abbrev pub IsJudgedAt : {A B K L : Type 0} → Ghosts A K → Ghosts B L → List ℕ → List Descriptor → List Answer → ℕ → JudgeState

@@ -4,11 +4,11 @@ use Rattle.packet_view.specs.declared.tuple.Family.{Family}
 use Rattle.packet_view.specs.declared.tuple.Family.TheVariants.{V4, V6}
 use Rattle.bihash_words.specs.Sizes.{sizes_of}
 use Rattle.bihash_words.specs.declared.shape.Shape.{Ghosts}
-use Rattle.bihash_table.specs.declared.close_fault.CloseFault.{CloseFault}
 use Rattle.session_state.specs.declared.timeouts.Timeouts.{Timeouts}
 use Rattle.flow_judge.specs.Closings.{IsClosedFour, IsClosedSix, IsFourKept, IsSixKept}
 use Rattle.flow_judge.specs.JudgeStates.{JudgeState}
-use Rattle.racl_c.specs.Answers.{close_number}
+use Rattle.flow_judge.specs.declared.end_fault.EndFault.{EndFault}
+use Rattle.racl_c.specs.Answers.{end_number}
 use Rattle.racl_c.specs.Contents.{Calls}
 use Rattle.racl_c.specs.Sessions.{IsGiven, pair_count, session_at}
 use Rattle.racl_c.specs.declared.content_calls.Content.{Content}
@@ -47,7 +47,7 @@ IsClosedTo ga gb V4 after s t = (ps : List (List ℕ × ℕ)) × ListsFour s.tim
 IsClosedTo ga gb V6 after s t = (ps : List (List ℕ × ℕ)) × ListsSix s.times ps after × IsClosedSix gb s ps t
 
 -- why it was not
-abbrev pub IsKept : {A B : Type 0} → Ghosts A (List ℕ) → Ghosts B (List ℕ) → Family → CloseFault → JudgeState → JudgeState
+abbrev pub IsKept : {A B : Type 0} → Ghosts A (List ℕ) → Ghosts B (List ℕ) → Family → EndFault → JudgeState → JudgeState
     → Type 0
 IsKept ga gb V4 fault s t = IsFourKept (sizes_of ga) s fault t
 IsKept ga gb V6 fault s t = IsSixKept (sizes_of gb) s fault t
@@ -57,7 +57,7 @@ abbrev pub CloseTold : {A B C D : Type 0} → Ghosts A (List ℕ) → Ghosts B (
     → Family → (x y before after : Content) → ℕ → Type 0
 CloseTold ga gb la lb family x y before after answer =
     ((answer ≡ 0) × Calls x y (IsClosedTo ga gb family after) (IsClosedTo la lb family after))
-    ⊎ ((fault : CloseFault) × (answer ≡ close_number fault)
+    ⊎ ((fault : EndFault) × (answer ≡ end_number fault)
     × Calls x y (IsKept ga gb family fault) (IsKept la lb family fault) × (after ≡ before))
 
 -- memory for a list was refused, and nothing was done

@@ -9,15 +9,16 @@ use Rattle.bihash_words.specs.declared.patch.Reply.{Reply}
 use Rattle.bihash_words.specs.declared.shape.Shape.{Ghosts}
 use Rattle.bihash_steps.specs.declared.split_fault.SplitFault.{SplitFault}
 use Rattle.bihash_table.specs.declared.contended.Contended.{Contended}
-use Rattle.bihash_table.specs.declared.renew_fault.RenewFault.{RenewFault}
 use Rattle.flow_filter.specs.OneThread.{Layout}
 use Rattle.flow_judge.specs.Ageing.{TellsAged}
 use Rattle.flow_judge.specs.JudgeStates.{JudgeState}
 use Rattle.flow_judge.specs.Judges as judges
 use Rattle.flow_judge.specs.Renewals.{IsRenewRefusedJudge, IsRenewedJudge}
 use Rattle.flow_judge.specs.declared.counts.Counts.{Counts}
+use Rattle.flow_judge.specs.declared.end_fault.EndFault.{EndFault}
 use Rattle.flow_judge.specs.declared.judged.Judged.{Judged}
-use Rattle.racl_c.specs.Answers.{answer_of, ended_number, fault_told, renew_number, split_number}
+use Rattle.flow_judge.specs.declared.take_fault.TakeFault.{TakeFault}
+use Rattle.racl_c.specs.Answers.{answer_of, end_number, ended_number, fault_told, split_number, take_number}
 use Rattle.racl_c.specs.Options.{ChoiceTold}
 use Rattle.racl_c.specs.declared.answer_numbers.Answer.{Answer}
 use Rattle.racl_c.specs.declared.answer_numbers.Made.{Made}
@@ -63,16 +64,16 @@ pub record IsFaultTold (text : List ℕ) (made : Made) : Type 0 where
   pub told : made ≡ fault_told fault
 
 -- a judge as it was asked for
-pub record IsBegun (l m : Layout) (text : List ℕ) (options : Options) (x : Content) : Type 0 where
+pub record IsBegun (l m : Layout) (text : List ℕ) (options : Options) (rest : List ℕ) (x : Content) : Type 0 where
   pub choice : Choice
-  pub asked : ChoiceTold options (Some choice)
+  pub asked : ChoiceTold options rest (Some choice)
   pub begun : IsNewBy l m text choice x
 
 -- a judge was made, or the options aren't right, or the text has a fault, or memory was refused; refused, all is as it was
-abbrev pub NewTold : (standard large : Layout) → List ℕ → Options → (before after : Content) → Made → Type 0
-NewTold l m text options before after made =
-    ((made ≡ record { kind = 0; line = 0 }) × IsBegun l m text options after)
-    ⊎ (((made ≡ record { kind = 5; line = 0 }) × ChoiceTold options None × (after ≡ before))
+abbrev pub NewTold : (standard large : Layout) → List ℕ → Options → (rest : List ℕ) → (before after : Content) → Made → Type 0
+NewTold l m text options rest before after made =
+    ((made ≡ record { kind = 0; line = 0 }) × IsBegun l m text options rest after)
+    ⊎ (((made ≡ record { kind = 5; line = 0 }) × ChoiceTold options rest None × (after ≡ before))
     ⊎ (IsFaultTold text made × (after ≡ before)))
 
 -- one try of judging was answered so
@@ -87,15 +88,16 @@ abbrev pub RuleTold : List ℕ → Made → JudgeState → JudgeState → Type 0
 RuleTold text made s t = ((made ≡ record { kind = 0; line = 0 }) × judges.IsRuledAnew text s t)
     ⊎ (IsFaultTold text made × (t ≡ s))
 
--- the judge goes by the policy and timeouts of the other one
-abbrev pub IsRuledAs : Content → JudgeState → JudgeState → Type 0
-IsRuledAs (Standard other) s t = judges.IsRuledAs other s t
-IsRuledAs (Large other) s t = judges.IsRuledAs other s t
-IsRuledAs x s t = ⊥
+-- the judge goes by the policy and the timeouts of the other one, or keeps its own for this reason
+abbrev pub IsTaken : Layout → JudgeState → ℕ → JudgeState → JudgeState → Type 0
+IsTaken l other answer s t = ((answer ≡ 0) × judges.IsRuledAs l other s t)
+    ⊎ ((fault : TakeFault) × (answer ≡ take_number fault) × judges.IsTakeRefused l other s fault t)
 
--- so it does, or it keeps its own, as too many have the other one's
-abbrev pub TakeTold : Content → ℕ → JudgeState → JudgeState → Type 0
-TakeTold other answer s t = ((answer ≡ 0) × IsRuledAs other s t) ⊎ ((answer ≡ 1) × (t ≡ s))
+-- the other one judges over tables of either size
+abbrev pub TakeTold : Layout → Content → ℕ → JudgeState → JudgeState → Type 0
+TakeTold l (Standard other) answer s t = IsTaken l other answer s t
+TakeTold l (Large other) answer s t = IsTaken l other answer s t
+TakeTold l x answer s t = ⊥
 
 -- the judge and a new one over the same tables
 abbrev pub AreDivided : (standard large : Layout) → Content → Content → Content → Type 0
@@ -118,7 +120,7 @@ JoinTold l m x other y = ⊥
 -- a family's table was renewed, or not for this reason
 abbrev pub RenewTold : {A B K L : Type 0} → Ghosts A K → Ghosts B L → Family → ℕ → JudgeState → JudgeState → Type 0
 RenewTold ga gb family answer s t = ((answer ≡ 0) × IsRenewedJudge ga gb family s t)
-    ⊎ ((fault : RenewFault) × (answer ≡ renew_number fault) × IsRenewRefusedJudge ga gb family s fault t)
+    ⊎ ((fault : EndFault) × (answer ≡ end_number fault) × IsRenewRefusedJudge ga gb family s fault t)
 
 -- one try of a look at a bucket for a session that has ended by this second was answered so
 pub record AgedTold {A B K L : Type 0} (ga : Ghosts A K) (gb : Ghosts B L) (family : Family) (bucket moment answer : ℕ)

@@ -32,7 +32,7 @@ abbrev pub stored_session : Timeouts → FlowFacts → SessionFacts → StoredSe
 stored_session times flow session = record {
   until = live_until session times;
   last = session.last;
-  interface = flow.interface;
+  interface_number = flow.interface;
   family = family_number flow.family;
   protocol = flow.proto;
   first = stored_end flow.family flow.first session.first_flags;

@@ -1,12 +1,12 @@
 //! What C is told: one number for each answer, with all that the answer carries.
 ghost use Rattle.std.specs.Prelude.{◌≡◌};
 ghost use Rattle.racl_c.specs.Answers;
-ghost use Rattle.racl_c.specs.Answers.{answer_of, close_number, ended_number, fault_told, renew_number, split_number, way_number};
+ghost use Rattle.racl_c.specs.Answers.{answer_of, end_number, ended_number, fault_told, split_number, take_number, way_number};
 
 use acl_policy::PolicyFault;
-use bihash_table::{CloseFault, Contended, RenewFault, SplitFault};
+use bihash_table::{Contended, SplitFault};
 use bihash_words::Reply;
-use flow_judge::Judged;
+use flow_judge::{EndFault, Judged, TakeFault};
 use packet_view::Direction;
 use session_state::Verdict;
 
@@ -34,7 +34,7 @@ pub const NUMBERS: u32 = 6;
 /// Another judge stood in the way.
 pub const CONTENDED: u32 = 7;
 
-/// Another judge has a share of the tables, or was not joined.
+/// Another judge over the tables was not joined.
 pub const STRANGERS: u32 = 8;
 
 /// A session that had ended went.
@@ -212,22 +212,23 @@ pub fn split_refusal(fault: SplitFault) -> u32
     }
 }
 
-/// The number for a renewal that was refused.
-pub fn renew_refusal(fault: RenewFault) -> u32
-    ensures { result ≡ renew_number fault }
+/// The number for a table that was not renewed or closed.
+pub fn end_refusal(fault: EndFault) -> u32
+    ensures { result ≡ end_number fault }
 {
     match fault {
-        RenewFault::Memory => MEMORY,
-        RenewFault::Strangers => STRANGERS,
+        EndFault::Memory => MEMORY,
+        EndFault::Strangers => STRANGERS,
+        EndFault::Contended => CONTENDED,
     }
 }
 
-/// The number for a table that was not closed.
-pub fn close_refusal(fault: CloseFault) -> u32
-    ensures { result ≡ close_number fault }
+/// The number for a policy that was not taken.
+pub fn take_refusal(fault: TakeFault) -> u32
+    ensures { result ≡ take_number fault }
 {
     match fault {
-        CloseFault::Memory => MEMORY,
-        CloseFault::Strangers => STRANGERS,
+        TakeFault::Memory => MEMORY,
+        TakeFault::Strangers => STRANGERS,
     }
 }

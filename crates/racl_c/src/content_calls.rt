@@ -4,11 +4,11 @@ ghost use Rattle.acl_policy.specs.Policies.{IsPolicyFault};
 ghost use Rattle.acl_policy.specs.declared.policy.PolicyFault.TheVariants.{Memory};
 ghost use Rattle.flow_filter.specs.OneThread.{layout_of};
 ghost use Rattle.racl_c.specs.Bursts.{BurstTold};
-ghost use Rattle.racl_c.specs.Contents.{AgedTold, AreOfOneTable, Calls, CountsTold, HasJudge, IsNewBy, IsRuledAs, JoinTold, JudgeTold, RenewTold, RuleTold, SplitTold, TakeTold};
+ghost use Rattle.racl_c.specs.Contents.{AgedTold, AreOfOneTable, Calls, CountsTold, HasJudge, IsNewBy, JoinTold, JudgeTold, RenewTold, RuleTold, SplitTold, TakeTold};
 
 use crate::answer_numbers::{
-    Answer, DONE, MEMORY, Made, ended_answer, fault_answer, judged_answer, renew_refusal,
-    split_refusal, was_done,
+    Answer, DONE, Made, end_refusal, ended_answer, fault_answer, judged_answer, split_refusal,
+    take_refusal, was_done,
 };
 use crate::burst::{Descriptor, judge_burst};
 use crate::options::Choice;
@@ -37,10 +37,10 @@ pub enum Content {
     Rules(RuleCounts),
 }
 
-// Gives a judge the policy and timeouts of another one.
+// Gives a judge the policy and the timeouts of another one.
 fn take_policy_of<A: Shape, B: Shape>(judge: &mut Judge<A, B>, other: &Content) -> u32
     requires { HasJudge other.now }
-    ensures { TakeTold other.now result judge.old judge.new }
+    ensures { TakeTold (layout_of ⟦<A as Shape>⟧ ⟦<B as Shape>⟧) other.now result judge.old judge.new }
 {
     let taken = match other {
         Content::Standard(other) => judge.take_policy(other),
@@ -49,7 +49,7 @@ fn take_policy_of<A: Shape, B: Shape>(judge: &mut Judge<A, B>, other: &Content) 
     };
     match taken {
         Ok(()) => DONE,
-        Err(_) => MEMORY,
+        Err(fault) => take_refusal(fault),
     }
 }
 
@@ -130,7 +130,8 @@ impl Content {
     pub fn take_policy(&mut self, other: &Content) -> u32
         requires judge { HasJudge self.old }
         requires other { HasJudge other.now }
-        ensures { Calls self.old self.new (TakeTold other.now result) (TakeTold other.now result) }
+        ensures { Calls self.old self.new (TakeTold (layout_of ⟦<ShapeV4 as Shape>⟧ ⟦<ShapeV6 as Shape>⟧) other.now result)
+            (TakeTold (layout_of ⟦<LargeV4 as Shape>⟧ ⟦<LargeV6 as Shape>⟧) other.now result) }
     {
         match self {
             Content::Standard(judge) => take_policy_of(judge, other),
@@ -235,7 +236,7 @@ impl Content {
                 }
                 Err((fault, judge)) => {
                     *self = Content::Standard(judge);
-                    renew_refusal(fault)
+                    end_refusal(fault)
                 }
             },
             Content::Large(judge) => match judge.renew(alloc, family) {
@@ -245,7 +246,7 @@ impl Content {
                 }
                 Err((fault, judge)) => {
                     *self = Content::Large(judge);
-                    renew_refusal(fault)
+                    end_refusal(fault)
                 }
             },
             _ => unreachable!(),

@@ -4,11 +4,10 @@ ghost use Rattle.packet_view.specs.declared.tuple.Family.TheVariants.{V4, V6};
 ghost use Rattle.racl_c.specs.Closings.{CloseTold, HasSessions, ListsFour, ListsSix, SessionCountTold, SessionFound};
 ghost use Rattle.racl_c.specs.Contents.{HasJudge};
 
-use crate::answer_numbers::{DONE, close_refusal};
+use crate::answer_numbers::{DONE, end_refusal};
 use crate::content_calls::Content;
 use crate::session_list_read::{ClosedPairs, SessionList};
 use crate::stored_session::StoredSession;
-use bihash_table::CloseFault;
 use bihash_words::{LargeV4, LargeV6, Shape, ShapeV4, ShapeV6};
 use packet_view::Family;
 use session_state::Timeouts;
@@ -49,7 +48,7 @@ impl Content {
                 *self = Content::Standard(judge);
                 match closed {
                     Ok(pairs) => list_four(list, times, pairs),
-                    Err(fault) => close_refusal(fault),
+                    Err(fault) => end_refusal(fault),
                 }
             }
             Content::Large(judge) => {
@@ -58,7 +57,7 @@ impl Content {
                 *self = Content::Large(judge);
                 match closed {
                     Ok(pairs) => list_four(list, times, pairs),
-                    Err(fault) => close_refusal(fault),
+                    Err(fault) => end_refusal(fault),
                 }
             }
             _ => unreachable!(),
@@ -78,7 +77,7 @@ impl Content {
                 *self = Content::Standard(judge);
                 match closed {
                     Ok(pairs) => list_six(list, times, pairs),
-                    Err(fault) => close_refusal(fault),
+                    Err(fault) => end_refusal(fault),
                 }
             }
             Content::Large(judge) => {
@@ -87,7 +86,7 @@ impl Content {
                 *self = Content::Large(judge);
                 match closed {
                     Ok(pairs) => list_six(list, times, pairs),
-                    Err(fault) => close_refusal(fault),
+                    Err(fault) => end_refusal(fault),
                 }
             }
             _ => unreachable!(),

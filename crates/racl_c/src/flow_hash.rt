@@ -1,10 +1,11 @@
-//! By what the frames of a flow are dealt.
+//! By what the frames of a flow are dealt, and to whom.
 ghost use Rattle.packet_view.specs.Frames.{FrameFacts, IsFrame};
 ghost use Rattle.packet_view.specs.declared.tuple.Mac.{Mac};
-ghost use Rattle.std.specs.Prelude.{Option};
+ghost use Rattle.std.specs.Prelude.{◌≡◌, Option};
 ghost use Rattle.flow_filter.specs.OneThread.{layout_of};
 ghost use Rattle.flow_dealing.specs.Dealings.{flow_of_frame};
-ghost use Rattle.racl_c.specs.FlowHashes.{IsFlowTold};
+ghost use Rattle.racl_c.specs.FlowHashes.{IsAsProgramDeals, IsFlowTold, IsOfBucket};
+ghost use Rattle.racl_c.specs.FlowHashes;
 
 use bihash_words::{LargeV4, LargeV6, Shape, ShapeV4, ShapeV6, flow_shapes_are_sound};
 use flow_judge::flow_bucket;
@@ -37,4 +38,37 @@ pub extern "C" fn racl_flow_of(interface: u8, frame: &[u8]) -> Flow
         },
         None => Flow { family: 0, hash: 0 },
     }
+}
+
+// The worker of a bucket, by what it is in standard tables.
+fn worker_of_bucket(family: u32, bucket: u64, workers: u32) -> u32
+    ensures { result ≡ FlowHashes.worker_of_bucket family bucket workers }
+{
+    if workers == 0 {
+        return 0;
+    }
+    let standard = if family == 6 {
+        bucket % 1024
+    } else {
+        bucket % 4096
+    };
+    (standard % u64::from(workers)) as u32
+}
+
+/// Of so many workers the one to whom a bucket of this family's table is dealt.
+#[unsafe(no_mangle)]
+pub extern "C" fn racl_worker_of_bucket(family: u32, bucket: u64, workers: u32) -> u32
+    ensures { result ≡ FlowHashes.worker_of_bucket family bucket workers }
+{
+    worker_of_bucket(family, bucket, workers)
+}
+
+/// Of so many workers the one to whom a flow's frames are dealt.
+#[unsafe(no_mangle)]
+pub extern "C" fn racl_worker_of(flow: Flow, workers: u32) -> u32
+    ensures standard { IsOfBucket (layout_of ⟦<ShapeV4 as Shape>⟧ ⟦<ShapeV6 as Shape>⟧) flow workers result }
+    ensures large { IsOfBucket (layout_of ⟦<LargeV4 as Shape>⟧ ⟦<LargeV6 as Shape>⟧) flow workers result }
+    ensures program { IsAsProgramDeals (layout_of ⟦<ShapeV4 as Shape>⟧ ⟦<ShapeV6 as Shape>⟧) flow workers result }
+{
+    worker_of_bucket(flow.family, flow.hash, workers)
 }

@@ -18,6 +18,7 @@ mod racl_rule_counts;
 mod racl_sessions;
 mod session_list_read;
 mod stored_session;
+mod version;
 
 pub use answer_numbers::{
     Answer, BAD_LINE, BAD_OPTIONS, BY_DEFAULT, CONTENDED, DENY, DONE, ENDED, FULL, MALFORMED,

@@ -1,6 +1,6 @@
 //! What C asks for when a judge is made.
-ghost use Rattle.std.specs.Prelude.{◌≡◌};
-ghost use Rattle.racl_c.specs.Options.{ChoiceTold};
+ghost use Rattle.std.specs.Prelude.{◌↔◌, ◌≡◌, IsTrue};
+ghost use Rattle.racl_c.specs.Options.{AskNothing, ChoiceTold};
 
 use session_state::Timeouts;
 
@@ -24,11 +24,22 @@ pub struct Choice {
     pub times: Timeouts,
 }
 
-/// What was asked for. `None`: another size or other tables, or a timeout of 0.
-pub fn choice_of(options: &Options) -> Option<Choice>
-    ensures { ChoiceTold options.now result }
+// Whether the bytes behind those that are known ask for nothing.
+fn ask_nothing(rest: &[u8]) -> bool
+    ensures { IsTrue result ↔ AskNothing rest.now }
 {
-    if options.size != 20 || options.tables > 1 {
+    rest.iter().all(|byte| *byte == 0)
+}
+
+/// What was asked for, where these are the bytes behind those that are known. `None`: another size or other tables, a timeout of 0,
+/// or something unknown.
+pub fn choice_of(options: &Options, rest: &[u8]) -> Option<Choice>
+    ensures { ChoiceTold options.now rest.now result }
+{
+    if options.size as usize != rest.len().saturating_add(20) || !ask_nothing(rest) {
+        return None;
+    }
+    if options.tables > 1 {
         return None;
     }
     if options.established == 0 || options.transient == 0 || options.udp == 0 {

@@ -18,19 +18,20 @@ use flow_judge::Counts;
 use packet_view::Family;
 use std::alloc::Global;
 
-/// A judge over new tables, by the policy of this text.
+/// A judge over new tables, by the policy of this text. The rest are the bytes of the options behind those that are known.
 #[unsafe(no_mangle)]
-pub extern "C" fn racl_new(
+pub extern "C" fn racl_new_with(
     alloc: Global,
     handle: &mut Handle,
     text: &[u8],
     options: &Options,
+    rest: &[u8],
 ) -> Made
     ensures { NewTold (layout_of ⟦<ShapeV4 as Shape>⟧ ⟦<ShapeV6 as Shape>⟧)
-        (layout_of ⟦<LargeV4 as Shape>⟧ ⟦<LargeV6 as Shape>⟧) text.now options.now
+        (layout_of ⟦<LargeV4 as Shape>⟧ ⟦<LargeV6 as Shape>⟧) text.now options.now rest.now
         (content_in handle.old.place) (content_in handle.new.place) result }
 {
-    let Some(choice) = choice_of(options) else {
+    let Some(choice) = choice_of(options, rest) else {
         return options_refused();
     };
     let content = match Content::new(alloc, text, &choice) {
@@ -102,13 +103,15 @@ pub extern "C" fn racl_set_policy(alloc: Global, handle: &mut Handle, text: &[u8
     made
 }
 
-/// Judges by the policy and timeouts of another judge from now on. Sessions stay.
+/// Judges by the policy of another judge from now on, and by its timeouts, which are others only where the judge is alone over
+/// its tables. Sessions stay.
 #[unsafe(no_mangle)]
 pub extern "C" fn racl_take_policy(alloc: Global, handle: &mut Handle, other: &mut Handle) -> u32
     requires judge { HasJudge (content_in handle.old.place) }
     requires other { HasJudge (content_in other.old.place) }
     ensures taken { Calls (content_in handle.old.place) (content_in handle.new.place)
-        (TakeTold (content_in other.old.place) result) (TakeTold (content_in other.old.place) result) }
+        (TakeTold (layout_of ⟦<ShapeV4 as Shape>⟧ ⟦<ShapeV6 as Shape>⟧) (content_in other.old.place) result)
+        (TakeTold (layout_of ⟦<LargeV4 as Shape>⟧ ⟦<LargeV6 as Shape>⟧) (content_in other.old.place) result) }
     ensures same { content_in other.new.place ≡ content_in other.old.place }
 {
     let mut place = handle.take(alloc);

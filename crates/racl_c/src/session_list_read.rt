@@ -55,7 +55,7 @@ fn four_session(times: &Timeouts, key: [u64; 2], session: &Session) -> StoredSes
     StoredSession {
         until: live_until_second(times, session),
         last: session.last(),
-        interface: (word % (1 << 8)) as u8,
+        interface_number: (word % (1 << 8)) as u8,
         family: 4,
         protocol: ((word >> 24) % (1 << 8)) as u8,
         first: StoredEnd {
@@ -79,7 +79,7 @@ fn six_session(times: &Timeouts, key: [u64; 5], session: &Session) -> StoredSess
     StoredSession {
         until: live_until_second(times, session),
         last: session.last(),
-        interface: (word % (1 << 8)) as u8,
+        interface_number: (word % (1 << 8)) as u8,
         family: 6,
         protocol: ((word >> 24) % (1 << 8)) as u8,
         first: StoredEnd {

@@ -17,7 +17,7 @@ pub struct StoredEnd {
 pub struct StoredSession {
     pub until: u64,
     pub last: u32,
-    pub interface: u8,
+    pub interface_number: u8,
     pub family: u8,
     pub protocol: u8,
     pub first: StoredEnd,

@@ -34,6 +34,10 @@ abbrev pub size_of : SizedTables → TableSize
 size_of (laid.Standard own) = asked.Standard
 size_of (laid.Large own) = asked.Large
 
+-- from how many packets on that are judged at once workers have threads of their own
+abbrev pub many_packets : ℕ
+many_packets = 49152
+
 -- whether the table of IPv4 cuts larger returned blocks
 abbrev pub cuts_four : SizedTables → Bool
 cuts_four (laid.Standard own) = own.four.cuts_blocks

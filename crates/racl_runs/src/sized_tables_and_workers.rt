@@ -4,7 +4,7 @@ ghost use Rattle.bihash_words.specs.Sizes.{IsSound, sizes_of};
 ghost use Rattle.flow_dealing.specs.declared.worker_of_flow.Dealing.TheVariants.{Bucket};
 ghost use Rattle.racl_views.specs.Stored.{stored_facts};
 ghost use Rattle.racl_runs.specs.Crews.{AreAfter, AreAsAsked, AreFirst, AreFirstOf, AreIdleOf, HaveEndedOn, HaveJudgedSome};
-ghost use Rattle.racl_runs.specs.Crews.{cuts_four, orders_for, size_of, views_with};
+ghost use Rattle.racl_runs.specs.Crews.{cuts_four, many_packets, orders_for, size_of, views_with};
 ghost use Rattle.racl_runs.specs.Runs.{AreStoredOf, layout_for};
 
 use bihash_words::{
@@ -50,6 +50,7 @@ fn setup_of<'t, 'f, A: Shape, B: Shape, T: Wait>(
     ensures manner { (result.filter.now ≡ manner.entry.filter.now) × (result.workers ≡ manner.entry.workers) }
     ensures tables { (result.tables.now ≡ tables.now) × (result.ages ≡ tables.now.four.cuts_blocks) }
     ensures dealing { result.dealing ≡ Bucket }
+    ensures many { result.many ≡ many_packets }
 {
     Setup {
         rt,
