@@ -36,6 +36,14 @@ def put(name, archive, prefix):
     return ""
 
 
+def archives(named=None):
+    """What a program over the filter is linked with: an archive that is named, the one of out/library or the one that `rt lib` left; and
+    the toolchain's part, which the last one lacks."""
+    kit = os.path.dirname(os.path.dirname(os.path.realpath(shutil.which("rt") or "/")))
+    left = [it for it in (f"{TOP}/out/library/libracl.a", f"{TOP}/crates/racl_c/out/libracl_c.a") if os.path.exists(it)]
+    return [named or left[0]] + [it for it in [f"{kit}/c/liblibc_c.a"] if os.path.exists(it)] if named or left else []
+
+
 def crate_tests(name, folder, prefix, run):
     """The tests of a crate of bindings/rust over the library below a prefix, which is all that it has: it stands alone in a folder, and
     pkg-config finds the library."""
