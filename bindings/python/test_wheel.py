@@ -35,6 +35,12 @@ class WheelTest(unittest.TestCase):
             self.assertEqual(ran.stdout, f"{own}/__init__.py {own}/libracl.so {wheel_of_racl.version()} NOT_IP\n", ran.stderr)
             self.assertTrue(os.path.exists(f"{own}/py.typed"))
 
+    def test_a_file_that_is_no_such_library_is_told(self):
+        for wrong in ("libc.so.6", "/nowhere/libracl.so"):
+            ran = subprocess.run([sys.executable, "-B", "-c", "import racl"], cwd=OWN, env={**os.environ, "RACL_LIBRARY": wrong},
+                                 capture_output=True, text=True)
+            self.assertIn(f"ImportError: racl: {wrong}: ", ran.stderr)
+
 
 if __name__ == "__main__":
     unittest.main()

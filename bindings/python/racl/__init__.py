@@ -281,7 +281,7 @@ def check(policy: Policy) -> str:
         if told.kind == _MEMORY:
             raise MemoryError
         if told.length == len(lines):
-            return lines.raw.decode()
+            return lines.raw.decode(errors="backslashreplace")
         lines = ctypes.create_string_buffer(told.length)
 
 
