@@ -64,7 +64,7 @@ static void deal(uint32_t threads) {
 static uint64_t judge_one_by_one(struct worker *worker) {
     uint64_t passed = 0;
     for (const racl_descriptor *it = worker->frames, *end = it + worker->count; it < end; it++)
-        passed += racl_judge_wait(&worker->judge, it->interface, it->second, area + it->at, it->length).passes;
+        passed += racl_judge_wait(&worker->judge, it->interface_number, it->second, area + it->at, it->length).passes;
     return passed;
 }
 

@@ -1,29 +1,28 @@
-//! Links the archive that `rt lib` makes in crates/bihash_c, and the C library's part of the toolchain, which asks for
-//! memory. BIHASH_ARCHIVE and BIHASH_HEAP are their paths where they lie elsewhere.
+//! Links the library for C, libbihash.a: the archive that BIHASH_ARCHIVE names, or else the one that is installed, where pkg-config
+//! says, or else the one that `make library` leaves in a checkout.
 use std::env;
 use std::path::{Path, PathBuf};
+use std::process::Command;
 
-fn link(archive: &Path) {
+fn installed() -> Option<PathBuf> {
+    let told = Command::new("pkg-config").args(["--variable=libdir", "bihash"]).output().ok()?;
+    let folder = String::from_utf8(told.stdout).ok()?;
+    Some(Path::new(folder.trim()).join("libbihash.a")).filter(|it| told.status.success() && it.exists())
+}
+
+fn built() -> Option<PathBuf> {
+    let own = PathBuf::from(env::var_os("CARGO_MANIFEST_DIR")?);
+    Some(own.join("../../out/library/libbihash.a")).filter(|it| it.exists())
+}
+
+fn main() {
+    let named = env::var_os("BIHASH_ARCHIVE").map(PathBuf::from);
+    let archive = named.or_else(installed).or_else(built).expect("install libbihash.a, or name it by BIHASH_ARCHIVE");
     let name = archive.file_stem().and_then(|it| it.to_str()).unwrap_or_default();
     let folder = archive.parent().unwrap_or(Path::new("."));
     println!("cargo:rustc-link-search=native={}", folder.display());
     println!("cargo:rustc-link-lib=static={}", name.strip_prefix("lib").unwrap_or(name));
     println!("cargo:rerun-if-changed={}", archive.display());
-}
-
-/// The toolchain's part, by the command `rt` on the path.
-fn heap() -> Option<PathBuf> {
-    let paths = env::var_os("PATH")?;
-    let command = env::split_paths(&paths).map(|it| it.join("rt")).find(|it| it.exists())?;
-    let kit = command.canonicalize().ok()?.parent()?.parent()?.to_path_buf();
-    Some(kit.join("c/liblibc_c.a"))
-}
-
-fn main() {
-    let top = PathBuf::from(env::var_os("CARGO_MANIFEST_DIR").unwrap()).join("../..");
-    let archive = env::var_os("BIHASH_ARCHIVE").map(PathBuf::from);
-    link(&archive.unwrap_or_else(|| top.join("crates/bihash_c/out/libbihash_c.a")));
-    link(&env::var_os("BIHASH_HEAP").map(PathBuf::from).or_else(heap).expect("BIHASH_HEAP, or `rt` on the path"));
     println!("cargo:rerun-if-env-changed=BIHASH_ARCHIVE");
-    println!("cargo:rerun-if-env-changed=BIHASH_HEAP");
+    println!("cargo:rerun-if-env-changed=PKG_CONFIG_PATH");
 }

@@ -9,9 +9,11 @@
    judged once, as on a capture of one wire: the `mac` line has the address of the router at one end, say. -l: large tables.
    -e, -n, -u: how long sessions live, of TCP that is established, other TCP, and all else. Seconds are CLOCK_MONOTONIC's.
 
-   SIGHUP: the policy is read anew; sessions stay, and a faulty one leaves the old. SIGUSR1: counters on standard error.
-   SIGINT, SIGTERM: the end, with the counters. It needs CAP_NET_RAW, and devices that are up and have no addresses of their
-   own (sysctl net.ipv6.conf.DEVICE.disable_ipv6=1), so that nobody else answers there.
+   SIGHUP: the policy is read anew; sessions stay. Of a faulty one each wrong line is told, and the old one stays. SIGUSR1:
+   counters on standard error. SIGINT, SIGTERM: the end, with the counters. It needs CAP_NET_RAW, and devices that are up and
+   have no addresses of their own (sysctl net.ipv6.conf.DEVICE.disable_ipv6=1), so that nobody else answers there. A device
+   that goes down and comes up again goes on. One that is removed is told, and opened again within a second once a device of its
+   name is up; sessions stay.
 
    Each of -t threads (1) has a judge over the same tables, and of each device a socket whose ring the kernel fills. Frames
    are dealt to sockets by the kernel's hash of addresses and ports (PACKET_FANOUT_HASH), which is the same for both
@@ -25,6 +27,8 @@
      or a frame of up to 64 KiB that is still to be cut. Such frames are judged once. Neither needs to be switched off;
      segments of other protocols than TCP and UDP are dropped by the kernel, and count as missed.
    - The kernel takes a frame's outer VLAN tag out. It is put back before the frame is judged.
+   - Rules and sessions don't know a frame's VLAN: a session that was entered in one lets its frames through in each other one.
+     A bridge for each VLAN, between devices of that VLAN (eth0.5 and eth1.5), keeps them apart.
    - What this host sends by the devices isn't judged (PACKET_IGNORE_OUTGOING), the bridge's own frames among it. They pass by
      queues of tc, and tcpdump on the device doesn't see them (PACKET_QDISC_BYPASS): where a device is busy they are lost.
    - Frames that are longer than the other device's packets may be are lost: the devices are to have the same MTU.
@@ -47,6 +51,7 @@
 #include <stdio.h>
 #include <stdlib.h>
 #include <string.h>
+#include <sys/ioctl.h>
 #include <sys/mman.h>
 #include <sys/socket.h>
 #include <time.h>
@@ -90,6 +95,7 @@ struct worker {
     racl_handle judge;
     pthread_t thread;
     struct port ports[SIDES];
+    struct port fresh[SIDES]; /* what it is to have instead, under the lock; without a ring: nothing */
     uint64_t totals[SIDES][TOTALS];
     uint32_t policies, questions;
     /* what it answered last, under the lock */
@@ -99,7 +105,8 @@ struct worker {
 static struct side {
     const char *device;
     uint8_t interface;
-} sides[SIDES] = {{NULL, 0}, {NULL, 1}};
+    bool is_lost; /* it was removed, and isn't opened again yet */
+} sides[SIDES] = {{NULL, 0, false}, {NULL, 1, false}};
 static struct worker workers[MOST_THREADS];
 static uint32_t threads = 1;
 static racl_options options = RACL_OPTIONS;
@@ -113,11 +120,15 @@ static pthread_cond_t answered = PTHREAD_COND_INITIALIZER;
 static racl_handle keeper;
 static uint32_t answers_left;
 
+/* Says what failed. */
+static bool is_done(int is_so, const char *what, const char *name) {
+    if (!is_so) fprintf(stderr, "bridge: %s: %s: %s\n", name, what, strerror(errno));
+    return is_so;
+}
+
 /* Ends the program where something failed. */
-static void must(int is_done, const char *what, const char *name) {
-    if (is_done) return;
-    fprintf(stderr, "bridge: %s: %s: %s\n", name, what, strerror(errno));
-    exit(1);
+static void must(int is_so, const char *what, const char *name) {
+    if (!is_done(is_so, what, name)) exit(1);
 }
 
 static uint32_t now(void) {
@@ -155,7 +166,7 @@ static uint32_t passing(racl_handle *judge, uint8_t interface, const uint8_t *bl
     uint32_t second = now(), passed = 0;
     for (uint32_t i = 0; i < count; i++) {
         frames[i].second = second;
-        frames[i].interface = interface;
+        frames[i].interface_number = interface;
     }
     racl_judge_burst_wait(judge, block, BLOCK_BYTES, frames, count, answers);
     for (uint32_t i = 0; i < count; i++)
@@ -229,6 +240,20 @@ static void answer(struct worker *worker) {
     memcpy(worker->told_totals, worker->totals, sizeof worker->totals);
 }
 
+static void close_port(struct port *port) {
+    if (port->ring) munmap(port->ring, (size_t)BLOCK_BYTES * BLOCKS);
+    close(port->socket);
+    *port = (struct port){0};
+}
+
+/* Takes the new socket at a device in the place of that at a device that was removed. */
+static void take_fresh(struct worker *worker, uint32_t side) {
+    if (!worker->fresh[side].ring) return;
+    if (worker->ports[side].ring) close_port(&worker->ports[side]);
+    worker->ports[side] = worker->fresh[side];
+    worker->fresh[side] = (struct port){0};
+}
+
 /* Does what the thread was told since it looked last. */
 static void follow(struct worker *worker) {
     uint32_t question = atomic_load(&questions);
@@ -240,6 +265,7 @@ static void follow(struct worker *worker) {
         else fprintf(stderr, "bridge: a thread keeps the old policy: no memory\n");
     }
     answer(worker);
+    for (uint32_t side = 0; side < SIDES; side++) take_fresh(worker, side);
     worker->questions = question;
     answers_left--;
     pthread_cond_signal(&answered);
@@ -251,7 +277,7 @@ static void wait_for_frames(struct worker *worker) {
     for (uint32_t side = 0; side < SIDES; side++)
         files[side] = (struct pollfd){.fd = worker->ports[side].socket, .events = POLLIN};
     if (poll(files, SIDES, LOOK_MILLISECONDS) <= 0) return;
-    /* a device that went down says so once, and its socket goes on when it is up again */
+    /* a device that went down or was removed says so once; the socket of one that went down goes on when it is up again */
     for (uint32_t side = 0; side < SIDES; side++) {
         int error;
         socklen_t length = sizeof error;
@@ -321,9 +347,20 @@ static uint8_t *contents(const char *name, size_t *length) {
     return NULL;
 }
 
-static void write_fault(const char *name, racl_made made) {
-    static const char *const reasons[] = {"", "no memory", "not UTF-8", "wrong", "one rule too many", "timeouts of 0"};
-    fprintf(stderr, "bridge: %s: line %llu: %s\n", name, (unsigned long long)made.line, reasons[made.kind]);
+/* Says what is wrong with a policy: each wrong line, with the word and the reason, as `racl check` does. */
+static void write_faults(const char *name, racl_made made, const uint8_t *text, size_t length) {
+    uint8_t none;
+    racl_checked checked = racl_check(text, length, &none, 0);
+    char *lines = checked.kind == RACL_BAD_LINE ? malloc(checked.length + 1) : NULL;
+    if (lines) {
+        checked = racl_check(text, length, (uint8_t *)lines, checked.length);
+        lines[checked.length] = 0;
+    }
+    if (!lines || checked.kind != RACL_BAD_LINE)
+        fprintf(stderr, "bridge: %s: line %llu: %s\n", name, (unsigned long long)made.line, racl_kind_name(made.kind));
+    else
+        for (char *rest = lines, *line; (line = strtok_r(rest, "\n", &rest));) fprintf(stderr, "bridge: %s: %s\n", name, line);
+    free(lines);
 }
 
 static void read_anew(const char *name) {
@@ -337,56 +374,105 @@ static void read_anew(const char *name) {
     racl_made made = racl_set_policy(&keeper, text, length);
     if (made.kind == RACL_DONE) atomic_fetch_add(&policies, 1);
     pthread_mutex_unlock(&lock);
-    free(text);
-    if (made.kind != RACL_DONE) write_fault(name, made);
+    if (made.kind != RACL_DONE) write_faults(name, made, text, length);
     else ask();
+    free(text);
     fprintf(stderr, "bridge: the policy %s\n", made.kind == RACL_DONE ? "was read anew" : "stays");
 }
 
 /* ---- Beginning and end ---- */
 
-static void set(int socket, int option, int value, const char *device) {
-    must(!setsockopt(socket, SOL_PACKET, option, &value, sizeof value), "an option of its socket", device);
+static bool is_set(int socket, int option, int value, const char *device) {
+    return is_done(!setsockopt(socket, SOL_PACKET, option, &value, sizeof value), "an option of its socket", device);
 }
 
-/* A socket at a device, with its ring. Until it is let, nothing comes, lest a frame come to two sockets while the next one isn't
-   in its group yet. */
-static struct port opened(uint32_t side) {
+/* Makes a socket one at a device, with its ring. Until it is let, nothing comes, lest a frame come to two sockets while the next one
+   isn't in its group yet. */
+static bool is_set_up(struct port *port, uint32_t side, int group) {
     static struct sock_filter refuse_all = BPF_STMT(BPF_RET | BPF_K, 0);
     const struct sock_fprog filter = {.len = 1, .filter = &refuse_all};
     const char *device = sides[side].device;
+    const int it = port->socket;
     unsigned index = if_nametoindex(device);
-    must(index != 0, "the device", device);
-    int it = socket(AF_PACKET, SOCK_RAW | SOCK_CLOEXEC, 0);
-    must(it >= 0, "a socket", device);
-    set(it, PACKET_VERSION, TPACKET_V3, device);
-    set(it, PACKET_RESERVE, HEADROOM, device);
-    set(it, PACKET_VNET_HDR, 1, device);
-    set(it, PACKET_IGNORE_OUTGOING, 1, device);
-    set(it, PACKET_QDISC_BYPASS, 1, device);
-    must(!setsockopt(it, SOL_SOCKET, SO_ATTACH_FILTER, &filter, sizeof filter), "a filter", device);
+    if (!is_done(index != 0, "the device", device)) return false;
+    if (!is_set(it, PACKET_VERSION, TPACKET_V3, device) || !is_set(it, PACKET_RESERVE, HEADROOM, device) ||
+        !is_set(it, PACKET_VNET_HDR, 1, device) || !is_set(it, PACKET_IGNORE_OUTGOING, 1, device) ||
+        !is_set(it, PACKET_QDISC_BYPASS, 1, device))
+        return false;
+    if (!is_done(!setsockopt(it, SOL_SOCKET, SO_ATTACH_FILTER, &filter, sizeof filter), "a filter", device)) return false;
     struct timeval second = {.tv_sec = 1};
-    must(!setsockopt(it, SOL_SOCKET, SO_SNDTIMEO, &second, sizeof second), "a timeout", device);
+    if (!is_done(!setsockopt(it, SOL_SOCKET, SO_SNDTIMEO, &second, sizeof second), "a timeout", device)) return false;
     struct tpacket_req3 wanted = {.tp_block_size = BLOCK_BYTES, .tp_block_nr = BLOCKS, .tp_frame_size = FRAME_ROOM,
                                   .tp_frame_nr = BLOCK_BYTES / FRAME_ROOM * BLOCKS, .tp_retire_blk_tov = BLOCK_MILLISECONDS};
-    must(!setsockopt(it, SOL_PACKET, PACKET_RX_RING, &wanted, sizeof wanted), "a ring", device);
-    uint8_t *ring = mmap(NULL, (size_t)BLOCK_BYTES * BLOCKS, PROT_READ | PROT_WRITE, MAP_SHARED, it, 0);
-    must(ring != MAP_FAILED, "a ring", device);
+    if (!is_done(!setsockopt(it, SOL_PACKET, PACKET_RX_RING, &wanted, sizeof wanted), "a ring", device)) return false;
+    void *ring = mmap(NULL, (size_t)BLOCK_BYTES * BLOCKS, PROT_READ | PROT_WRITE, MAP_SHARED, it, 0);
+    if (!is_done(ring != MAP_FAILED, "a ring", device)) return false;
+    port->ring = ring;
     struct sockaddr_ll address = {.sll_family = AF_PACKET, .sll_protocol = htons(ETH_P_ALL), .sll_ifindex = (int)index};
-    must(!bind(it, (struct sockaddr *)&address, sizeof address), "binding", device);
+    if (!is_done(!bind(it, (struct sockaddr *)&address, sizeof address), "binding", device)) return false;
     struct packet_mreq all = {.mr_ifindex = (int)index, .mr_type = PACKET_MR_PROMISC};
-    must(!setsockopt(it, SOL_PACKET, PACKET_ADD_MEMBERSHIP, &all, sizeof all), "all frames", device);
-    int group = (int)(((uint32_t)getpid() << 1 | side) & 0xffff);
-    if (threads > 1) set(it, PACKET_FANOUT, group | PACKET_FANOUT_HASH << 16, device);
-    return (struct port){.socket = it, .ring = ring};
+    if (!is_done(!setsockopt(it, SOL_PACKET, PACKET_ADD_MEMBERSHIP, &all, sizeof all), "all frames", device)) return false;
+    return threads == 1 || is_set(it, PACKET_FANOUT, group | PACKET_FANOUT_HASH << 16, device);
+}
+
+/* Makes a socket at a device for each thread, all or none. They are one group of the kernel's, which has the device once only. */
+static bool are_opened(uint32_t side) {
+    static uint32_t groups;
+    int group = (int)(((uint32_t)getpid() << 4 | groups++ % 16) & 0xffff);
+    bool are_done = true;
+    uint32_t made = 0;
+    for (; made < threads && are_done; made++) {
+        struct port *port = &workers[made].fresh[side];
+        *port = (struct port){.socket = socket(AF_PACKET, SOCK_RAW | SOCK_CLOEXEC, 0)};
+        are_done = is_done(port->socket >= 0, "a socket", sides[side].device) && is_set_up(port, side, group);
+    }
+    while (!are_done && made > 0) close_port(&workers[--made].fresh[side]);
+    return are_done;
+}
+
+/* Lets frames come to all sockets at a device. */
+static void let_frames(uint32_t side) {
+    const int nothing = 0;
+    for (uint32_t i = 0; i < threads; i++)
+        must(!setsockopt(workers[i].ports[side].socket, SOL_SOCKET, SO_DETACH_FILTER, &nothing, sizeof nothing), "a filter",
+             sides[side].device);
 }
 
 static void open_ports(void) {
-    const int nothing = 0;
-    for (uint32_t i = 0; i < threads * SIDES; i++) workers[i / SIDES].ports[i % SIDES] = opened(i % SIDES);
-    for (uint32_t i = 0; i < threads * SIDES; i++)
-        must(!setsockopt(workers[i / SIDES].ports[i % SIDES].socket, SOL_SOCKET, SO_DETACH_FILTER, &nothing, sizeof nothing),
-             "a filter", sides[i % SIDES].device);
+    for (uint32_t side = 0; side < SIDES; side++) {
+        if (!are_opened(side)) exit(1);
+        for (uint32_t i = 0; i < threads; i++) take_fresh(&workers[i], side);
+    }
+    for (uint32_t side = 0; side < SIDES; side++) let_frames(side);
+}
+
+/* Whether a device of this name is there and up. */
+static bool is_up(int socket, const char *device) {
+    struct ifreq asked = {0};
+    strncpy(asked.ifr_name, device, IFNAMSIZ - 1);
+    return !ioctl(socket, SIOCGIFFLAGS, &asked) && asked.ifr_flags & IFF_UP;
+}
+
+/* Looks whether a device was removed, of which its sockets know, and opens it again once one of its name is up. */
+static void look_at_device(uint32_t side) {
+    const int it = workers[0].ports[side].socket;
+    const char *device = sides[side].device;
+    struct sockaddr_ll address;
+    socklen_t length = sizeof address;
+    if (!sides[side].is_lost) {
+        if (getsockname(it, (struct sockaddr *)&address, &length) || address.sll_ifindex > 0) return;
+        sides[side].is_lost = true;
+        fprintf(stderr, "bridge: %s was removed; it is opened again once it is there and up\n", device);
+    }
+    if (!is_up(it, device)) return;
+    pthread_mutex_lock(&lock);
+    bool are_done = are_opened(side);
+    pthread_mutex_unlock(&lock);
+    if (!are_done) return;
+    ask();
+    let_frames(side);
+    sides[side].is_lost = false;
+    fprintf(stderr, "bridge: %s is opened again\n", device);
 }
 
 static void make_judges(const char *name, racl_handle *sweeper) {
@@ -394,8 +480,8 @@ static void make_judges(const char *name, racl_handle *sweeper) {
     uint8_t *text = contents(name, &length);
     must(text != NULL, "the policy", name);
     racl_made made = racl_new(&keeper, text, length, &options);
+    if (made.kind != RACL_DONE) write_faults(name, made, text, length), exit(1);
     free(text);
-    if (made.kind != RACL_DONE) write_fault(name, made), exit(1);
     must(racl_split_wait(&keeper, sweeper) == RACL_DONE, "a judge", name);
     for (uint32_t i = 0; i < threads; i++) must(racl_split_wait(&keeper, &workers[i].judge) == RACL_DONE, "a judge", name);
 }
@@ -442,6 +528,7 @@ static uint64_t attend(const char *policy, const sigset_t *signals, racl_handle 
     for (uint32_t last = now();;) {
         int told = sigtimedwait(signals, NULL, &second);
         for (uint32_t end = now(); last < end;) went += swept(sweeper, ++last);
+        for (uint32_t side = 0; side < SIDES; side++) look_at_device(side);
         if (told == SIGHUP) read_anew(policy);
         if (told == SIGUSR1) ask(), write_counters(went);
         if (told == SIGINT || told == SIGTERM) return went;

@@ -7,7 +7,8 @@
    standard error how long a frame took. -s writes what `racl --hits --sessions` does after the report,
    without the text of the rules.
 
-   cc -O2 -Iinclude -o gateway examples/c/gateway.c crates/racl_c/out/libracl_c.a KIT/c/liblibc_c.a -lpthread */
+   make library && cc -O2 -Iinclude -o gateway examples/c/gateway.c out/library/libracl.a -lpthread */
+#define _POSIX_C_SOURCE 200809L
 #include "racl.h"
 #include <arpa/inet.h>
 #include <pthread.h>
@@ -116,7 +117,7 @@ static void *work_one_by_one(void *given) {
     for (size_t i = 0; i < frame_count; i++) {
         const racl_descriptor *it = &frames[i];
         if (owners[i] != worker->number) continue;
-        answers[i] = racl_judge_wait(&worker->judge, it->interface, it->second, area + it->at, it->length);
+        answers[i] = racl_judge_wait(&worker->judge, it->interface_number, it->second, area + it->at, it->length);
     }
     return NULL;
 }
@@ -190,7 +191,7 @@ static uint64_t count_live(racl_sessions *sessions, uint32_t second) {
 static void write_sessions(racl_sessions *sessions) {
     racl_session it;
     for (uint64_t at = 0; racl_session_at(sessions, at, &it); at++) {
-        printf("session interface %u %s", it.interface, it.protocol == 6 ? "tcp" : it.protocol == 17 ? "udp" : "icmp");
+        printf("session interface %u %s", it.interface_number, it.protocol == 6 ? "tcp" : it.protocol == 17 ? "udp" : "icmp");
         write_end(&it, &it.first);
         printf(" and");
         write_end(&it, &it.second);
@@ -207,7 +208,7 @@ static void tell_sessions(racl_handle *judge, const uint8_t *text, size_t length
     if (racl_rule_counts_new(&counts, text, length).kind || racl_close_ipv4(judge, &four) || racl_close_ipv6(judge, &six))
         fail("no memory", "gateway");
     for (size_t i = 0; i < frame_count; i++) {
-        racl_count_rule(&counts, frames[i].interface, answers[i].direction, answers[i].rule);
+        racl_count_rule(&counts, frames[i].interface_number, answers[i].direction, answers[i].rule);
         if (frames[i].second > latest) latest = frames[i].second;
     }
     write_rules(text, length, &counts);
@@ -273,10 +274,10 @@ int main(int count, char **given) {
     answers = calloc(frame_count + 1, sizeof *answers);
     if (!owners || !answers) fail("no memory", "gateway");
     for (size_t i = 0; threads > 1 && i < frame_count; i++)
-        owners[i] = (uint8_t)racl_worker_of(racl_flow_of(frames[i].interface, area + frames[i].at, frames[i].length), threads);
+        owners[i] = (uint8_t)racl_worker_of(racl_flow_of(frames[i].interface_number, area + frames[i].at, frames[i].length), threads);
 
     struct timespec begin, end;
-    timespec_get(&begin, TIME_UTC);
+    clock_gettime(CLOCK_MONOTONIC, &begin);
     void *(*how)(void *) = burst == 1 ? work_one_by_one : work;
     for (uint32_t i = 0; i < threads; i++) {
         workers[i].number = i;
@@ -287,7 +288,7 @@ int main(int count, char **given) {
         pthread_join(workers[i].thread, NULL);
         racl_join(&workers[0].judge, &workers[i].judge);
     }
-    timespec_get(&end, TIME_UTC);
+    clock_gettime(CLOCK_MONOTONIC, &end);
 
     write_report(captures, capture_count);
     if (tells_sessions) tell_sessions(&workers[0].judge, area + text, text_length);

@@ -5,8 +5,9 @@
 
    What comes in at one port and passes goes out by the other. All is judged at interface 0, as on a capture of one wire, so
    the `mac` line says which frames go out; examples/c/bridge.c has two interfaces. Each core that DPDK is given has queues of
-   its own at both ports, and a judge over the same tables: with whatever queues a flow's frames come, any judge may judge them,
-   and where the port deals by a symmetric hash both directions keep their order. -l: large tables. -c: the ports are captures
+   its own at both ports, and a judge over the same tables. Ports that can are told to deal frames by a hash of addresses and
+   ports that is the same for both directions (RSS), so that a flow's frames come to one core in their order; fragments go by
+   addresses alone. Of a port that can't it is told: any judge may judge any flow. -l: large tables. -c: the ports are captures
    (net_pcap): seconds are those of the frames, and it ends when none has come for a second. Else seconds are those of the
    timer, and SIGINT or SIGTERM ends it. At the end the totals are written as `racl` writes them, and verdicts by their words.
 
@@ -35,6 +36,7 @@
 
 enum { PORTS = 2, BURST = 32, RING_FRAMES = 1024, POOL_FRAMES = 16383, POOL_CACHE = 256, MOST_POLICY = 1 << 24 };
 enum { MICROSECONDS = 1000000 };
+#define REPEATED 0x6d, 0x5a, 0x6d, 0x5a, 0x6d, 0x5a, 0x6d, 0x5a, 0x6d, 0x5a, 0x6d, 0x5a, 0x6d, 0x5a, 0x6d, 0x5a
 
 /* A core's judge, the number of its queues, and how many frames came, passed, and found no room where they were to go out. */
 struct worker {
@@ -107,10 +109,22 @@ static int work(void *nothing) {
     return 0;
 }
 
+/* A key of the hash by which ports deal: since it is the same two bytes over and over, both directions have one hash. */
+static const uint8_t symmetric[] = {REPEATED, REPEATED, REPEATED, REPEATED};
+
 static void open_port(uint16_t port, uint16_t queues, struct rte_mempool *pool) {
     struct rte_eth_conf wanted;
+    struct rte_eth_dev_info can;
     memset(&wanted, 0, sizeof wanted);
-    int status = rte_eth_dev_configure(port, queues, queues, &wanted);
+    int status = rte_eth_dev_info_get(port, &can);
+    struct rte_eth_rss_conf *hash = &wanted.rx_adv_conf.rss_conf;
+    if (!status && queues > 1) hash->rss_hf = can.flow_type_rss_offloads & (RTE_ETH_RSS_IP | RTE_ETH_RSS_TCP | RTE_ETH_RSS_UDP);
+    if (hash->rss_hf) {
+        wanted.rxmode.mq_mode = RTE_ETH_MQ_RX_RSS;
+        hash->rss_key = (uint8_t *)(uintptr_t)symmetric;
+        hash->rss_key_len = can.hash_key_size && can.hash_key_size <= sizeof symmetric ? can.hash_key_size : 40;
+    }
+    if (!status) status = rte_eth_dev_configure(port, queues, queues, &wanted);
     for (uint16_t i = 0; !status && i < queues; i++) {
         status = rte_eth_rx_queue_setup(port, i, RING_FRAMES, SOCKET_ID_ANY, NULL, pool);
         if (!status) status = rte_eth_tx_queue_setup(port, i, RING_FRAMES, SOCKET_ID_ANY, NULL);
@@ -118,6 +132,9 @@ static void open_port(uint16_t port, uint16_t queues, struct rte_mempool *pool) 
     if (!status) status = rte_eth_dev_start(port);
     if (status) rte_exit(EXIT_FAILURE, "filter: port %u: %s\n", port, rte_strerror(-status));
     rte_eth_promiscuous_enable(port);
+    if (queues == 1) return;
+    int deals = hash->rss_hf && !rte_eth_dev_rss_hash_update(port, hash);
+    fprintf(stderr, deals ? "filter: port %u deals flows to %u queues\n" : "filter: port %u doesn't deal flows to its %u queues\n", port, queues);
 }
 
 static void make_judges(const char *name, const racl_options *options) {
@@ -130,7 +147,7 @@ static void make_judges(const char *name, const racl_options *options) {
     racl_made made = racl_new(&first->judge, text, length, options);
     free(text);
     if (made.kind != RACL_DONE)
-        rte_exit(EXIT_FAILURE, "filter: %s: fault %u in line %llu\n", name, made.kind, (unsigned long long)made.line);
+        rte_exit(EXIT_FAILURE, "filter: %s: line %llu: %s\n", name, (unsigned long long)made.line, racl_kind_name(made.kind));
     unsigned core;
     uint16_t queue = 1;
     RTE_LCORE_FOREACH_WORKER(core) {

@@ -28,7 +28,30 @@ def put(name, archive, prefix):
     os.makedirs(f"{prefix}/include", exist_ok=True)
     shutil.copy(f"{TOP}/include/{name}.h", f"{prefix}/include")
     ran = subprocess.run([f"{TOP}/install/library", name, archive, f"{prefix}/lib"], capture_output=True, text=True)
-    return ran.stderr if ran.returncode else ""
+    if ran.returncode:
+        return ran.stderr
+    told = text_of(f"{prefix}/lib/{name}.pc")
+    with open(f"{prefix}/lib/{name}.pc", "w", encoding="utf-8") as file:
+        file.write(re.sub("(?m)^prefix=.*", f"prefix={prefix}", told))
+    return ""
+
+
+def archives(named=None):
+    """What a program over the filter is linked with: an archive that is named, the one of out/library or the one that `rt lib` left; and
+    the toolchain's part, which the last one lacks."""
+    kit = os.path.dirname(os.path.dirname(os.path.realpath(shutil.which("rt") or "/")))
+    left = [it for it in (f"{TOP}/out/library/libracl.a", f"{TOP}/crates/racl_c/out/libracl_c.a") if os.path.exists(it)]
+    return [named or left[0]] + [it for it in [f"{kit}/c/liblibc_c.a"] if os.path.exists(it)] if named or left else []
+
+
+def crate_tests(name, folder, prefix, run):
+    """The tests of a crate of bindings/rust over the library below a prefix, which is all that it has: it stands alone in a folder, and
+    pkg-config finds the library."""
+    own = f"{folder}/{name}_crate"
+    shutil.copytree(f"{TOP}/bindings/rust" + ("/filter" if name == "racl" else ""), own, ignore=shutil.ignore_patterns("target", "filter"))
+    ended = run(["cargo", "test", "--quiet", "--offline", "--manifest-path", f"{own}/Cargo.toml"], CARGO_TARGET_DIR=f"{folder}/cargo",
+                PKG_CONFIG_PATH=f"{prefix}/lib")
+    return f"the crate {name} over its library alone: {ended}", ended[2] == 0
 
 
 def names_in(path, *words):

@@ -61,18 +61,22 @@ class Spaces:
     def make(self):
         for name in self.names.values():
             call("ip", "netns", "add", name)
-        between = self.names["between"]
         self.call("between", "sysctl", "-qw", "net.ipv6.conf.all.disable_ipv6=1", "net.ipv6.conf.default.disable_ipv6=1")
-        for space, device, other in WIRES:
-            self.call(space, "sysctl", "-qw", "net.ipv6.conf.default.accept_ra=0", "net.ipv6.conf.default.router_solicitations=0",
-                      "net.ipv4.ping_group_range=0 0")
-            call("ip", "link", "add", device, "netns", self.names[space], "type", "veth", "peer", "name", other, "netns", between)
-            call("ip", "-n", self.names[space], "link", "set", device, "address", HARDWARE[device])
-            for it in ADDRESSES[device]:
-                bits = ["64", "nodad"] if ":" in it else ["24"]
-                call("ip", "-n", self.names[space], "addr", "add", f"{it}/{bits[0]}", "dev", device, *bits[1:])
-            for at, it in ((space, device), (space, "lo"), ("between", other)):
-                call("ip", "-n", self.names[at], "link", "set", it, "up")
+        for wire in WIRES:
+            self.wire(*wire)
+
+    def wire(self, space, device, other):
+        """Makes a wire and its devices, which are up then."""
+        between = self.names["between"]
+        self.call(space, "sysctl", "-qw", "net.ipv6.conf.default.accept_ra=0", "net.ipv6.conf.default.router_solicitations=0",
+                  "net.ipv4.ping_group_range=0 0")
+        call("ip", "link", "add", device, "netns", self.names[space], "type", "veth", "peer", "name", other, "netns", between)
+        call("ip", "-n", self.names[space], "link", "set", device, "address", HARDWARE[device])
+        for it in ADDRESSES[device]:
+            bits = ["64", "nodad"] if ":" in it else ["24"]
+            call("ip", "-n", self.names[space], "addr", "add", f"{it}/{bits[0]}", "dev", device, *bits[1:])
+        for at, it in ((space, device), (space, "lo"), ("between", other)):
+            call("ip", "-n", self.names[at], "link", "set", it, "up")
 
     def __exit__(self, *_):
         for it in self.started:

@@ -54,7 +54,8 @@ pub struct Pair {
 }
 
 unsafe extern "C" {
-    pub fn bihash_create(handle: *mut Handle, options: *const Options) -> u32;
+    pub fn bihash_create_with(handle: *mut Handle, options: *const Options, rest: *const u8, rest_length: usize)
+    -> u32;
     pub fn bihash_split(handle: *mut Handle, fresh: *mut Handle) -> u32;
     pub fn bihash_join(handle: *mut Handle, other: *mut Handle);
     pub fn bihash_meet(handle: *mut Handle, other: *mut Handle);
@@ -74,7 +75,7 @@ unsafe extern "C" {
         expiry: *const Expiry,
     ) -> RawAnswer;
     pub fn bihash_look_ahead(handle: *mut Handle, keys: *const Key, count: usize);
-    pub fn bihash_bucket_of(options: *const Options, key: *const Key) -> u64;
+    pub fn bihash_bucket_of_with(options: *const Options, rest: *const u8, rest_length: usize, key: *const Key) -> u64;
     pub fn bihash_expire(handle: *mut Handle, bucket: u64, expiry: *const Expiry) -> RawAnswer;
     pub fn bihash_renew(handle: *mut Handle) -> u32;
     pub fn bihash_close(handle: *mut Handle) -> u32;

@@ -1,5 +1,9 @@
 //! The families of tables, by what their keys are.
-use crate::calls::{Key, Options, bihash_bucket_of};
+use crate::calls::{Key, Options, bihash_bucket_of_with};
+use std::ptr::NonNull;
+
+/// The place of no bytes, which options have behind them.
+pub(crate) const NOTHING: *const u8 = NonNull::dangling().as_ptr();
 
 /// Tables of IPv4 flows, whose keys have two words.
 pub struct V4;
@@ -24,12 +28,12 @@ pub trait Family: Sized + sealed::Sealed {
 
     /// The bucket of a key in a table that is not large.
     fn bucket_of(key: &Self::Key) -> u64 {
-        unsafe { bihash_bucket_of(&options::<Self>(false), &Self::raw(key)) }
+        unsafe { bihash_bucket_of_with(&options::<Self>(false), NOTHING, 0, &Self::raw(key)) }
     }
 
     /// The bucket of a key in a large table.
     fn bucket_of_large(key: &Self::Key) -> u64 {
-        unsafe { bihash_bucket_of(&options::<Self>(true), &Self::raw(key)) }
+        unsafe { bihash_bucket_of_with(&options::<Self>(true), NOTHING, 0, &Self::raw(key)) }
     }
 }
 

@@ -27,7 +27,7 @@ mod calls;
 mod family;
 
 use calls::{Expiry as RawExpiry, Handle, Key, RawAnswer};
-use family::options;
+use family::{NOTHING, options};
 use std::cell::Cell;
 use std::fmt;
 use std::hint::spin_loop;
@@ -317,7 +317,7 @@ impl<F: Family> Table<F> {
 
     fn made(is_large: bool) -> Result<Table<F>, Fault> {
         let mut handle = Handle::none();
-        done(unsafe { calls::bihash_create(&mut handle, &options::<F>(is_large)) })?;
+        done(unsafe { calls::bihash_create_with(&mut handle, &options::<F>(is_large), NOTHING, 0) })?;
         Ok(Table { caller: Caller::of(handle, TABLES.fetch_add(1, Ordering::Relaxed)) })
     }
 

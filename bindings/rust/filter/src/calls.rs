@@ -94,19 +94,21 @@ pub struct RawSwept {
 }
 
 unsafe extern "C" {
-    pub fn racl_new(handle: *mut Handle, text: *const u8, length: usize, options: *const RawOptions) -> Made;
+    pub fn racl_version() -> u32;
+    pub fn racl_new_with(
+        handle: *mut Handle,
+        text: *const u8,
+        length: usize,
+        options: *const RawOptions,
+        rest: *const u8,
+        rest_length: usize,
+    ) -> Made;
     pub fn racl_split(handle: *mut Handle, fresh: *mut Handle) -> u32;
     pub fn racl_join(handle: *mut Handle, other: *mut Handle);
     pub fn racl_free(handle: *mut Handle);
     pub fn racl_set_policy(handle: *mut Handle, text: *const u8, length: usize) -> Made;
     pub fn racl_take_policy(handle: *mut Handle, other: *mut Handle) -> u32;
-    pub fn racl_judge(
-        handle: *mut Handle,
-        interface: u8,
-        second: u32,
-        frame: *const u8,
-        length: usize,
-    ) -> RawAnswer;
+    pub fn racl_judge(handle: *mut Handle, interface: u8, second: u32, frame: *const u8, length: usize) -> RawAnswer;
     pub fn racl_judge_burst(
         handle: *mut Handle,
         memory: *const u8,
@@ -117,6 +119,8 @@ unsafe extern "C" {
         room: usize,
     ) -> usize;
     pub fn racl_flow_of(interface: u8, frame: *const u8, length: usize) -> RawFlow;
+    pub fn racl_worker_of(flow: RawFlow, workers: u32) -> u32;
+    pub fn racl_worker_of_bucket(family: u32, bucket: u64, workers: u32) -> u32;
     pub fn racl_counts(handle: *mut Handle, counts: *mut Counts);
     pub fn racl_expire_ipv4(handle: *mut Handle, bucket: u64, second: u32) -> u32;
     pub fn racl_expire_ipv6(handle: *mut Handle, bucket: u64, second: u32) -> u32;

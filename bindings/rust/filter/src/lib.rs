@@ -24,7 +24,7 @@
 
 mod calls;
 
-use calls::{Handle, Made, RawAnswer, RawEnd, RawOptions, RawSession};
+use calls::{Handle, Made, RawAnswer, RawEnd, RawFlow, RawOptions, RawSession};
 use std::cell::Cell;
 use std::fmt;
 use std::hint::spin_loop;
@@ -32,7 +32,7 @@ use std::marker::PhantomData;
 use std::mem::{MaybeUninit, size_of};
 use std::net::{IpAddr, Ipv6Addr};
 use std::ops::{Deref, DerefMut, Range};
-use std::ptr::null_mut;
+use std::ptr::{NonNull, null_mut};
 use std::sync::atomic::{AtomicU64, Ordering};
 
 pub use calls::{Counts, Descriptor};
@@ -77,6 +77,8 @@ pub enum Fault {
     Numbers,
     /// Another worker is left, or was dropped and not joined.
     Strangers,
+    /// Another worker's hold of the tables was not let go yet.
+    Contended,
 }
 
 impl fmt::Display for Fault {
@@ -89,6 +91,7 @@ impl fmt::Display for Fault {
             Fault::BadOptions => f.write_str("a timeout is 0"),
             Fault::Numbers => f.write_str("too many workers were made"),
             Fault::Strangers => f.write_str("another worker is left"),
+            Fault::Contended => f.write_str("another worker holds the tables yet"),
         }
     }
 }
@@ -210,6 +213,32 @@ pub struct Flow {
     pub hash: u64,
 }
 
+impl Flow {
+    /// Of so many workers, from 0 on, the one to which the flow's frames are dealt.
+    pub fn worker(self, workers: u32) -> u32 {
+        unsafe { calls::racl_worker_of(RawFlow { family: self.family.number(), hash: self.hash }, workers) }
+    }
+}
+
+impl Family {
+    fn number(self) -> u32 {
+        match self {
+            Family::V4 => 4,
+            Family::V6 => 6,
+        }
+    }
+
+    /// Of so many workers, from 0 on, the one to which a bucket is dealt, which is that of all flows in it.
+    pub fn worker_of(self, bucket: u64, workers: u32) -> u32 {
+        unsafe { calls::racl_worker_of_bucket(self.number(), bucket, workers) }
+    }
+}
+
+/// The library's version: three digits each are the second and the third part.
+pub fn version() -> u32 {
+    unsafe { calls::racl_version() }
+}
+
 /// The flow of a frame that is seen at this interface, by which frames are dealt to workers. `None`: it takes no part in
 /// sessions.
 pub fn flow_of(interface: u8, frame: &[u8]) -> Option<Flow> {
@@ -233,6 +262,7 @@ fn done(kind: u32, line: u64) -> Result<(), Fault> {
         4 => Fault::TooMany(line),
         5 => Fault::BadOptions,
         6 => Fault::Numbers,
+        CONTENDED => Fault::Contended,
         8 => Fault::Strangers,
         _ => unreachable!("an answer of number {kind}"),
     })
@@ -313,7 +343,8 @@ impl Worker {
         made(unsafe { calls::racl_set_policy(&mut self.handle, text.as_ptr(), text.len()) })
     }
 
-    /// Judges by the policy and the timeouts of another worker from now on, of this filter or of another one.
+    /// Judges by the policy and the timeouts of another worker from now on, of this filter or of another one. `Strangers`: its
+    /// timeouts are others, which only a worker that is alone over its tables may take.
     pub fn take_policy(&mut self, other: &mut Worker) -> Result<(), Fault> {
         done(unsafe { calls::racl_take_policy(&mut self.handle, &mut other.handle) }, 0)
     }
@@ -419,7 +450,9 @@ impl Filter {
         };
         let filter = FILTERS.fetch_add(1, Ordering::Relaxed);
         let mut first = Worker { handle: Handle(null_mut()), filter, not_sync: PhantomData };
-        made(unsafe { calls::racl_new(&mut first.handle, text.as_ptr(), text.len(), &raw) })?;
+        made(unsafe {
+            calls::racl_new_with(&mut first.handle, text.as_ptr(), text.len(), &raw, NonNull::dangling().as_ptr(), 0)
+        })?;
         Ok(Filter { first })
     }
 

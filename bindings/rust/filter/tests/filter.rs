@@ -1,7 +1,7 @@
 //! Threads that judge the flows of one filter, and policies that are replaced meanwhile.
 use racl::{
-    Answer, Descriptor, Direction, End, Family, Fault, Filter, Options, RuleCounts, Session, Tables, Verdict, Worker, check, flow_of,
-    line_of,
+    Answer, Descriptor, Direction, End, Family, Fault, Filter, Options, RuleCounts, Session, Tables, Verdict, Worker,
+    check, flow_of, line_of, version,
 };
 use std::thread;
 
@@ -16,7 +16,8 @@ fn frame(is_outward: bool, port: u16) -> [u8; 42] {
     for (at, end) in [(0, ends[0]), (6, ends[1])] {
         frame[at..at + 6].copy_from_slice(&[2, 0, 0, 0, 0, end]);
     }
-    frame[12..34].copy_from_slice(&[8, 0, 0x45, 0, 0, 28, 0, 0, 0, 0, 64, 17, 0, 0, 10, 0, 0, ends[1], 10, 0, 0, ends[0]]);
+    frame[12..34]
+        .copy_from_slice(&[8, 0, 0x45, 0, 0, 28, 0, 0, 0, 0, 64, 17, 0, 0, 10, 0, 0, ends[1], 10, 0, 0, ends[0]]);
     frame[34..36].copy_from_slice(&ports[0].to_be_bytes());
     frame[36..38].copy_from_slice(&ports[1].to_be_bytes());
     frame[39] = 8;
@@ -59,6 +60,8 @@ fn policies_are_replaced() {
     assert_eq!(worker.judge(0, 10, &frame(false, 1)).verdict(), Some(Verdict::Session));
     assert_eq!(worker.judge(0, 10, &frame(false, 2)).verdict(), Some(Verdict::Deny(1)));
     assert_eq!(filter.judge(0, 10, &frame(false, 2)).verdict(), Some(Verdict::ByDefault));
+    let mut brief = Filter::new(CLOSED, &Options { udp: 10, ..Options::default() }).unwrap();
+    assert_eq!(filter.take_policy(&mut brief), Err(Fault::Strangers));
     filter.take_policy(&mut worker).unwrap();
     assert_eq!(filter.judge(0, 10, &frame(false, 2)).verdict(), Some(Verdict::Deny(1)));
     assert_eq!(filter.set_policy(b"\nin\n"), Err(Fault::BadLine(2)));
@@ -81,6 +84,14 @@ fn bursts_and_flows() {
     assert_eq!(flow_of(0, &out), flow_of(0, &back));
     assert_ne!(flow_of(0, &out), flow_of(1, &out));
     assert_eq!(flow_of(0, &out[..20]), None);
+    let flow = flow_of(0, &out).unwrap();
+    for workers in 1..=17 {
+        assert_eq!(flow.worker(workers), flow.family.worker_of(flow.hash % 4096, workers));
+        assert_eq!(flow.worker(workers), flow.family.worker_of(flow.hash % 65_536, workers));
+    }
+    assert_eq!(flow.worker(0), 0);
+    let parts = env!("CARGO_PKG_VERSION").split('.').map(|it| it.parse::<u32>().unwrap());
+    assert_eq!(version(), parts.fold(0, |before, part| before * 1000 + part));
 }
 
 #[test]
