@@ -6,7 +6,7 @@ ghost use Rattle.rule_index.specs.inner.Columns.{most_intervals};
 use std::alloc::{AllocError, Global};
 
 /// The most intervals of a column. Where ranges have more bounds, intervals that follow each other are taken together, so that a
-/// column of the most rules takes half a mebibyte.
+/// column of the most rules takes less than a mebibyte.
 const MOST_INTERVALS: usize = 5000;
 
 /// The last interval that begins at a number or below it.
