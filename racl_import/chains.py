@@ -1,7 +1,7 @@
 """The rules of one direction in the order in which packets meet them, chains written where they are called."""
 import re
 
-from .packets import ANY, ICMP, ICMP6, TCP, holds, meet, meets, shown
+from .packets import ANY, ICMP, ICMP6, TCP, holds, meets, shown
 from .rules import STATES, Item, Wrong
 
 MOST_STEPS = 20000

@@ -5,7 +5,6 @@ import sys
 
 from . import iptables_save, nft, vpp
 from .address_types import own_networks
-from .packets import shown
 from .policy import policy_of
 from .rules import Wrong
 
@@ -20,7 +19,8 @@ def words(description):
     parser.add_argument("--mac", metavar="ADDRESS", help="the own address of the interface where captures are taken")
     parser.add_argument("--interface", metavar="N", type=int, default=0, help="the section of this interface, 1 to 255")
     parser.add_argument("--device", metavar="NAME", help="the device that captures are of, where rules name devices")
-    parser.add_argument("--address", metavar="ADDRESS/BITS", action="append", default=[], help="an address of the host and its network, where rules ask for types of addresses")
+    parser.add_argument("--address", metavar="ADDRESS/BITS", action="append", default=[],
+                        help="an address of the host and its network, where rules ask for types of addresses")
     parser.add_argument("--ipv6", action="store_true", help="the rules are of ip6tables-save [default: as their addresses]")
     parser.add_argument("--in", metavar="INDEX", type=int, action="append", default=[], dest="inward", help="an ACL of VPP, bound as input")
     parser.add_argument("--out", metavar="INDEX", type=int, action="append", default=[], dest="outward", help="an ACL of VPP, bound as output")

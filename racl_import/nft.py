@@ -3,8 +3,8 @@ import json
 
 from .nft_matches import Asked, Table, as_list
 from .nft_text import compact, text_of_rule
-from .packets import ANY, ICMP6, NoForm, product, shown
-from .rules import Base, Rule, Ruleset, STATES, Told, Wrong
+from .packets import ANY, ICMP6, NoForm, shown
+from .rules import STATES, Base, Rule, Ruleset, Told, Wrong
 
 # The hooks that see what is captured, each with its direction and its place in it. Conntrack sees packets before chains of a
 # priority above its own.

@@ -589,7 +589,8 @@ class Imports(Case):
     @each((f"{name}{ending}", f"{TOP}/{folder}/{name}{ending}", f"{TOP}/tests/imports/{name}.policy", FORMS[ending])
           for folder in ("examples", "tests/imports") for ending in FORMS for name in names_in(folder, ending))
     def stored(self, path, policy, words):
-        """A sample, whose policy in tests/imports/ was written from what its rules mean."""
+        """A sample, whose policy in tests/imports/ was written, or read rule by rule, from what its lines mean; tests/import_kernel compares
+        it with the kernel."""
         got = imported([*words, "--mac", MAC, path])
         want = [it for it in bytes_of_file(policy).decode().splitlines() if it and not it.startswith("#")]
         lines = [it.partition(" # ")[0].rstrip() for it in got["stdout"].splitlines() if not it.startswith("#")]
