@@ -1,26 +1,25 @@
 -- What a parse by the command line with its subcommands leaves, and that words ask for one thing.
-use Rattle.std.proofs.Common.{◌≡◌, ◌∙◌, ◌<◌, ◌≤◌, ap, ap₂, refl, subst, sym, inl, inr, true, false, List, [], ◌∷◌, length, Option, Some, None, codes}
+use Rattle.std.proofs.Common.{◌≡◌, ◌∙◌, ◌<◌, ◌≤◌, ap, refl, subst, sym, inl, inr, true, Bool, List, [], ◌∷◌, length, Option, Some, None, codes}
 use Rattle.std.specs.Borrow.{Bor}
-use Rattle.std.specs.Prelude.{Box, Err, IfErr, IfOk, MatchResult, Ok, Result, ◌⊎◌, option_and_then, option_map, slice_get, slice_index_or}
+use Rattle.std.specs.Prelude.{Box, Result, if◌then◌else◌, option_and_then, option_map, slice_get, slice_index_or}
 use Rattle.std.specs.Box.{box_value}
+use Rattle.std.specs.Str.{bytes_eq}
 use Rattle.std.proofs.lemmas.Option.{slice_get-get_or, slice_get-map, slice_get_past}
 use Rattle.clap.specs.Walk.{texts}
 use Rattle.clap.specs.Kinds.{Kinds}
 use Rattle.clap.specs.Words.{FailsBy, HasKind, HasMatchesOf, IsAmong, Row, Text, app_of, fault_of, found_of, is_simple, is_simple_and_free, kind_of, rows_of, subcommand_name_of, subcommand_of, subcommand_rows, subcommand_rows_of}
 use Rattle.clap.specs.declared.builder.command.Command.{Command}
 use Rattle.clap.specs.declared.error.Error.{Error}
-use Rattle.clap.specs.declared.error.kind.ErrorKind.TheVariants.{DisplayHelp, DisplayVersion, OutOfMemory}
+use Rattle.clap.specs.declared.error.kind.ErrorKind.TheVariants.{DisplayHelp, DisplayVersion, ValueValidation}
 use Rattle.clap.specs.declared.parser.matches.ArgMatches.{ArgMatches}
 use Rattle.clap.specs.declared.parser.matches.ArgMatches.TheViews.{out-ArgMatches, out-SubCommand}
 use Rattle.clap.specs.declared.parser.matches.SubCommand.{SubCommand}
 use Rattle.clap.proofs.OnLiterals.{clap_on_literals}
 use Rattle.clap.proofs.WalkLemmas.{first_value-rows, one_text-rows, raw_values-rows}
 use Rattle.racl_options.specs.CommandLine.{racl, values_of}
-use Rattle.racl_options.specs.Tasks.{AskForTask, RefusesTask, TaskFacts, named_command, named_task, racl_commands, task_facts, task_in, with_commands}
-use Rattle.racl_options.specs.declared.tasks.Task.{Task}
+use Rattle.racl_options.specs.Tasks.{RefusesCommand, kind_for, named_command, named_task, racl_commands, task_in, with_commands}
 use Rattle.racl_options.specs.inner.Commands.{without_options}
 use Rattle.racl_options.specs.inner.Naming.{values_in}
-use Rattle.racl_options.proofs.CommandLemmas.{only_memory}
 
 -- ---- the first word after the program's
 
@@ -104,37 +103,21 @@ module _ (c : Command) (words : List Text) (m : ArgMatches) (is : app_of c ≡ r
       let entry = sym entered_is ∙ no_entry (out-ArgMatches m).subcommand named in
       (ap (option_and_then (λ (p : Text × List Row). task_in p.0 (values_of p.1))) entry, ap (option_map (λ (p : Text × List Row). p.0)) entry)
 
--- ---- words ask for one thing
+-- ---- kinds of errors
 
-pub one_task : (words : List Text) (x y : Option TaskFacts) → AskForTask words x → AskForTask words y → x ≡ y
-one_task words None None p q = refl
-one_task words None (Some y) p q =
-    let bad : false ≡ true = sym p ∙ q.0 in
-    cc
-one_task words (Some x) None p q =
-    let bad : false ≡ true = sym q ∙ p.0 in
-    cc
-one_task words (Some x) (Some y) p q = sym p.2 ∙ q.2
+pub named_kind : (words : List Text) (name : Text) (is_version : Bool) → named_command words ≡ Some name → bytes_eq name (codes "version") ≡ is_version
+    → kind_for (named_command words) ≡ (if is_version then DisplayVersion else ValueValidation)
+named_kind words name is_version named is = ap kind_for named ∙ ap (λ b. if b then DisplayVersion else ValueValidation) is
 
--- and those that ask for something are refused for want of memory alone
-pub task_alone : (words : List Text) (x : Option TaskFacts) (e : Error) → AskForTask words x → RefusesTask words e → kind_of e ≡ OutOfMemory
-task_alone words None e p q =
-    let bad : false ≡ true = sym p ∙ q.0 in
-    cc
-task_alone words (Some x) e p (begins, inl has) = only_memory _ e p.1 has
-task_alone words (Some x) e p (begins, inr unasked) =
-    let bad : Some x ≡ None = sym p.2 ∙ unasked.1 in
-    cc
-
--- what reads the words rightly reads what they ask for
-pub accepted : (words : List Text) (r : Result (Option Task) Error) (x : Option TaskFacts) → IfOk r (λ t. AskForTask words (option_map task_facts t))
-    → IfErr r (RefusesTask words) → AskForTask words x → MatchResult r (λ t. option_map task_facts t ≡ x) (λ e. kind_of e ≡ OutOfMemory)
-accepted words (Ok t) x ok refuses asks = one_task words (option_map task_facts t) x ok asks
-accepted words (Err e) x ok refuses asks = task_alone words x e asks refuses
+pub version_unasked : (words : List Text) (e : Error) → fault_of racl_commands words ≡ [] → named_task words ≡ None
+    → kind_for (named_command words) ≡ DisplayVersion → HasKind (DisplayVersion ∷ []) e → RefusesCommand words e
+version_unasked words e faultless none kind (inl memory) = inl (inl memory)
+version_unasked words e faultless none kind (inr (inl version)) = inr (faultless, none, version ∙ sym kind)
+version_unasked words e faultless none kind (inr (inr nothing)) = absurd nothing
 
 -- an error of the help is of the kinds of another
 pub help_too : (kinds : Kinds) (e f : Error) → kind_of e ≡ DisplayHelp → HasKind kinds e → HasKind (DisplayHelp ∷ []) f → HasKind kinds f
 help_too kinds e f is p (inl memory) = inl memory
 help_too kinds e f is (inl memory) (inr help) = cc
 help_too kinds e f is (inr among) (inr (inl help)) = inr (subst (λ k. IsAmong k kinds) (is ∙ sym help) among)
-help_too kinds e f is (inr among) (inr (inr no)) = absurd no
+help_too kinds e f is (inr among) (inr (inr nothing)) = absurd nothing
