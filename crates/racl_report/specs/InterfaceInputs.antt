@@ -1,5 +1,5 @@
 -- A policy's text and captures of interfaces that come apart, and what they say (this project's profile).
-use Rattle.std.specs.Prelude.{◌≡◌, ◌≤◌, ◌+◌, ◌++◌, ◌⊎◌, ℕ, All, Bool, List, [], ◌∷◌, Option, None, Some, length}
+use Rattle.std.specs.Prelude.{◌≡◌, ◌≤◌, ◌+◌, ◌++◌, ◌⊎◌, ℕ, All, Bool, List, [], ◌∷◌, None, Some, length}
 use Rattle.packet_view.specs.Bytes.{AreBytes}
 use Rattle.packet_view.specs.Captures.{End, IsCapture, IsCaptureAt, PacketFacts, RecordFacts, end_of}
 use Rattle.acl_policy.specs.Policies.{IsAmong, IsPolicyFault, IsPolicyText, PolicyFacts}

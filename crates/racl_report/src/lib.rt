@@ -20,6 +20,8 @@ pub use kept_input::{Kept, KeptCaptures, PlacedCapture};
 pub use message_texts::{
     Ending, Frames, FramesRemark, Hint, KindRemark, Message, Shortage, Unopened, shown_name,
 };
-pub use program_ending::{ending, failure_ending, frames, hint, remark, shortage, status, words_ending};
+pub use program_ending::{
+    ending, failure_ending, frames, hint, remark, shortage, status, words_ending,
+};
 pub use saved_packets::{Saves, keeps_input, save_packets};
 pub use text_behind_totals::{Behind, behind_totals, write_behind};

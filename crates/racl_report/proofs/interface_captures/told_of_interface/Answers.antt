@@ -1,5 +1,5 @@
 -- A second capture of its interface, one that has a fault, or one that is right.
-use Rattle.std.proofs.Common.{◌≡◌, List, ℕ, Some, ap, inl, inr, refl, subst, sym}
+use Rattle.std.proofs.Common.{List, ℕ, Some, ap, inl, inr, refl, subst, sym}
 use Rattle.packet_view.specs.Captures.{IsCapture, IsCaptureFault, end_of, packets_at}
 use Rattle.packet_view.specs.CheckedCaptures.{packets_of, records_of}
 use Rattle.racl_io.specs.declared.totals_and_truncation.Captured.{Captured}

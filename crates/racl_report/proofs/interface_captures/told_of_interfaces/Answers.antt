@@ -1,4 +1,4 @@
-use Rattle.std.proofs.Common.{◌≡◌, ◌+◌, ◌++◌, ◌∷◌, [], List, ℕ, inr, subst, sym, length, arith}
+use Rattle.std.proofs.Common.{◌+◌, ◌∷◌, List, ℕ, inr, subst, sym, arith}
 use Rattle.std.proofs.lemmas.List.{drop_all}
 use Rattle.racl_io.specs.declared.totals_and_truncation.Captured.{Captured}
 use Rattle.racl_report.specs.InterfaceInputs.{IsOwnFault, IsTakenApart}
