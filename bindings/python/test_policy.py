@@ -5,7 +5,9 @@ import pickle
 import struct
 import threading
 import unittest
+from unittest import mock
 
+import racl
 from racl import Direction, End, Judge, JudgesLeft, PolicyFault, RuleCounts, Session, Verdict, check, line_of
 
 POLICY = """\
@@ -180,6 +182,20 @@ class JudgesTest(unittest.TestCase):
         for other, fault in ((self.judge, ValueError), (Judge(POLICY), ValueError), (None, TypeError)):
             with self.assertRaises(fault):
                 self.judge.join(other)
+
+    def test_calls_that_met_another_judge_are_made_again(self):
+        contended, library = racl._Answer(7, 0, 0, 0), racl._LIBRARY
+        swept = [racl._Swept(7, 100, 3), racl._Swept(0, 4096, 2)]
+        with mock.patch.object(library, "racl_judge", side_effect=[contended, contended, racl._Answer(16, 0, 1, 1)]) as judge, \
+                mock.patch.object(library, "racl_sweep_ipv4", side_effect=swept) as sweep, \
+                mock.patch.object(library, "racl_judge_burst", side_effect=[1, 0, 2]) as burst:
+            self.assertEqual(self.judge.judge(b"").verdict, Verdict.SESSION)
+            self.assertEqual(self.judge.sweep(50), 5)
+            with self.assertRaises(ValueError):  # (the answers are zeros)
+                self.judge.judge_burst([b"frame"] * 3)
+        self.assertEqual(judge.call_count, 3)
+        self.assertEqual([it.args[1:3] for it in sweep.call_args_list], [(0, 4096), (100, 4096)])
+        self.assertEqual([it.args[4] for it in burst.call_args_list], [3, 2, 2])
 
     def test_there_are_no_copies(self):
         for it in (self.judge, RuleCounts(POLICY)):
