@@ -1,5 +1,5 @@
 -- What is read of the files of interfaces' captures.
-use Rattle.std.proofs.Common.{◌≡◌, ◌∙◌, ◌+◌, ◌<◌, ◌≤◌, ◌++◌, ◌⊎◌, inl, inr, ap, arith, refl, subst, sym, ℕ, true, false, List, [], ◌∷◌, Option, None, Some, length, take}
+use Rattle.std.proofs.Common.{◌≡◌, ◌∙◌, ◌+◌, ◌<◌, ◌≤◌, ◌++◌, ◌⊎◌, inl, inr, ap, arith, refl, subst, sym, ℕ, true, false, List, [], ◌∷◌, Option, None, Some, length}
 use Rattle.std.specs.Prelude.{IfSome}
 use Rattle.std.specs.Iterator.{Yields}
 use Rattle.std.specs.Vec.Iter.{into_iter_items, into_iter_len, into_iter_steps}
