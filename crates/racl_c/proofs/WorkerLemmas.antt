@@ -23,7 +23,7 @@ module _ (l : Layout) (told : Flow) (workers : ℕ) where
       → IsOfBucket l told workers (worker_of_bucket told.family told.hash workers)
   of_bucket j k four six flow is =
       subst (λ (t : Flow). worker_of_bucket t.family t.hash workers
-          ≡ worker_of_bucket (family_number (family_of flow.key)) (home_of l flow.key).bucket workers) (sym is) (at flow.key)
+      ≡ worker_of_bucket (family_number (family_of flow.key)) (home_of l flow.key).bucket workers) (sym is) (at flow.key)
     where
       at : (key : FlowKey) → worker_of_bucket (family_number (family_of key)) (hash_in l key) workers
           ≡ worker_of_bucket (family_number (family_of key)) (home_of l key).bucket workers

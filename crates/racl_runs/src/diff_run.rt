@@ -63,7 +63,8 @@ fn compare_capture<R: Source, W: Sink, T: Clock + Threads + Wait + Sync>(
     let Ok((tables, callers)) = create_sized(alloc, head.options.tables, head.options.ages) else {
         return Err(Fault::Memory);
     };
-    let Ok((others, other_callers)) = create_sized(alloc, head.options.tables, head.options.ages) else {
+    let Ok((others, other_callers)) = create_sized(alloc, head.options.tables, head.options.ages)
+    else {
         return Err(Fault::Memory);
     };
     let manner = Manner {
