@@ -330,7 +330,8 @@ void racl_free_rule_counts(racl_rule_counts *counts);
    tables have so many. Any judge may, at any time, by a second behind which no judge falls: a
    session that went lets no late frame through. A frame, too, takes away its flow's session that has ended. Threads that each
    judge the flows that racl_worker_of deals to them, and sweep the buckets that racl_worker_of_bucket does, as
-   racl_sweep_ipv4_own_wait and racl_sweep_ipv6_own_wait do, meet in no bucket ---- */
+   racl_sweep_ipv4_own_wait and racl_sweep_ipv6_own_wait do, meet in no bucket: they are CONTENDED only where they take pages or
+   give them back at once ---- */
 
 #define RACL_IPV4_BUCKETS 4096
 #define RACL_IPV6_BUCKETS 1024

@@ -1,21 +1,13 @@
--- A flow's worker is that of its bucket, and the one to whom the program deals it.
-use Rattle.std.proofs.Common.{◌≡◌, ◌∙◌, ◌+◌, ◌<◌, ℕ, zero, suc, Option, None, Some, ap, arith, refl, subst, sym}
+-- A flow's worker is that of its bucket.
+use Rattle.std.proofs.Common.{◌≡◌, ◌∙◌, ◌+◌, ℕ, ap, subst, sym}
 use Rattle.std.specs.Prelude.{◌==◌, ◌%◌, ◌^◌, if◌then◌else◌}
-use Rattle.std.proofs.Math.Nat.{zero-mod}
 use Rattle.std.proofs.Math.Pow.{mod-mod-pow}
-use Rattle.session_state.specs.declared.flow.Flow as flows
 use Rattle.session_state.specs.declared.flow.FlowKey.{FlowKey}
 use Rattle.session_state.specs.declared.flow.FlowKey.TheVariants.{Four, Six}
 use Rattle.flow_filter.specs.OneThread.{Layout, family_of, home_of}
-use Rattle.flow_dealing.specs.Dealings.{hash_in, worker_by_dealing}
-use Rattle.flow_dealing.specs.declared.worker_of_flow.Dealing.TheVariants.{Bucket}
-use Rattle.racl_c.specs.FlowHashes.{IsAsProgramDeals, IsOfBucket, family_number, worker_of_bucket}
+use Rattle.flow_dealing.specs.Dealings.{hash_in}
+use Rattle.racl_c.specs.FlowHashes.{IsOfBucket, family_number, worker_of_bucket}
 use Rattle.racl_c.specs.declared.flow_hash.Flow.{Flow}
-
--- among some workers
-some_workers : (workers n : ℕ) → 0 < workers → (if workers == 0 then 0 else n) ≡ n
-some_workers zero n some = absurd (omega arith)
-some_workers (suc workers) n some = refl
 
 -- in tables whose buckets are those of standard ones, or several for each of these
 module _ (l : Layout) (told : Flow) (workers : ℕ) where
@@ -31,17 +23,3 @@ module _ (l : Layout) (told : Flow) (workers : ℕ) where
           (sym (ap (λ log2. hash_in l (Four key) % 2 ^ log2 % 2 ^ 12) four ∙ mod-mod-pow (hash_in l (Four key)) j 12))
       at (Six key) = ap (λ n. if workers == 0 then 0 else n % workers)
           (sym (ap (λ log2. hash_in l (Six key) % 2 ^ log2 % 2 ^ 10) six ∙ mod-mod-pow (hash_in l (Six key)) k 10))
-
-  pub as_program_deals : l.four.log2_buckets ≡ 12 → l.six.log2_buckets ≡ 10
-      → IsAsProgramDeals l told workers (worker_of_bucket told.family told.hash workers)
-  as_program_deals four six None is some =
-      subst (λ (t : Flow). worker_of_bucket t.family t.hash workers ≡ 0) (sym is)
-      (some_workers workers (0 % workers) some ∙ zero-mod workers)
-  as_program_deals four six (Some flow) is some =
-      subst (λ (t : Flow). worker_of_bucket t.family t.hash workers ≡ worker_by_dealing Bucket l workers 0 (Some flow)) (sym is) (at flow.key)
-    where
-      at : (key : FlowKey) → worker_of_bucket (family_number (family_of key)) (hash_in l key) workers ≡ (home_of l key).bucket % workers
-      at (Four key) = some_workers workers (hash_in l (Four key) % 2 ^ 12 % workers) some
-          ∙ sym (ap (λ log2. hash_in l (Four key) % 2 ^ log2 % workers) four)
-      at (Six key) = some_workers workers (hash_in l (Six key) % 2 ^ 10 % workers) some
-          ∙ sym (ap (λ log2. hash_in l (Six key) % 2 ^ log2 % workers) six)

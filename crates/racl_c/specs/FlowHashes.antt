@@ -1,11 +1,10 @@
 -- By what the frames of a flow are dealt: the family and the hash of its key; and to whom they and the buckets are.
-use Rattle.std.specs.Prelude.{◌≡◌, ◌==◌, ◌%◌, ◌^◌, ◌<◌, if◌then◌else◌, ℕ, Option, None, Some}
+use Rattle.std.specs.Prelude.{◌≡◌, ◌==◌, ◌%◌, ◌^◌, if◌then◌else◌, ℕ, Option, None, Some}
 use Rattle.packet_view.specs.declared.tuple.Family.{Family}
 use Rattle.packet_view.specs.declared.tuple.Family.TheVariants.{V4, V6}
 use Rattle.session_state.specs.declared.flow.Flow as flows
 use Rattle.flow_filter.specs.OneThread.{Layout, family_of, home_of}
-use Rattle.flow_dealing.specs.Dealings.{hash_in, worker_by_dealing}
-use Rattle.flow_dealing.specs.declared.worker_of_flow.Dealing.TheVariants.{Bucket}
+use Rattle.flow_dealing.specs.Dealings.{hash_in}
 use Rattle.racl_c.specs.declared.flow_hash.Flow.{Flow}
 
 abbrev pub family_number : Family → ℕ
@@ -29,8 +28,3 @@ worker_of_bucket family bucket workers = if workers == 0 then 0 else standard_bu
 abbrev pub IsOfBucket : Layout → Flow → (workers worker : ℕ) → Type 0
 IsOfBucket l told workers worker = (flow : flows.Flow) → IsFlowTold l (Some flow) told
     → worker ≡ worker_of_bucket (family_number (family_of flow.key)) (home_of l flow.key).bucket workers
-
--- it is dealt as the program deals packets by bucket over tables of this layout, one without a flow too
-abbrev pub IsAsProgramDeals : Layout → Flow → (workers worker : ℕ) → Type 0
-IsAsProgramDeals l told workers worker = (flow : Option flows.Flow) → IsFlowTold l flow told → 0 < workers
-    → worker ≡ worker_by_dealing Bucket l workers 0 flow

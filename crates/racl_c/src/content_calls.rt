@@ -42,14 +42,16 @@ fn take_policy_of<A: Shape, B: Shape>(judge: &mut Judge<A, B>, other: &Content) 
     requires { HasJudge other.now }
     ensures { TakeTold (layout_of ⟦<A as Shape>⟧ ⟦<B as Shape>⟧) other.now result judge.old judge.new }
 {
-    let taken = match other {
-        Content::Standard(other) => judge.take_policy(other),
-        Content::Large(other) => judge.take_policy(other),
+    match other {
+        Content::Standard(other) => match judge.take_policy(other) {
+            Ok(()) => DONE,
+            Err(fault) => take_refusal(fault),
+        },
+        Content::Large(other) => match judge.take_policy(other) {
+            Ok(()) => DONE,
+            Err(fault) => take_refusal(fault),
+        },
         _ => unreachable!(),
-    };
-    match taken {
-        Ok(()) => DONE,
-        Err(fault) => take_refusal(fault),
     }
 }
 

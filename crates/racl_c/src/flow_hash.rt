@@ -4,7 +4,7 @@ ghost use Rattle.packet_view.specs.declared.tuple.Mac.{Mac};
 ghost use Rattle.std.specs.Prelude.{◌≡◌, Option};
 ghost use Rattle.flow_filter.specs.OneThread.{layout_of};
 ghost use Rattle.flow_dealing.specs.Dealings.{flow_of_frame};
-ghost use Rattle.racl_c.specs.FlowHashes.{IsAsProgramDeals, IsFlowTold, IsOfBucket};
+ghost use Rattle.racl_c.specs.FlowHashes.{IsFlowTold, IsOfBucket};
 ghost use Rattle.racl_c.specs.FlowHashes;
 
 use bihash_words::{LargeV4, LargeV6, Shape, ShapeV4, ShapeV6, flow_shapes_are_sound};
@@ -66,9 +66,9 @@ pub extern "C" fn racl_worker_of_bucket(family: u32, bucket: u64, workers: u32) 
 /// Of so many workers the one to whom a flow's frames are dealt.
 #[unsafe(no_mangle)]
 pub extern "C" fn racl_worker_of(flow: Flow, workers: u32) -> u32
+    ensures is { result ≡ FlowHashes.worker_of_bucket flow.family flow.hash workers }
     ensures standard { IsOfBucket (layout_of ⟦<ShapeV4 as Shape>⟧ ⟦<ShapeV6 as Shape>⟧) flow workers result }
     ensures large { IsOfBucket (layout_of ⟦<LargeV4 as Shape>⟧ ⟦<LargeV6 as Shape>⟧) flow workers result }
-    ensures program { IsAsProgramDeals (layout_of ⟦<ShapeV4 as Shape>⟧ ⟦<ShapeV6 as Shape>⟧) flow workers result }
 {
     worker_of_bucket(flow.family, flow.hash, workers)
 }

@@ -2,7 +2,7 @@
 use Rattle.std.proofs.Common.{◌∙◌, ap, inl, subst, sym}
 use Rattle.racl_c.specs.Contents.{IsNewBy}
 use Rattle.racl_c.specs.declared.handle.Place.{Place}
-use Rattle.racl_c.proofs.racl_calls.racl_new.Goals as goal
+use Rattle.racl_c.proofs.racl_calls.racl_new_with.Goals as goal
 
 pub returns-in-Ok-new : goal.returns-in-Ok-new
 returns-in-Ok-new c =
