@@ -181,9 +181,12 @@ class Compared(Case):
         got = self.compared(old.decode(), new.decode())
         self.compare(got, wanted(stderr=said.format(old=self.old, new=self.new), status=1))
 
-    @each([("no files", ["compare"]), ("one file", ["compare", "a"]), ("three files", ["compare", "a", "b", "c"])])
-    def words(self, given):
-        self.compare(self.program.run(given), wanted(stderr="racl: racl compare takes: OLD NEW\n", status=2))
+    @each([("no files", ["compare"], "the following required arguments were not provided:\n  <OLD>\n  <NEW>"),
+           ("one file", ["compare", "a"], "the following required arguments were not provided:\n  <NEW>"),
+           ("three files", ["compare", "a", "b", "c"], "unexpected argument 'c' found")])
+    def words(self, given, why):
+        told = f"error: {why}\n\nUsage: racl compare OLD NEW\n\nFor more information, try '--help'.\n"
+        self.compare(self.program.run(given), wanted(stderr=told, status=2))
 
     def test_a_file_that_is_missing(self):
         got = self.program.run(["compare", f"{self.folder}/none", f"{self.folder}/none"])

@@ -9,7 +9,7 @@ LONG = record(1, b"", MOST_KEPT + 1)
 CAPTURES = [
     ("an interface twice", [*TWO, (1, CAPTURE)]), ("a cut capture first", [(7, CAPTURE[:-1]), *TWO]),
     ("an empty capture", [(255, b""), *TWO], 0), ("many interfaces", [(it, CAPTURE) for it in range(255, -1, -1)]),
-    ("a wrong capture last", [*TWO, (0, CAPTURE[:20] + bytes(4) + CAPTURE[24:])], 2),
+    ("a wrong capture last", [*TWO, (0, CAPTURE[:4] + b"\3\0" + CAPTURE[6:])], 2),
     ("a long record", [*TWO, (9, header() + LONG), (3, header() + LONG)], 2), ("of one interface", [(1, b"")], 0),
     ("many bytes", [(0, CAPTURE + record(1, bytes(200_000)) * 50), (1, CAPTURE)]),
 ]

@@ -128,7 +128,7 @@ class Page(Case):
                 page["page"](read, "name", None, None).encode("utf-8", "replace")
             except page["Wrong"]:
                 told += 1
-        self.assertTrue(0 < told < 1500)
+        self.compare({"some are told, and some are shown": 0 < told < 1500}, {"some are told, and some are shown": True})
 
     def test_order_of_characters(self):
         """What would show a line in another order stands as its number."""
