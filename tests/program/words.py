@@ -111,6 +111,9 @@ class Words(Case):
     def help_of(self, name, usage, about):
         want = f"{about}\n\nUsage: {usage}\n"
         for words in ([name, "--help"], [name, "-h"], ["help", name]):
+            # (the launcher hands these on to the script)
+            if words[0] == "import" and self.program.is_launcher():
+                continue
             got = self.program.run(words)
             self.compare({"status": got["status"], "stderr": got["stderr"], "stdout": got["stdout"].decode().startswith(want)},
                          {"status": 0, "stderr": b"", "stdout": True}, *words)

@@ -26,6 +26,10 @@ class Program:
     def __init__(self, path):
         self.path = os.path.abspath(path)
 
+    def is_launcher(self):
+        """Whether it is the script that runs the program, which gives each FIFO a pipe of its own."""
+        return bytes_of_file(self.path).startswith(b"#!")
+
     def run(self, words=(), data=b"", memory=None, stack=None, size=None, without=None, **streams):
         """Runs the program and gives what it wrote, said and ended with; no file may have more than `size` bytes, and the standard
         stream with the number `without` is closed."""
