@@ -85,11 +85,11 @@ class Shards(Case):
         of_four = self.hold("of_four", self.reports(4, [], held, MANY)[2]["stdout"])
         objects = self.hold("objects", self.reports(3, ["--json"], held, MANY)[2]["stdout"])
         counts = self.hold("counts", self.reports(3, ["--hits"], held, MANY)[2]["stdout"])
-        failed = self.hold("failed", bytes_of_file(three)[:-5])
+        failed, cut = self.hold("failed", bytes_of_file(three)[:-5]), self.hold("cut", bytes_of_file(three)[:-1])
         empty, none = self.hold("empty", b""), f"{self.folder}/none"
         for names, why in (([one, two], b"packets are missing"), ([one, two, two], b"the same packet"), ([one, two, three, three], b"the same packet"),
                            ([one, two, three, of_four], b"the same packet"), ([one, two, objects], b"JSON"), ([one, two, counts], b"count the same"),
-                           ([one, two, failed], b"has no totals"), ([one, two, empty], b"has no totals"), ([one, two, none], b"can't be read"),
+                           ([one, two, failed], b"has no totals"), ([one, two, cut], b"has no totals"), ([one, two, empty], b"has no totals"), ([one, two, none], b"can't be read"),
                            ([], b"takes the reports")):
             got = self.merge(*names)
             self.compare({"totals": b"packets" in got["stdout"], "status": got["status"], "said": why in got["stderr"]},
