@@ -2,7 +2,7 @@
 are out."""
 from support.captures import report_of
 from support.cases import Case, each, wanted
-from support.slow_captures import POLICY, capture_of, slow, verdicts_on
+from support.slow_captures import POLICY, capture_of, listing_of, slow, slow_packets, verdicts_on
 
 RATES = 0.1, 1, 5
 AGEING = ["--age"], ["--age", "--workers", "4"], ["--age", "--tables", "large"], ["--live"], ["--live", "--age", "--workers", "4"]
@@ -72,6 +72,35 @@ class Ageing(Case):
         self.compare(self.program.run(files), wanted(report_of(kept)), "no ageing")
         for words in ["--age"], ["--live"], ["--live", "--age"]:
             self.compare(self.program.run([*words, *files]), wanted(report_of(aged)), *words)
+
+    def test_one_listing(self):
+        """For each number of workers and each way to age, the sessions are listed that are live at the latest second, and hits count by it."""
+        packets = [*slow_packets(5)[:80_000], (1_016_400, True, 4, 1)]
+        files = self.files_of(capture_of(packets))
+        listing, entered = listing_of(packets), sum("reflect" in it for it in verdicts_on(packets))
+        expired = entered - listing.count(b"\n")
+        counts = f"sessions entered {entered}\nsessions matched {sum('session' in it for it in verdicts_on(packets))}\nsessions expired {expired}\n"
+        self.compare({"some": 100 < listing.count(b"\n") < 5000 < expired}, {"some": True})
+        for ages in ["--age"], ["--age", "--any-length"], ["--live"]:
+            for workers in "1", "2", "4", "16":
+                words = [*ages, "--workers", workers, "--summary", "--sessions"]
+                report = self.program.run([*words, *files])["stdout"]
+                self.compare({"listing": report.partition(b"\n")[2]}, {"listing": listing}, *words)
+            report = self.program.run([*ages, "--workers", "4", "--summary", "--hits", "--sessions", *files])["stdout"]
+            self.compare({"behind": report.endswith(counts.encode() + listing)}, {"behind": True}, *ages, "with hits")
+        aged = [self.program.run(["--age", "--shard", f"{it}/3", "--summary", "--sessions", *files])["stdout"].partition(b"until 1016400\n")[2] for it in (1, 2, 3)]
+        self.compare({"listing": sorted(line for it in aged for line in it.splitlines())}, {"listing": sorted(listing.splitlines())}, "shards")
+
+    def test_few(self):
+        """Two flows that end, and a third: whoever judges the first ones' buckets later, or nobody does, the third alone is listed."""
+        for number in range(1, 9):
+            packets = [(1000, True, 4, 0), (1000, True, 4, number), (1700, True, 4, 100)]
+            files = self.files_of(capture_of(packets))
+            for words in ["--age"], ["--live"], ["--age", "--any-length"], ["--live", "--interface", "0=" + files[1]]:
+                for workers in "1", "2":
+                    given = files if "--interface" not in words else files[:1]
+                    report = self.program.run([*words, "--workers", workers, "--summary", "--sessions", *given])["stdout"]
+                    self.compare({"listing": report.partition(b"\n")[2]}, {"listing": listing_of(packets)}, number, *words, workers)
 
     def test_forms(self):
         """Ageing beside what else is asked for."""

@@ -18,6 +18,8 @@ MANY = header() + b"".join(udp(100 + n // 50, way, *ends) for n in range(400)
                            for way, ends in ((True, ((1, 1000 + n % 97), (2, 53))), (False, ((2, 53), (1, 1000 + n % 97))))
                            ) + record(200, b"short") + record(201, bytes(20)) * 5
 CUT = MANY[:-7]
+# A request after all sessions but its own have ended.
+ENDED = MANY + udp(1700, True, (1, 999), (2, 53))
 
 
 def examples():
@@ -26,11 +28,6 @@ def examples():
         policy, captures = parts_of(bytes_of_file(f"{TOP}/examples/{name}.racl"))
         if captures[0][0] is None:
             yield name, policy, captures[0][1]
-
-
-def counted(report):
-    """A report without its count of ended sessions: a shard counts these at its own packets' latest second."""
-    return re.sub(rb"^sessions expired \d+\n", b"", report, flags=re.M)
 
 
 def packets_of(capture):
@@ -64,14 +61,26 @@ class Shards(Case):
     def test_cut(self):
         self.merged(NAMES, CUT, status=3)
 
+    def test_ended(self):
+        """Sessions that end before the capture's latest second, which most shards' own packets don't reach."""
+        self.merged(NAMES, ENDED)
+
+    def test_note(self):
+        """Behind its totals a report says of which shard it is, of how many packets, and their latest second."""
+        held = self.hold("policy", NAMES)
+        for words, text in ([], b"shard 2 of 3 of 807 packets until 1700\n"), (["--json"], b'{"shard":2,"of":3,"of_packets":807,"until":1700}\n'):
+            told = self.program.run(["--shard", "2/3", "--summary", "--hits", *words, held, "-"], ENDED)["stdout"].splitlines(True)
+            self.compare({"note": told[1]}, {"note": text}, *words)
+        self.compare({"note": b"shard" in self.program.run(["--any-length", held, "-"], ENDED)["stdout"]}, {"note": False})
+
     def merged(self, policy, capture, status=0):
         held = self.hold("policy", policy)
         for count in COUNTS:
-            for words in [], ["--explain"], ["--workers", "3", "--only=drop"], ["--hits", "--sessions"], ["--summary", "--hits"]:
+            for words in [], ["--explain"], ["--workers", "3", "--only=drop"], ["--hits", "--sessions"], ["--age", "--hits", "--sessions"], ["--summary", "--hits"]:
                 whole = self.program.run(["--any-length", *words, held, "-"], capture)
                 reports = self.reports(count, words, held, capture)
                 names = [self.hold(f"report{place}", it["stdout"]) for place, it in enumerate(reports)]
-                self.compare({"merged": counted(self.merge(*names)["stdout"])}, {"merged": counted(whole["stdout"])}, count, *words)
+                self.compare({"merged": self.merge(*names)["stdout"]}, {"merged": whole["stdout"]}, count, *words)
                 self.compare({"statuses": {it["status"] for it in reports}}, {"statuses": {status}}, count, *words)
 
     def merge(self, *names):
@@ -83,14 +92,16 @@ class Shards(Case):
         held = self.hold("policy", NAMES)
         one, two, three = (self.hold(f"report{place}", it["stdout"]) for place, it in enumerate(self.reports(3, [], held, MANY)))
         of_four = self.hold("of_four", self.reports(4, [], held, MANY)[2]["stdout"])
+        other = self.hold("other", self.reports(3, [], held, ENDED)[2]["stdout"])
+        whole = self.hold("whole", self.program.run(["--any-length", held, "-"], MANY)["stdout"])
         objects = self.hold("objects", self.reports(3, ["--json"], held, MANY)[2]["stdout"])
         counts = self.hold("counts", self.reports(3, ["--hits"], held, MANY)[2]["stdout"])
         failed, cut = self.hold("failed", bytes_of_file(three)[:-5]), self.hold("cut", bytes_of_file(three)[:-1])
         empty, none = self.hold("empty", b""), f"{self.folder}/none"
-        for names, why in (([one, two], b"packets are missing"), ([one, two, two], b"the same packet"), ([one, two, three, three], b"the same packet"),
-                           ([one, two, three, of_four], b"the same packet"), ([one, two, objects], b"JSON"), ([one, two, counts], b"count the same"),
-                           ([one, two, failed], b"has no totals"), ([one, two, cut], b"has no totals"), ([one, two, empty], b"has no totals"), ([one, two, none], b"can't be read"),
-                           ([], b"takes the reports")):
+        for names, why in (([one, two], b"shard 3 of 3 is missing"), ([one, two, two], b"both of shard 2"), ([one, two, three, three], b"both of shard 3"),
+                           ([one, two, three, of_four], b"different captures"), ([one, two, other], b"different captures"), ([one, two, whole], b"doesn't say of which shard"),
+                           ([one, two, objects], b"JSON"), ([one, two, counts], b"count the same"), ([one, two, failed], b"has no totals"),
+                           ([one, two, cut], b"has no totals"), ([one, two, empty], b"has no totals"), ([one, two, none], b"can't be read"), ([], b"takes the reports")):
             got = self.merge(*names)
             self.compare({"totals": b"packets" in got["stdout"], "status": got["status"], "said": why in got["stderr"]},
                          {"totals": False, "status": 1, "said": True}, why)
@@ -98,7 +109,7 @@ class Shards(Case):
     def test_large_counts(self):
         """Counts beyond 2^31 and 2^53 are written digit by digit."""
         for count in 2 ** 31, 2 ** 53 + 1:
-            names = [self.hold(f"report{it}", f"packets {count} pass {count} drop 0\n".encode()) for it in (1, 2)]
+            names = [self.hold(f"report{it}", f"packets {count} pass {count} drop 0\nshard {it} of 2 of {2 * count} packets until 9\n".encode()) for it in (1, 2)]
             self.compare(self.merge(*names), wanted(f"packets {2 * count} pass {2 * count} drop 0\n".encode()), str(count))
 
     def test_recipe(self):

@@ -47,10 +47,26 @@ def verdicts_on(packets):
     return verdicts
 
 
+def latest_of(packets):
+    """The latest second of each flow whose packets that filter lets through, and the latest of all."""
+    latest = {}
+    for (moment, _, *flow), verdict in zip(packets, verdicts_on(packets)):
+        if verdict.startswith("pass"):
+            latest[tuple(flow)] = max(latest.get(tuple(flow), 0), moment)
+    return latest, max(it[0] for it in packets)
+
+
+def listing_of(packets):
+    """The lines of the sessions that are live at the latest second, in the order of their keys. All flows have a number below 60,000."""
+    latest, last = latest_of(packets)
+    ends = {4: ("10.0.0.1", "10.0.0.2"), 6: ("2001:db8::1", "2001:db8::2")}
+    return "".join(f"session interface 0 udp {ends[family][0]} port {1024 + number} and {ends[family][1]} port 53 last {moment} until {moment + TIMEOUT}\n"
+                   for (family, number), moment in sorted(latest.items()) if moment + TIMEOUT >= last).encode()
+
+
 @functools.lru_cache(maxsize=None)
-def slow(a_second):
-    """A capture of so many packets a second, and its verdicts. Most packets are the first of a flow; the others are of one of the
-    last 1200 seconds, either way."""
+def slow_packets(a_second):
+    """So many packets a second. Most are the first of a flow; the others are of one of the last 1200 seconds, either way."""
     chance, packets, flows = random.Random(a_second), [], []
     for number in range(PACKETS):
         moment = 1_000_000 + int(number / a_second)
@@ -60,4 +76,11 @@ def slow(a_second):
         else:
             back = chance.randint(1, min(len(flows), int(1200 * a_second)))
             packets.append((moment, chance.random() < 0.5, *flows[-back]))
+    return packets
+
+
+@functools.lru_cache(maxsize=None)
+def slow(a_second):
+    """A capture of so many packets a second, and its verdicts."""
+    packets = slow_packets(a_second)
     return capture_of(packets), verdicts_on(packets)

@@ -16,7 +16,7 @@ use Rattle.racl_options.specs.Asking.{is_plain}
 use Rattle.racl_options.specs.declared.settings.Lines.{Lines}
 use Rattle.racl_options.specs.declared.settings.Lines.TheVariants.{Plain, Explained, Json}
 use Rattle.racl_options.specs.declared.settings.Options.{Options}
-use Rattle.racl_views.specs.Hits.{AreHits}
+use Rattle.racl_views.specs.Hits.{AreHits, latest_second}
 use Rattle.racl_views.specs.RunEntries.{RunFacts}
 use Rattle.racl_views.specs.Stored.{StoredFacts}
 use Rattle.racl_report.specs.KeptInputs.{IsKept}
@@ -58,7 +58,7 @@ told_of_kept options input policy packets judged kept run stored old new (Err fa
 -- plain lines alone
 plain_alone_told : (asked : Bool) (form : Lines) (times : Timeouts) (policy : PolicyFacts) (text : List ℕ) (packets : List PacketFacts) (judged : JudgedFacts) (shown : Shown) → (asked || not (is_plain form)) ≡ false
     → AreLines form (told_facts policy text packets judged.outcome shown) (report_shown shown judged.outcome.verdicts judged.outcome.captures)
-    × AreHits asked (view_behind form) times (told_facts policy text packets judged.outcome shown) judged.stored []
+    × AreHits asked (view_behind form) times (latest_second packets) (told_facts policy text packets judged.outcome shown) judged.stored []
 plain_alone_told true form times policy text packets judged shown e = cc
 plain_alone_told false Plain times policy text packets judged shown e = (refl, refl)
 plain_alone_told false Explained times policy text packets judged shown e = cc

@@ -10,9 +10,10 @@ use Rattle.racl_views.specs.declared.hit_counts.HitCounts.{HitCounts}
 use Rattle.racl_report.specs.RunReports.{sessions_behind, view_behind}
 use Rattle.racl_report.specs.declared.text_behind_totals.Behind.{Behind}
 
--- the hits of any run whose policy's text this is and whose packets were counted so, and the sessions, where these are asked for
-pub record IsBehind (options : Options) (text : List ℕ) (counts : HitCounts) (stored : StoredFacts) (behind : Behind) : Type 0 where
+-- the hits of any run whose policy's text this is and whose packets were counted so, with its sessions counted at this second, and
+-- the sessions, where these are asked for
+pub record IsBehind (options : Options) (text : List ℕ) (latest : ℕ) (counts : HitCounts) (stored : StoredFacts) (behind : Behind) : Type 0 where
   pub hits : (run : RunFacts) → run.text ≡ text → IsPolicyText run.text run.policy
       → (options.hits ≡ true → HaveCounted run.policy run.packets run.verdicts counts)
-      → AreHits options.hits (view_behind options.lines) options.times run stored behind.hits.items
+      → AreHits options.hits (view_behind options.lines) options.times latest run stored behind.hits.items
   pub sessions : behind.sessions.items ≡ sessions_behind options stored

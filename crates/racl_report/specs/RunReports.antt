@@ -11,7 +11,7 @@ use Rattle.racl_io.specs.declared.totals_and_truncation.Captured.{Captured}
 use Rattle.racl_io.specs.Inputs.{IsInput, InputFacts}
 use Rattle.racl_io.specs.ShownReports.{report_shown}
 use Rattle.racl_views.specs.ExplainedLines.{IsExplained}
-use Rattle.racl_views.specs.Hits.{AreHits}
+use Rattle.racl_views.specs.Hits.{AreHits, latest_second}
 use Rattle.racl_views.specs.PacketObjects.{IsToldInObjects}
 use Rattle.racl_views.specs.RunEntries.{RunFacts}
 use Rattle.racl_views.specs.SessionLines.{sessions_told}
@@ -60,7 +60,7 @@ pub record IsReportOn (options : Options) (text : List ℕ) (policy : PolicyFact
   pub lines : List ℕ
   pub are : AreLines options.lines (told_facts policy text packets judged.outcome options.shown) lines
   pub hits : List ℕ
-  pub told : AreHits options.hits (view_behind options.lines) options.times (told_facts policy text packets judged.outcome options.shown) judged.stored hits
+  pub told : AreHits options.hits (view_behind options.lines) options.times (latest_second packets) (told_facts policy text packets judged.outcome options.shown) judged.stored hits
   pub all : report ≡ lines ++ (hits ++ sessions_behind options judged.stored)
 
 -- what is told of a run on an input

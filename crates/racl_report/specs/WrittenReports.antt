@@ -10,7 +10,7 @@ use Rattle.racl_io.specs.Reports.{totals_of}
 use Rattle.racl_io.specs.ShownReports.{report_shown}
 use Rattle.racl_options.specs.Asking.{is_plain}
 use Rattle.racl_options.specs.declared.settings.Options.{Options}
-use Rattle.racl_views.specs.Hits.{AreHits}
+use Rattle.racl_views.specs.Hits.{AreHits, latest_second}
 use Rattle.racl_views.specs.RunEntries.{RunFacts}
 use Rattle.racl_views.specs.Stored.{StoredFacts}
 use Rattle.racl_report.specs.RunReports.{AreLines, IsReport, JudgedFacts, sessions_behind, view_behind}
@@ -36,7 +36,7 @@ pub record HasTold (options : Options) (run : RunFacts) (stored : StoredFacts) (
   pub lines : List ℕ
   pub are : AreLines options.lines run lines
   pub hits : List ℕ
-  pub told : AreHits options.hits (view_behind options.lines) options.times run stored hits
+  pub told : AreHits options.hits (view_behind options.lines) options.times (latest_second run.packets) run stored hits
   pub text : Appends old new (lines ++ (hits ++ sessions_behind options stored))
   pub counted : totals ≡ totals_of run.verdicts run.captures
 

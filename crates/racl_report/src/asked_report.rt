@@ -4,7 +4,7 @@ ghost use Rattle.packet_view.specs.Captures.{PacketFacts};
 ghost use Rattle.packet_view.specs.CheckedCaptures.{remaining};
 ghost use Rattle.acl_policy.specs.Policies.{IsPolicyText, PolicyFacts, policy_facts};
 ghost use Rattle.racl_io.specs.Reports;
-ghost use Rattle.racl_views.specs.Hits.{AreHits};
+ghost use Rattle.racl_views.specs.Hits.{AreHits, latest_second};
 ghost use Rattle.racl_views.specs.Stored.{stored_facts};
 ghost use Rattle.racl_views.specs.RunEntries.{run_facts};
 ghost use Rattle.racl_report.specs.RunReports;
@@ -89,7 +89,7 @@ fn hits_of(
     stored: &StoredPairs,
 ) -> Result<Vec<u8>, AllocError>
     ensures { IfOk result (λ told. IsPolicyText run.entry.text.now (policy_facts run.entry.policy.now)
-        → AreHits options.now.hits (RunReports.view_behind options.now.lines) options.now.times (run_facts run.entry) (stored_facts stored.now) told.items) }
+        → AreHits options.now.hits (RunReports.view_behind options.now.lines) options.now.times (latest_second (remaining run.entry.packets)) (run_facts run.entry) (stored_facts stored.now) told.items) }
 {
     if options.hits {
         hits_text(

@@ -12,7 +12,7 @@ mod program_ending;
 mod saved_packets;
 mod text_behind_totals;
 
-pub use asked_report::{write_judged, write_run};
+pub use asked_report::{view_behind, write_judged, write_run};
 pub use end_of_captures::write_captures_end;
 pub use interface_captures::{InterfaceInput, PlacedFault, is_interface_seen, told_of_interfaces};
 pub use judged_packets::Judged;

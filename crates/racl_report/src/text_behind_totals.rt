@@ -27,18 +27,20 @@ fn counted_hits_of(
     alloc: Global,
     options: &Options,
     text: &[u8],
+    latest: u32,
     counts: &HitCounts,
     stored: &StoredPairs,
 ) -> Result<Vec<u8>, AllocError>
     ensures { IfOk result (λ told. (run : RunFacts) → run.text ≡ text.now → IsPolicyText run.text run.policy
         → (options.now.hits ≡ true → HaveCounted run.policy run.packets run.verdicts counts.now)
-        → AreHits options.now.hits (RunReports.view_behind options.now.lines) options.now.times run (stored_facts stored.now) told.items) }
+        → AreHits options.now.hits (RunReports.view_behind options.now.lines) options.now.times latest run (stored_facts stored.now) told.items) }
 {
     if options.hits {
         counted_hits_text(
             alloc,
             view_behind(options.lines),
             options.times,
+            latest,
             text,
             counts,
             stored,
@@ -49,17 +51,18 @@ fn counted_hits_of(
 }
 
 /// What stands behind the totals as the options ask, under a policy with this text, where packets were counted so and these
-/// sessions stand in the tables. An `Err` says that memory ran out.
+/// sessions stand in the tables, which are counted at this second. An `Err` says that memory ran out.
 pub fn behind_totals(
     alloc: Global,
     options: &Options,
     text: &[u8],
+    latest: u32,
     counts: &HitCounts,
     stored: &StoredPairs,
 ) -> Result<Behind, AllocError>
-    ensures { IfOk result (IsBehind options.now text.now counts.now (stored_facts stored.now)) }
+    ensures { IfOk result (IsBehind options.now text.now latest counts.now (stored_facts stored.now)) }
 {
-    let hits = counted_hits_of(alloc, options, text, counts, stored)?;
+    let hits = counted_hits_of(alloc, options, text, latest, counts, stored)?;
     let sessions = sessions_of(alloc, options, stored)?;
     Ok(Behind { hits, sessions })
 }

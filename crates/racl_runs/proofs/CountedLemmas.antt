@@ -1,5 +1,5 @@
 -- Workers that count the packets that they judged, and what stands behind the totals over these.
-use Rattle.std.proofs.Common.{◌≡◌, ◌∙◌, ◌<◌, ◌+◌, ◌++◌, ◌^◌, ℕ, Bool, true, List, [], ◌∷◌, Option, Result, ap, append-nil, arith, length, refl, subst, sym}
+use Rattle.std.proofs.Common.{◌≡◌, ◌∙◌, ◌<◌, ◌+◌, ◌++◌, ◌^◌, ◌||◌, ℕ, Bool, true, false, true≢false, List, [], ◌∷◌, Option, Result, ap, append-nil, arith, length, refl, subst, sym}
 use Rattle.std.specs.Io.KnownBytes.{Appends}
 use Rattle.std.specs.Prelude.{⊤}
 use Rattle.std.proofs.lemmas.List.{length-append}
@@ -15,18 +15,22 @@ use Rattle.racl_views.specs.HitCounts.{HaveCounted, HaveCountedOn, MayCount}
 use Rattle.racl_views.specs.Stored.{StoredFacts}
 use Rattle.racl_views.specs.declared.hit_counts.HitCounts.{HitCounts}
 use Rattle.racl_report.specs.BehindTotals.{IsBehind}
-use Rattle.racl_report.specs.RunReports.{told_facts}
+use Rattle.racl_report.specs.RunReports.{told_facts, view_behind}
 use Rattle.racl_report.specs.declared.text_behind_totals.Behind.{Behind}
 use Rattle.racl_runs.specs.Crews.{AreAsAsked, AreIdleOf, AreSaid, AreSaidBy, AreSaidSoFar, HaveCountedAfter, HaveEndedCounting, HaveEndedOn, HaveSaidAfter, Orders, size_of, orders_of, views_with}
 use Rattle.racl_runs.specs.LiveRuns.{IsToldBehind, ages_in}
-use Rattle.racl_runs.specs.Runs.{AreStoredOf, keeps_stored, layout_for}
+use Rattle.racl_runs.specs.Runs.{AreToldOf, keeps_stored, layout_for}
 use Rattle.racl_runs.specs.inner.LiveEnds.{AreBegun, MayTellBehind}
 use Rattle.racl_runs.specs.declared.counted_judging.Counted.{Counted}
 use Rattle.racl_runs.specs.declared.live_run.LiveWay.{LiveWay}
 use Rattle.racl_runs.specs.declared.sized_tables_and_workers.SizedCallers.{SizedCallers}
 use Rattle.racl_runs.specs.declared.sized_tables_and_workers.SizedTables.{SizedTables}
 use Rattle.racl_runs.proofs.LiveLemmas.{by_live_workers}
-use Rattle.racl_runs.proofs.OutcomeLemmas.{judged_count}
+use Rattle.racl_runs.proofs.OutcomeLemmas.{judged_count, told_when}
+use Rattle.session_state.specs.declared.timeouts.Timeouts.{Timeouts}
+use Rattle.racl_views.specs.Hits.{AreHits, IsHits}
+use Rattle.racl_views.specs.RunEntries.{RunFacts}
+use Rattle.racl_views.specs.declared.sessions_as_text_and_json.TextOrJson.{TextOrJson}
 
 -- what was said of all packets is as much as there are
 pub said_count : (orders : Orders) (packets : List PacketFacts) (said : List Verdict) → AreSaid orders packets said → length said ≡ length packets
@@ -102,13 +106,23 @@ pub ended_idle : (way : LiveWay) (tables : SizedTables) (packets : List PacketFa
     → MayTellBehind way tables packets said counts callers → AreIdleOf tables callers
 ended_idle way tables packets said counts callers may = subst (λ (o : Orders). AreIdleOf o.tables callers) may.given may.ended.by.idle
 
+-- hits that aren't told have no second
+hits_at : (asked : Bool) (view : TextOrJson) (times : Timeouts) (m n : ℕ) (run : RunFacts) (stored : StoredFacts) (told : List ℕ) → (asked ≡ true → m ≡ n)
+    → AreHits asked view times m run stored told → AreHits asked view times n run stored told
+hits_at false view times m n run stored told same are = are
+hits_at true view times m n run stored told same are = subst (λ k. IsHits view times k run stored told) (same refl) are
+
+keeps_for_hits : (hits sessions : Bool) → hits ≡ true → (hits || sessions) ≡ true
+keeps_for_hits true sessions is = refl
+keeps_for_hits false sessions is = absurd (true≢false (sym is))
+
 -- what stands behind the totals
 pub told_behind : (way : LiveWay) (tables : SizedTables) (packets : List PacketFacts) (said : List Verdict) (counts : HitCounts) (callers : SizedCallers)
-    (stored : StoredFacts) (behind : Behind) → MayTellBehind way tables packets said counts callers
-    → (keeps_stored way.options.now ≡ true → AreStoredOf (layout_for (size_of tables)) (views_with callers) stored)
-    → IsBehind way.options.now way.text.now counts stored behind
-    → IsToldBehind way.options.now way.text.now (policy_facts way.filter.now.policy.now) packets said (behind.hits.items ++ behind.sessions.items)
-told_behind way tables packets said counts callers stored behind may kept is =
+    (stored : StoredFacts) (behind : Behind) (noted second : ℕ) → MayTellBehind way tables packets said counts callers
+    → (keeps_stored way.options.now ≡ true → AreToldOf (layout_for (size_of tables)) way.options.now.times (ages_in way.options.now) noted (views_with callers) stored)
+    → IsBehind way.options.now way.text.now noted counts stored behind → (keeps_stored way.options.now ≡ true → noted ≡ second)
+    → IsToldBehind way.options.now way.text.now (policy_facts way.filter.now.policy.now) packets said second (behind.hits.items ++ behind.sessions.items)
+told_behind way tables packets said counts callers stored behind noted second may kept is same =
     let options = way.options.now in
     let ready = way.filter.now in
     let one = by_live_workers options ready tables may.orders options.workers packets said may.given may.asked.four may.asked.size may.times options.few.0 (omega arith)
@@ -116,11 +130,14 @@ told_behind way tables packets said counts callers stored behind may kept is =
     record {
       by_live = one.0;
       stored = stored;
-      kept = λ asked. subst (λ v. AreStoredOf (layout_for options.tables) v stored) (sym one.1)
-          (subst (λ s. AreStoredOf (layout_for s) (views_with callers) stored) may.asked.size (kept asked));
+      kept = λ asked. subst (λ v. AreToldOf (layout_for options.tables) options.times (ages_in options) second v stored) (sym one.1)
+          (subst (λ s. AreToldOf (layout_for s) options.times (ages_in options) second (views_with callers) stored) may.asked.size
+          (told_when (layout_for (size_of tables)) options.times (ages_in options) noted second (views_with callers) stored (λ ages. same asked) (kept asked)));
       hits = behind.hits.items;
-      told = λ captures. is.hits (told_facts (policy_facts ready.policy.now) way.text.now packets (record { verdicts = said; captures = captures }) options.shown) refl may.says
-          (λ asked. subst (λ (p : PolicyFacts). HaveCounted p packets said counts) (ap (λ (o : Orders). o.policy) may.given) (may.ended.counted asked));
+      told = λ captures. let run = told_facts (policy_facts ready.policy.now) way.text.now packets (record { verdicts = said; captures = captures }) options.shown in
+          hits_at options.hits (view_behind options.lines) options.times noted second run stored behind.hits.items (λ asked. same (keeps_for_hits options.hits options.sessions asked))
+          (is.hits run refl may.says
+          (λ asked. subst (λ (p : PolicyFacts). HaveCounted p packets said counts) (ap (λ (o : Orders). o.policy) may.given) (may.ended.counted asked)));
       all = ap (λ (text : List ℕ). behind.hits.items ++ text) is.sessions;
     }
 

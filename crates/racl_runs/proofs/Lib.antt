@@ -2,6 +2,7 @@ pub mod AskedLineLemmas
 pub mod AtHandLemmas
 pub mod ComparedLemmas
 pub mod CountedLemmas
+pub mod DatedLemmas
 pub mod DiffLemmas
 pub mod DigitCaptureLemmas
 pub mod ExpectingLemmas

@@ -1,5 +1,5 @@
 -- A live run on several interfaces.
-use Rattle.std.proofs.Common.{◌≡◌, ◌∙◌, ◌++◌, ℕ, List, [], Option, None, append-nil, inl, inr, refl, subst, sym, Result, Ok, Err, MatchResult}
+use Rattle.std.proofs.Common.{◌≡◌, ◌∙◌, ◌++◌, ℕ, List, [], Option, None, append-nil, arith, inl, inr, refl, subst, sym, Result, Ok, Err, MatchResult, true}
 use Rattle.std.proofs.KnownBytes.{Appends-nil, Appends-trans}
 use Rattle.std.specs.Io.KnownBytes.{Appends}
 use Rattle.std.specs.Prelude.{◌≢◌, ◌⊎◌}
@@ -27,6 +27,9 @@ use Rattle.racl_runs.specs.Crews.{AreAsAsked}
 use Rattle.racl_runs.specs.LiveInterfaceRuns.{HasCutComing, HasRunComing, HasToldComing, IsComingRunFault, IsReportOfTurns, TellsComing, TellsNamed}
 use Rattle.racl_runs.specs.LiveRuns.{AreFirstVerdicts, IsToldBehind, ages_in}
 use Rattle.racl_runs.specs.declared.counted_judging.Counted.{Counted}
+use Rattle.racl_runs.specs.declared.dated_judging.Dated.{Dated}
+use Rattle.racl_runs.specs.inner.DatedPackets.{HasDated}
+use Rattle.racl_views.specs.Hits.{latest_second}
 use Rattle.racl_runs.specs.declared.live_run.LiveWay.{LiveWay}
 use Rattle.racl_runs.specs.declared.sized_tables_and_workers.SizedTables.{SizedTables}
 use Rattle.racl_runs.specs.inner.LiveEnds.{AreBegun}
@@ -102,7 +105,11 @@ run_ends T options text policy before after old new wording (Err found) says tel
 
 -- ---- The end
 
-module _ {T : Type 0} (way : LiveWay) (tables : SizedTables) (begun : Counted T) (is : AreBegun way tables begun)
+-- what workers said who count, and whose packets' seconds are noted
+abbrev pub DatedSaid : {T : Type 0} → Dated (Counted T) → List PacketFacts → List Verdict → Type 0
+DatedSaid dated packets said = CountedSaid dated.inner packets said
+
+module _ {T : Type 0} (way : LiveWay) (tables : SizedTables) (dated : Dated (Counted T)) (is : AreBegun way tables dated.inner)
     (asked : AreAsAsked way.options.now.tables (ages_in way.options.now) tables) (times : way.filter.now.times ≡ way.options.now.times) (wording : Wording) (before after : Option (List Part))
     (old mid : Option (List ℕ)) where
   abbrev options : Options
@@ -111,15 +118,15 @@ module _ {T : Type 0} (way : LiveWay) (tables : SizedTables) (begun : Counted T)
   abbrev policy : PolicyFacts
   policy = policy_facts way.filter.now.policy.now
 
-  first : (packets : List PacketFacts) (verdicts : List Verdict) → CountedSaid begun packets verdicts → AreFirstVerdicts T options policy packets verdicts
-  first packets verdicts said = first_verdicts way tables begun packets verdicts is asked times said
+  first : (packets : List PacketFacts) (verdicts : List Verdict) → DatedSaid dated packets verdicts → AreFirstVerdicts T options policy packets verdicts
+  first packets verdicts said = first_verdicts way tables dated.inner packets verdicts is asked times said
 
   -- not all was told
-  pub coming_fault : (found : FaultAt) → IsFaultOfComing CountedSaid wording begun before after old mid found → IsFaultOfComing (AreFirstVerdicts T options) wording policy before after old mid found
+  pub coming_fault : (found : FaultAt) → IsFaultOfComing DatedSaid wording dated before after old mid found → IsFaultOfComing (AreFirstVerdicts T options) wording policy before after old mid found
   coming_fault found why = coming_as wording first before after old mid found why
 
-  module _ {Became : Counted T → List PacketFacts → List Verdict → Counted T → Type 0} (told : ToldArrivals (Counted T))
-      (all : HasToldCaptures Became CountedSaid wording begun before after old mid told) where
+  module _ {Became : Counted T → List PacketFacts → List Verdict → Counted T → Type 0} (told : ToldArrivals (Dated (Counted T)))
+      (all : HasToldCaptures (HasDated Became) DatedSaid wording dated before after old mid told) where
     -- the parts that came are those of the turns
     all_given : Gives before after (parts_of all.all.turns)
     all_given = subst (Gives before after) (append-nil (parts_of all.all.turns)) all.all.given
@@ -132,7 +139,14 @@ module _ {T : Type 0} (way : LiveWay) (tables : SizedTables) (begun : Counted T)
     pub end_refused : (found : FaultAt) → (found.fault ≡ fault.Memory) × (found.interface ≡ None) → IsFaultOfComing (AreFirstVerdicts T options) wording policy before after old mid found
     end_refused found (memory, placeless) = inl (memory, [], placeless, some_told)
 
-    module _ (behind : List ℕ) (is_behind : IsToldBehind options way.text.now policy (packets_of all.all.turns) all.all.verdicts behind) where
+    -- the latest second is that of all packets, where it is noted
+    pub latest_of_turns : dated.noted ≡ true → dated.latest ≡ 0 → told.judges.latest ≡ latest_second (packets_of all.all.turns)
+    latest_of_turns noted none =
+        let seen = all.stand.latest noted in
+        let later = latest_second (packets_of all.all.turns) in
+        omega (arith, seen, none, later)
+
+    module _ (behind : List ℕ) (is_behind : IsToldBehind options way.text.now policy (packets_of all.all.turns) all.all.verdicts (latest_second (packets_of all.all.turns)) behind) where
       abbrev lines : List ℕ
       lines = lines_in wording 1 (packets_of all.all.turns) all.all.verdicts
 

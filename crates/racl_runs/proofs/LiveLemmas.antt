@@ -34,7 +34,8 @@ use Rattle.racl_runs.specs.Crews.{AreAsAsked, AreRestingWith, AreSaid, AreSaidSo
 use Rattle.racl_runs.specs.LiveRuns.{AreFirstVerdicts, ByLiveWorkers, ByLoneWorker, HasHead, HasRunLive, IsEarlyFault, IsLiveReport, IsLiveRunFault, IsOrderFor, IsToldBehind, TellsAsAsked, ages_in}
 use Rattle.racl_runs.specs.LiveSaves.{HaveSaved}
 use Rattle.racl_runs.specs.Runs.{ByWorkers, bucket_deal}
-use Rattle.racl_runs.specs.ShardRuns.{AreFirstOwn}
+use Rattle.racl_runs.specs.ShardRuns.{AreFirstOwn, no_note}
+use Rattle.racl_views.specs.Hits.{latest_second}
 use Rattle.racl_runs.specs.inner.Heads.{HasReadHeader, IsHeadless}
 use Rattle.racl_runs.specs.inner.Kept.{HaveGot}
 use Rattle.racl_runs.specs.inner.LiveEnds.{AreBegun}
@@ -193,13 +194,13 @@ all_first {T} {options} {policy} packets verdicts are =
 -- all bytes were read, and this is the report on them
 pub live_report : (options : Options) (text : List ℕ) (before left after : Option (List ℕ)) (policy : PolicyFacts) (order : Order) (wording : Wording) (totals : Totals) (report : List ℕ)
     → IsPolicyText text policy → TellsAsAsked options text policy wording → HasReadHeader before left order
-    → IsOwnReportBehind options text wording policy (own_among None) order left after totals report → IsLiveReport options text before totals report
+    → IsOwnReportBehind options text no_note wording policy (own_among None) order left after totals report → IsLiveReport options text before totals report
 live_report options text before left after policy order wording totals report says tells head is =
     let packets = packets_at 0 is.packets in
     let verdicts = is.is.verdicts in
     let truncated = is.truncated in
     let (known, records) = whole_capture before left after order head is.read is.rest is.packets truncated is.consumed is.ended is.records is.end in
-    let told = subst (λ (ps : List PacketFacts). IsToldBehind options text policy ps verdicts is.is.behind) (all_own packets) is.is.told in
+    let told = subst (λ (ps : List PacketFacts). IsToldBehind options text policy ps verdicts (latest_second packets) is.is.behind) (all_own packets) is.is.told in
     let counted : totals ≡ totals_of verdicts (told_alone (length packets) truncated) =
     is.is.counted ∙ ap (λ (ps : List PacketFacts). totals_of verdicts (told_alone (length ps) truncated)) (all_own packets) in
     let lines = lines_in wording 1 packets verdicts in
@@ -232,7 +233,7 @@ live_report options text before left after policy order wording totals report sa
 module _ {S : Type 0} (T : Type 0) (sink : S → Option (List ℕ)) (failures : S → ℕ) (options : Options) (text : List ℕ) (before left after old new : Option (List ℕ)) (policy : PolicyFacts)
     (says : IsPolicyText text policy) (order : Order) (header : HasReadHeader before left order) (first : Saves S) (mid last : LiveSaves S) (got : HaveGot sink header.header first mid.files) where
   pub live_ends : (wording : Wording) (result : Result Totals Fault) → TellsAsAsked options text policy wording
-      → TellsOwn T options text (manner_of wording (Keeps sink failures)) policy (own_among None) order left after (outputs old mid) (outputs new last) result
+      → TellsOwn T options text no_note (manner_of wording (Keeps sink failures)) policy (own_among None) order left after (outputs old mid) (outputs new last) result
       → MatchResult result (HasRunLive sink options text before (outputs old first) (outputs new last.files))
       (IsLiveRunFault T sink options text before after (outputs old first) (outputs new last.files))
   unfolding live_report

@@ -1,5 +1,5 @@
 -- What is answered of an input, and the report on it.
-use Rattle.std.proofs.Common.{◌≡◌, ◌≢◌, ◌∙◌, ◌≤◌, ◌⊎◌, ℕ, Bool, false, List, [], ◌∷◌, None, drop, length, Option, Result, Ok, Err, IfOk, IfErr, MatchResult, Some, true, refl, sym, ap, ap₂, subst, inl, inr}
+use Rattle.std.proofs.Common.{◌≡◌, ◌≢◌, ◌∙◌, ◌≤◌, ◌⊎◌, ◌&&◌, ℕ, Bool, false, List, [], ◌∷◌, None, drop, length, Option, Result, Ok, Err, IfOk, IfErr, MatchResult, Some, true, refl, sym, ap, ap₂, subst, inl, inr}
 use Rattle.std.proofs.lemmas.List.{length-map}
 use Rattle.packet_view.specs.Captures.{End, AreRecords, IsCapture, IsCaptureFault, IsEnd, PacketFacts, RecordFacts, end_of, packets_at}
 use Rattle.packet_view.specs.declared.capture.CaptureFault.{CaptureFault}
@@ -39,7 +39,10 @@ use Rattle.racl_runs.specs.Reads.{AnswersInput, AreKnown, HasJudged, IsOutcomeOf
 use Rattle.racl_runs.specs.inner.Stored.{HasStored}
 use Rattle.racl_runs.specs.inner.Streams.{HasEnded}
 use Rattle.racl_report.specs.WrittenReports.{HasReport}
-use Rattle.racl_runs.specs.Runs.{AgeInTime, AreStoredOf, ByOneThread, ByWorkers, HasOutcome, HasRun, bucket_deal, layout_for}
+use Rattle.racl_views.specs.Hits.{latest_second}
+use Rattle.racl_views.specs.Stored.{StoredFacts}
+use Rattle.flow_filter.specs.OneThread.{Layout}
+use Rattle.racl_runs.specs.Runs.{AgeInTime, AreToldOf, ByOneThread, ByWorkers, HasOutcome, HasRun, bucket_deal, keeps_stored, layout_for}
 use Rattle.racl_report.specs.ReadInputs.{IsRead, told_of}
 use Rattle.racl_report.specs.RunReports.{JudgedFacts, Outcome}
 use Rattle.racl_report.proofs.CaptureLaws.{IsUnnumbered, alone_plain, fault_of_known, fault_plain, one_truncated, plain_fault}
@@ -90,13 +93,24 @@ judged_as packets verdicts views orders tables asked ready workers ages given si
     subst (λ s. AreJudgedAgeing (bucket_deal s workers) ready.times ages (policy_facts ready.policy.now) packets verdicts views) sized
     (subst (λ (o : Orders). AreSaidKnowing o packets verdicts views) given said)
 
+pub both_true : {a b : Bool} → a ≡ true → b ≡ true → (a && b) ≡ true
+both_true {true} {b} first second = second
+both_true {false} {b} first second = first
+
+-- where none are removed, no second counts for what is told of sessions
+pub told_when : (layout : Layout) (times : Timeouts) (ages : Bool) (m n : ℕ) (views : Views) (told : StoredFacts) → (ages ≡ true → m ≡ n)
+    → AreToldOf layout times ages m views told → AreToldOf layout times ages n views told
+told_when layout times false m n views told same are = record { stored = are.stored; are = are.are; told_is = are.told_is }
+told_when layout times true m n views told same are = subst (λ k. AreToldOf layout times true k views told) (same refl) are
+
 -- what workers reached who had these orders, with the sessions that stood in their tables when they had ended
 pub reached_by : (options : Options) (ready : InterfaceFilters) (tables : SizedTables) (workers : ℕ) (ages : Bool) (orders : Orders)
     (packets : List PacketFacts) (ended : Ended) (judged : JudgedFacts)
     → ready.times ≡ options.times → 1 ≤ workers → workers ≤ options.workers → ages ≡ options.ages → orders ≡ orders_for tables ready workers ages → size_of tables ≡ options.tables
     → AreSaidBy orders packets ended.verdicts.items ended.callers → HasStored options tables ended judged
+    → (options.ages ≡ true → keeps_stored options ≡ true → ended.latest ≡ latest_second packets)
     → IsReached options (policy_facts ready.policy.now) packets ended.captures.items judged
-reached_by options ready tables workers ages orders packets ended judged timed some few aged given sized said has =
+reached_by options ready tables workers ages orders packets ended judged timed some few aged given sized said has dated =
     let views = views_with ended.callers in
     let verdicts = ended.verdicts.items in
     let policy = policy_facts ready.policy.now in
@@ -107,8 +121,10 @@ reached_by options ready tables workers ages orders packets ended judged timed s
     subst (λ (o : Outcome). IsReached options policy packets ended.captures.items (record { outcome = o; stored = judged.stored })) (sym has.outcome)
     (record {
       by_workers = by.0;
-      kept = λ asked. subst (λ v. AreStoredOf (layout_for options.tables) v judged.stored) (sym by.1)
-          (subst (λ s. AreStoredOf (layout_for s) views judged.stored) sized (has.stored asked));
+      kept = λ asked. subst (λ v. AreToldOf (layout_for options.tables) options.times options.ages (latest_second packets) v judged.stored) (sym by.1)
+          (subst (λ s. AreToldOf (layout_for s) options.times options.ages (latest_second packets) views judged.stored) sized
+          (told_when (layout_for (size_of tables)) options.times options.ages ended.latest (latest_second packets) views judged.stored
+          (λ ages. dated ages asked) (has.stored asked)));
       by_one_thread = by_one options options.ages policy packets verdicts by.0;
       told = refl;
     })
@@ -121,10 +137,10 @@ judged_count d times policy packets verdicts removals is =
     ∙ sym (zip_count (IsReading policy) packets (readings_of is.judged) is.read)
 
 -- what workers said who ended, and what is told of the capture whose packets they judged
-pub said_at_end : {T : Type 0} (orders : Orders) (workers : SizedWorkers T) (packets : List PacketFacts) (truncated : Bool) (ended : Ended)
-    → AreAfter orders packets workers → HasEnded workers truncated ended
+pub said_at_end : {T : Type 0} (orders : Orders) (workers : SizedWorkers T) (packets : List PacketFacts) (latest : ℕ) (truncated : Bool) (ended : Ended)
+    → AreAfter orders packets workers → HasEnded workers latest truncated ended
     → AreSaidBy orders packets ended.verdicts.items ended.callers × (ended.captures.items ≡ told_of None packets truncated ∷ [])
-said_at_end orders workers packets truncated ended judged is =
+said_at_end orders workers packets latest truncated ended judged is =
     let said : AreSaidBy orders packets ended.verdicts.items ended.callers =
     subst (λ o. AreSaidBy o packets ended.verdicts.items ended.callers) judged.given (is.said [] packets judged.rest) in
     let counted = judged_count orders.deal orders.times orders.policy packets ended.verdicts.items said.said.removals said.said.judged in
@@ -138,14 +154,15 @@ idle_at_end tables ready workers ages orders packets ended given said = subst (�
 -- what is answered of all records where workers who had these orders judged them, and ended
 pub judged_by_orders : {T : Type 0} (options : Options) (ready : InterfaceFilters) (tables : SizedTables) (workers : ℕ) (ages : Bool) (orders : Orders)
     (opening : Opening) (before after : Option (List ℕ)) (read : List ℕ) (packets : List RecordFacts) (rest : List ℕ) (truncated : Bool)
-    (judges : SizedWorkers T) (ended : Ended) (judged : JudgedFacts)
+    (judges : SizedWorkers T) (latest : ℕ) (ended : Ended) (judged : JudgedFacts)
     → ready.times ≡ options.times → 1 ≤ workers → workers ≤ options.workers → ages ≡ options.ages → orders ≡ orders_for tables ready workers ages → size_of tables ≡ options.tables
     → AreAllRead before after opening read → AreRecords opening.order (records_in opening read) packets rest → IsEnd opening.order rest (end_of truncated)
-    → AreAfter orders (packets_at 0 packets) judges → HasEnded judges truncated ended → HasStored options tables ended judged
+    → AreAfter orders (packets_at 0 packets) judges → HasEnded judges latest truncated ended → HasStored options tables ended judged
+    → (options.ages ≡ true → keeps_stored options ≡ true → latest ≡ latest_second (packets_at 0 packets))
     → HasJudged options (policy_facts ready.policy.now) opening before after judged
-judged_by_orders options ready tables workers ages orders opening before after read packets rest truncated judges ended judged timed some few aged given sized
-    whole records end at is has =
-    let said = said_at_end orders judges (packets_at 0 packets) truncated ended at is in
+judged_by_orders options ready tables workers ages orders opening before after read packets rest truncated judges latest ended judged timed some few aged given sized
+    whole records end at is has dated =
+    let said = said_at_end orders judges (packets_at 0 packets) latest truncated ended at is in
     record {
       read = read;
       whole = whole;
@@ -155,7 +172,8 @@ judged_by_orders options ready tables workers ages orders opening before after r
       truncated = truncated;
       end = end;
       reached = subst (λ cs. IsReached options (policy_facts ready.policy.now) (packets_at 0 packets) cs judged) said.1
-          (reached_by options ready tables workers ages orders (packets_at 0 packets) ended judged timed some few aged given sized said.0 has);
+          (reached_by options ready tables workers ages orders (packets_at 0 packets) ended judged timed some few aged given sized said.0 has
+          (λ ages asked. is.second ∙ dated ages asked));
     }
 
 -- ---- an input without a right policy

@@ -1,9 +1,9 @@
 -- The end of a run on a capture whose packets are one's own, or a shard's.
-use Rattle.std.proofs.Common.{◌≡◌, ◌∙◌, ◌++◌, ◌≤◌, ℕ, Bool, List, Option, ap, arith, inl, inr, refl, subst, sym, length}
+use Rattle.std.proofs.Common.{◌≡◌, ◌∙◌, ◌++◌, ◌≤◌, ℕ, Bool, true, List, None, Option, Some, ap, ap₂, arith, inl, inr, refl, subst, sym, length}
 use Rattle.std.proofs.KnownBytes.{Appends-trans}
 use Rattle.std.proofs.lemmas.List.{length-map}
 use Rattle.std.specs.Io.KnownBytes.{Appends}
-use Rattle.std.specs.Prelude.{◌⊎◌}
+use Rattle.std.specs.Prelude.{◌⊎◌, IfSome}
 use Rattle.packet_view.specs.Captures.{PacketFacts, packet_at, packets_at}
 use Rattle.packet_view.specs.declared.capture.Order.{Order}
 use Rattle.acl_policy.specs.Policies.{PolicyFacts, policy_facts}
@@ -30,20 +30,36 @@ use Rattle.capture_shards.proofs.LineLemmas.{shard_lines}
 use Rattle.capture_shards.proofs.PickedLists.{own_counts}
 use Rattle.racl_runs.specs.Crews.{AreAsAsked}
 use Rattle.racl_runs.specs.LiveRuns.{IsToldBehind, ages_in}
-use Rattle.racl_runs.specs.ShardRuns.{AreFirstOwn, IsOwnFault, own_lines, own_manner}
+use Rattle.racl_runs.specs.ShardRuns.{AreFirstOwn, IsOwnFault, Note, own_lines, own_manner}
+use Rattle.racl_runs.specs.declared.dated_judging.Dated.{Dated}
+use Rattle.racl_runs.specs.inner.DatedPackets.{HasDated}
+use Rattle.capture_shards.specs.declared.shard.Shard.{Shard}
+use Rattle.racl_views.specs.Hits.{latest_second}
 use Rattle.racl_runs.specs.declared.counted_judging.Counted.{Counted}
 use Rattle.racl_runs.specs.declared.live_run.LiveWay.{LiveWay}
 use Rattle.racl_runs.specs.declared.sized_tables_and_workers.SizedTables.{SizedTables}
 use Rattle.racl_runs.specs.inner.LiveEnds.{AreBegun}
-use Rattle.racl_runs.specs.inner.OwnRuns.{HasCutOwn, HasToldOwn, IsOwnReportBehind, own_totals}
+use Rattle.racl_runs.specs.inner.OwnRuns.{HasCutOwn, HasToldOwn, IsOwnReportBehind, note_for, own_totals}
 use Rattle.racl_runs.proofs.LiveLemmas.{CountedSaid, first_verdicts}
 
 pub said_counts : {T : Type 0} → AreCounted (CountedSaid {T = T})
 said_counts begun packets said are = are.count
 
-module _ {T K : Type 0} (way : LiveWay) (tables : SizedTables) (begun : ShardJudge (Counted T)) (is : AreBegun way tables begun.inner)
+-- what those who judge a shard's packets said, and whose seconds are noted
+abbrev DatedShared : {T : Type 0} → Dated (ShardJudge (Counted T)) → List PacketFacts → List Verdict → Type 0
+DatedShared dated packets verdicts = AreShared CountedSaid dated.inner packets verdicts
+
+-- what is said of a shard of as many packets with the same latest second is the same
+pub note_same : (options : Options) (shard : Option Shard) (n m k l : ℕ) → n ≡ m → IfSome shard (λ _. k ≡ l) → note_for options shard n k ≡ note_for options shard m l
+note_same options None n m k l same at = refl
+note_same options (Some shard) n m k l same at = ap₂ (note_for options (Some shard)) same at
+
+module _ {T K : Type 0} (way : LiveWay) (tables : SizedTables) (dated : Dated (ShardJudge (Counted T))) (is : AreBegun way tables dated.inner.inner)
     (asked : AreAsAsked way.options.now.tables (ages_in way.options.now) tables) (times : way.filter.now.times ≡ way.options.now.times) (wording : Wording)
     (Saved : K → Order → List ℕ → List Verdict → K → Type 0) (order : Order) (before after : Option (List ℕ)) (old mid : Outputs K) where
+  abbrev begun : ShardJudge (Counted T)
+  begun = dated.inner
+
   abbrev own : Own
   own = own_among begun.shard
 
@@ -62,22 +78,22 @@ module _ {T K : Type 0} (way : LiveWay) (tables : SizedTables) (begun : ShardJud
   }
 
   -- not all was told
-  pub own_fault : (found : Fault) → IsLiveFault (AreShared CountedSaid) (manner_of (shard_wording own wording) Saved) begun order before after old mid found
+  pub own_fault : (found : Fault) → IsLiveFault DatedShared (manner_of (shard_wording own wording) Saved) dated order before after old mid found
       → IsOwnFault T options (manner_of wording Saved) policy own order before after old mid found
   own_fault found why =
-      fault_as (AreShared CountedSaid) (AreFirstOwn T options own) (shard_wording own wording) Saved Saved begun policy first order before after old.report mid.report old.saver mid.saver
+      fault_as DatedShared (AreFirstOwn T options own) (shard_wording own wording) Saved Saved dated policy first order before after old.report mid.report old.saver mid.saver
       old.saver mid.saver (λ whole verdicts saved. saved) found why
 
-  module _ {Became : Counted T → List PacketFacts → List Verdict → Counted T → Type 0} (told : ToldCapture (ShardJudge (Counted T)))
-      (all : HasToldAll (HaveShared Became CountedSaid) (AreShared CountedSaid) (manner_of (shard_wording own wording) Saved) begun order before after old mid told) where
+  module _ {Became : Counted T → List PacketFacts → List Verdict → Counted T → Type 0} (told : ToldCapture (Dated (ShardJudge (Counted T))))
+      (all : HasToldAll (HasDated (HaveShared Became CountedSaid)) DatedShared (manner_of (shard_wording own wording) Saved) dated order before after old mid told) where
     abbrev packets : List PacketFacts
     packets = packets_at 0 all.all.packets
 
     abbrev said : List Verdict
-    said = all.stand.said
+    said = all.stand.became.said
 
     abbrev count : ℕ
-    count = told.judges.own
+    count = told.judges.inner.own
 
     abbrev over : Totals
     over = own_totals told.totals count
@@ -86,7 +102,7 @@ module _ {T K : Type 0} (way : LiveWay) (tables : SizedTables) (begun : ShardJud
     each = all.all.count ∙ sym (length-map all.all.packets (packet_at 0))
 
     spread : IsSpread own 1 packets said all.all.verdicts
-    spread = all.stand.spread said_counts
+    spread = all.stand.became.spread said_counts
 
     -- of all packets their lines were written, and no more
     some_told : (new : Option (List ℕ)) → new ≡ mid.report
@@ -113,14 +129,14 @@ module _ {T K : Type 0} (way : LiveWay) (tables : SizedTables) (begun : ShardJud
     said_own = ap length (sym spread.mine) ∙ own_counts own 1 packets all.all.verdicts packets each
 
     said_count : length said ≡ count
-    said_count = said_own ∙ sym all.stand.own
+    said_count = said_own ∙ sym all.stand.became.own
 
     counted : over ≡ totals_of said (told_alone (length (own_packets own 1 packets)) all.all.truncated)
     counted =
         ap (λ (t : Totals). own_totals t count) all.all.counted
         ∙ ap (λ (b : Bool). totals_with count (passed all.all.verdicts) (without_pages all.all.verdicts) b) (sym (alone_truncated (length all.all.packets) all.all.truncated))
         ∙ totals_alone said count (passed all.all.verdicts) (without_pages all.all.verdicts) all.all.truncated said_count spread.passing spread.lacking
-        ∙ ap (λ n. totals_of said (told_alone n all.all.truncated)) all.stand.own
+        ∙ ap (λ n. totals_of said (told_alone n all.all.truncated)) all.stand.became.own
 
     -- of the totals no more pass than are one's own
     pub few_pass : told.totals.passed ≤ count
@@ -130,14 +146,23 @@ module _ {T K : Type 0} (way : LiveWay) (tables : SizedTables) (begun : ShardJud
         let size = said_count in
         omega (arith, passing, parts, size)
 
-    module _ (behind : List ℕ) (is_behind : IsToldBehind options way.text.now policy (own_packets own 1 packets) said behind) (new : Option (List ℕ)) where
+    -- the latest second is that of all packets, where it is noted
+    pub latest_of_all : dated.noted ≡ true → dated.latest ≡ 0 → told.judges.latest ≡ latest_second packets
+    latest_of_all noted none = let seen = all.stand.latest noted in let later = latest_second packets in omega (arith, seen, none, later)
+
+    -- all packets were seen
+    pub seen_all : told.judges.inner.seen ≡ length packets
+    seen_all = all.stand.became.seen
+
+    module _ (note : Note) (behind text : List ℕ) (is_behind : IsToldBehind options way.text.now policy (own_packets own 1 packets) said (latest_second packets) behind)
+        (text_is : text ≡ note (length packets) (latest_second packets) ++ behind) (new : Option (List ℕ)) where
       abbrev end : List ℕ
-      end = wording.end over ++ behind
+      end = wording.end over ++ text
 
       abbrev report : List ℕ
       report = own_lines wording own packets said ++ end
 
-      is_report : IsOwnReportBehind options way.text.now wording policy own order before after over report
+      is_report : IsOwnReportBehind options way.text.now note wording policy own order before after over report
       is_report = record {
         read = all.all.read;
         consumed = all.all.consumed;
@@ -147,7 +172,7 @@ module _ {T K : Type 0} (way : LiveWay) (tables : SizedTables) (begun : ShardJud
         records = all.all.records;
         truncated = all.all.truncated;
         end = all.all.end;
-        is = record { verdicts = said; behind = behind; told = is_behind; counted = counted; all = refl };
+        is = record { verdicts = said; behind = behind; told = is_behind; counted = counted; all = ap (λ (t : List ℕ). own_lines wording own packets said ++ (wording.end over ++ t)) text_is };
         count = said_own;
       }
 
@@ -155,17 +180,17 @@ module _ {T K : Type 0} (way : LiveWay) (tables : SizedTables) (begun : ShardJud
       all_lines = ap (λ (l : List ℕ). l ++ end)
           (shard_lines own wording 1 packets all.all.verdicts each ∙ ap (lines_at wording (own_numbers own 1 packets) (own_packets own 1 packets)) spread.mine)
 
-      pub own_end_told : (at : Wording) (totals : Totals) → totals ≡ over → at ≡ shard_wording own wording → Appends mid.report new (at.end totals ++ behind)
-          → HasToldOwn options way.text.now (manner_of wording Saved) policy own order before after old (outputs new mid.saver) totals
+      pub own_end_told : (at : Wording) (totals : Totals) → totals ≡ over → at ≡ shard_wording own wording → Appends mid.report new (at.end totals ++ text)
+          → HasToldOwn options way.text.now note (manner_of wording Saved) policy own order before after old (outputs new mid.saver) totals
       unfolding is_report
       own_end_told at totals sum same more =
-          subst (HasToldOwn options way.text.now (manner_of wording Saved) policy own order before after old (outputs new mid.saver)) (sym sum)
+          subst (HasToldOwn options way.text.now note (manner_of wording Saved) policy own order before after old (outputs new mid.saver)) (sym sum)
           (record {
             report = report;
             is = is_report;
             written = subst (λ (b : List ℕ). Appends old.report new b) all_lines
                 (Appends-trans old.report mid.report new _ end all.text
-                (subst (λ (w : Wording). Appends mid.report new (w.end over ++ behind)) same (subst (λ (t : Totals). Appends mid.report new (at.end t ++ behind)) sum more)));
+                (subst (λ (w : Wording). Appends mid.report new (w.end over ++ text)) same (subst (λ (t : Totals). Appends mid.report new (at.end t ++ text)) sum more)));
             whole = all.whole;
             spelt = all.spelt;
             verdicts = all.all.verdicts;
@@ -176,7 +201,7 @@ module _ {T K : Type 0} (way : LiveWay) (tables : SizedTables) (begun : ShardJud
 
       fault_at_end : (found : Fault) → IsTellingFault mid.report new end found
           → IsOwnFault T options (manner_of wording Saved) policy own order before after old (outputs new mid.saver) found
-          ⊎ HasCutOwn options way.text.now wording policy own order before after old.report new found
+          ⊎ HasCutOwn options way.text.now note wording policy own order before after old.report new found
       fault_at_end fault.Memory same = inl (all.all.rest, some_told new same)
       fault_at_end fault.Write front = inr (record {
         failed = refl;
@@ -187,9 +212,9 @@ module _ {T K : Type 0} (way : LiveWay) (tables : SizedTables) (begun : ShardJud
       })
       fault_at_end found wrong = absurd wrong
 
-      pub own_end_fault : (found : Fault) (at : Wording) (totals : Totals) → totals ≡ over → at ≡ shard_wording own wording → IsTellingFault mid.report new (at.end totals ++ behind) found
+      pub own_end_fault : (found : Fault) (at : Wording) (totals : Totals) → totals ≡ over → at ≡ shard_wording own wording → IsTellingFault mid.report new (at.end totals ++ text) found
           → IsOwnFault T options (manner_of wording Saved) policy own order before after old (outputs new mid.saver) found
-          ⊎ HasCutOwn options way.text.now wording policy own order before after old.report new found
+          ⊎ HasCutOwn options way.text.now note wording policy own order before after old.report new found
       own_end_fault found at totals sum same why =
-          fault_at_end found (subst (λ (w : Wording). IsTellingFault mid.report new (w.end over ++ behind) found) same
-          (subst (λ (t : Totals). IsTellingFault mid.report new (at.end t ++ behind) found) sum why))
+          fault_at_end found (subst (λ (w : Wording). IsTellingFault mid.report new (w.end over ++ text) found) same
+          (subst (λ (t : Totals). IsTellingFault mid.report new (at.end t ++ text) found) sum why))

@@ -1,5 +1,5 @@
 -- A run over the packets of one shard of a capture.
-use Rattle.std.proofs.Common.{◌∙◌, ◌≡◌, ◌++◌, ℕ, List, [], Option, Result, Ok, Err, MatchResult, ap, inl, inr, subst, sym}
+use Rattle.std.proofs.Common.{◌∙◌, ◌≡◌, ◌++◌, ℕ, List, [], Option, Some, Result, Ok, Err, MatchResult, ap, inl, inr, subst, sym}
 use Rattle.packet_view.specs.Captures.{end_of, packets_at}
 use Rattle.packet_view.specs.declared.capture.Order.{Order}
 use Rattle.acl_policy.specs.Policies.{IsPolicyText, PolicyFacts}
@@ -23,12 +23,14 @@ use Rattle.capture_shards.proofs.OwnTestLemmas.{own_is}
 use Rattle.racl_runs.specs.LiveRuns.{TellsAsAsked}
 use Rattle.racl_runs.specs.Runs.{layout_for}
 use Rattle.racl_runs.specs.LiveSaves.{MayFail, failures_in}
-use Rattle.racl_runs.specs.ShardRuns.{AreFirstOwn, AreOwn, HasFailedOnce, HasRunShard, IsShardFault, IsShardReport}
+use Rattle.racl_runs.specs.ShardRuns.{AreFirstOwn, AreOwn, HasFailedOnce, HasRunShard, IsShardFault, IsShardReport, Note, shard_note}
+use Rattle.racl_report.specs.RunReports.{view_behind}
+use Rattle.racl_views.specs.ShardLines.{shard_told}
 use Rattle.racl_runs.specs.ShardSaves.{SavesOwn}
 use Rattle.racl_runs.specs.declared.live_saves.LiveSaves.{LiveSaves}
 use Rattle.racl_runs.specs.inner.Heads.{HasReadHeader}
 use Rattle.racl_runs.specs.inner.Kept.{HaveGot}
-use Rattle.racl_runs.specs.inner.OwnRuns.{IsOwnReportBehind, IsShardOver, TellsOwn}
+use Rattle.racl_runs.specs.inner.OwnRuns.{IsOwnReportBehind, IsShardOver, TellsOwn, note_for}
 use Rattle.racl_runs.proofs.LiveLemmas.{head_in, whole_capture, write_since}
 use Rattle.racl_runs.proofs.LiveSaveLemmas.{Keeps, none_kept}
 use Rattle.racl_runs.proofs.ShardSaveLemmas.{first_own_saved, own_saved}
@@ -39,10 +41,15 @@ own_asked options asked shard is =
     subst (λ c. IsOwnOf (layout_for options.tables) c asked.number (own_of shard)) is.count
     (subst (λ n. IsOwnOf (layout_for options.tables) shard.count n (own_of shard)) is.number (own_is (layout_for options.tables) shard is.over))
 
+-- what is said of it is said of the one that is asked for
+note_is : (options : Options) (asked : ShardAsked) (shard : Shard) → IsShardOver options.tables asked shard → note_for options (Some shard) ≡ shard_note options (shard_facts asked)
+note_is options asked shard over = λ i packets latest.
+    shard_told (view_behind options.lines) (record { number = over.number i; count = over.count i; packets = packets; latest = latest })
+
 -- all bytes were read, and this is the report on them
 pub shard_report : (options : Options) (asked : ShardAsked) (text : List ℕ) (before left after : Option (List ℕ)) (policy : PolicyFacts) (order : Order) (wording : Wording) (own : Own)
     (totals : Totals) (report : List ℕ) → IsPolicyText text policy → TellsAsAsked options text policy wording → AreOwn options (shard_facts asked) own → HasReadHeader before left order
-    → IsOwnReportBehind options text wording policy own order left after totals report → IsShardReport options (shard_facts asked) text before totals report
+    → IsOwnReportBehind options text (shard_note options (shard_facts asked)) wording policy own order left after totals report → IsShardReport options (shard_facts asked) text before totals report
 shard_report options asked text before left after policy order wording own totals report says tells mine head is =
     let (known, records) = whole_capture before left after order head is.read is.rest is.packets is.truncated is.consumed is.ended is.records is.end in
     record {
@@ -71,7 +78,7 @@ module _ {S : Type 0} (T : Type 0) (sink : S → Option (List ℕ)) (failures : 
   gave = HaveSharedSaves (Keeps sink failures)
 
   shard_ends : (wording : Wording) (result : Result Totals Fault) → TellsAsAsked options text policy wording
-      → TellsOwn T options text (manner_of wording gave) policy own order left after (outputs old mid) (outputs new last) result
+      → TellsOwn T options text (shard_note options (shard_facts asked)) (manner_of wording gave) policy own order left after (outputs old mid) (outputs new last) result
       → MatchResult result (HasRunShard sink options (shard_facts asked) text before (outputs old first) (outputs new last.inner.files))
       (IsShardFault T sink options (shard_facts asked) text before after (outputs old first) (outputs new last.inner.files))
   unfolding shard_report
@@ -104,14 +111,17 @@ module _ {S : Type 0} (T : Type 0) (sink : S → Option (List ℕ)) (failures : 
 
   -- and so where what saves them was given the files, and gave them back
   pub shard_ends_with : (shard : Shard) (final : LiveSaves S) (wording : Wording) (result : Result Totals Fault) → mid.shard ≡ shard → final ≡ last.inner
-      → TellsAsAsked options text policy wording → TellsOwn T options text (manner_of wording gave) policy (own_of shard) order left after (outputs old mid) (outputs new last) result
+      → IsShardOver options.tables asked shard → TellsAsAsked options text policy wording
+      → TellsOwn T options text (note_for options (Some shard)) (manner_of wording gave) policy (own_of shard) order left after (outputs old mid) (outputs new last) result
       → MatchResult result (HasRunShard sink options (shard_facts asked) text before (outputs old first) (outputs new final.files))
       (IsShardFault T sink options (shard_facts asked) text before after (outputs old first) (outputs new final.files))
-  shard_ends_with shard final wording result at back tells told =
+  shard_ends_with shard final wording result at back over tells told =
       subst (λ (f : LiveSaves S). MatchResult result (HasRunShard sink options (shard_facts asked) text before (outputs old first) (outputs new f.files))
       (IsShardFault T sink options (shard_facts asked) text before after (outputs old first) (outputs new f.files))) (sym back)
       (shard_ends wording result tells
-      (subst (λ (s : Shard). TellsOwn T options text (manner_of wording gave) policy (own_of s) order left after (outputs old mid) (outputs new last) result) (sym at) told))
+      (subst (λ (s : Shard). TellsOwn T options text (shard_note options (shard_facts asked)) (manner_of wording gave) policy (own_of s) order left after (outputs old mid) (outputs new last) result) (sym at)
+      (subst (λ (n : Note). TellsOwn T options text n (manner_of wording gave) policy (own_of shard) order left after (outputs old mid) (outputs new last) result)
+      (note_is options asked shard over) told)))
 
 -- which devices failed since files were given and given back
 pub failed_with : {S : Type 0} (failures : S → ℕ) (written writing first : ℕ) (saves begun mid last final : LiveSaves S) (result : Result Totals Fault) → first ≡ written

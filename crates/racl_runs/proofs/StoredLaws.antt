@@ -1,5 +1,5 @@
 -- The sessions that stand in the tables when a run has ended.
-use Rattle.std.proofs.Common.{◌≡◌, ℕ, List, Option, inl, refl, subst, sym, true, false}
+use Rattle.std.proofs.Common.{◌≡◌, ◌∙◌, ℕ, Bool, List, Option, ap, inl, refl, subst, sym, true, false}
 use Rattle.packet_view.specs.declared.tuple.Family.{Family}
 use Rattle.packet_view.specs.declared.tuple.Family.TheVariants.{V4, V6}
 use Rattle.flow_filter.specs.OneThread.{Layout, sizes_in}
@@ -11,7 +11,8 @@ use Rattle.flow_workers.proofs.StoredLemmas.{left_by_one}
 use Rattle.racl_io.specs.declared.totals_and_truncation.Totals.{Totals}
 use Rattle.racl_options.specs.declared.settings.Options.{Options}
 use Rattle.racl_views.specs.Stored.{StoredFacts}
-use Rattle.racl_runs.specs.Runs.{AreStoredOf, HasRun, bucket_deal, keeps_stored, layout_for}
+use Rattle.racl_runs.specs.Runs.{AreStoredOf, AreToldOf, HasRun, bucket_deal, keeps_stored, layout_for, told_at}
+use Rattle.session_state.specs.declared.timeouts.Timeouts.{Timeouts}
 use Rattle.racl_runs.proofs.OutcomeLemmas.{judged_unaged}
 use Rattle.racl_runs.specs.StoredRuns.{AreLeftByOneThread, pairs_of}
 
@@ -19,6 +20,12 @@ stored_in : (l : Layout) (views : Views) (stored : StoredFacts) → AreStoredOf 
     → AreStored (sizes_in l family) (view_in views family).known (pairs_of stored family)
 stored_in l views stored are V4 = are.four
 stored_in l views stored are V6 = are.six
+
+-- where none are removed, all are told
+stored_unaged : (layout : Layout) (times : Timeouts) (ages : Bool) (latest : ℕ) (views : Views) (told : StoredFacts) → ages ≡ false
+    → AreToldOf layout times ages latest views told → AreStoredOf layout views told
+stored_unaged layout times ages latest views told unaged are =
+    subst (AreStoredOf layout views) (sym (are.told_is ∙ ap (λ (b : Bool). told_at times b latest are.stored) unaged)) are.are
 
 pub left_by_run : (options : Options) (given old new : Option (List ℕ)) (totals : Totals) (run : HasRun options given old new totals)
     → options.ages ≡ false → HavePages run.outcome.verdicts → keeps_stored options ≡ true
@@ -37,5 +44,6 @@ left_by_run options given old new totals run unaged paged asked =
       };
       left = λ home inside. left_by_one _ _ _ _ _ judged (inl refl) home inside (pairs_of run.stored home.family)
           (stored_in (layout_for options.tables) judged.views run.stored
-          (subst (λ v. AreStoredOf (layout_for options.tables) v run.stored) (sym was.1) (run.kept asked)) home.family);
+          (subst (λ v. AreStoredOf (layout_for options.tables) v run.stored) (sym was.1)
+          (stored_unaged (layout_for options.tables) options.times options.ages _ by.views run.stored unaged (run.kept asked))) home.family);
     }

@@ -21,6 +21,7 @@ use Rattle.capture_stream.specs.Arrivals.{AreAllGiven, Gives, IsWhole, Part}
 use Rattle.capture_stream.specs.ComingCaptures.{IsFaultOfComing}
 use Rattle.capture_stream.specs.Turns.{AreTurns, Turn, cuts_of, packets_of, parts_of}
 use Rattle.capture_stream.specs.declared.arrivals.FaultAt.{FaultAt}
+use Rattle.racl_views.specs.Hits.{latest_second}
 use Rattle.racl_runs.specs.LiveRuns.{AreFirstVerdicts, IsToldBehind}
 
 -- what is told of a run's packets, in the form that is asked for, where each line names its packet's interface
@@ -40,7 +41,7 @@ pub record IsReportOfTurns (options : Options) (text : List ℕ) (wording : Word
   pub verdicts : List Verdict
   pub count : length verdicts ≡ length (packets_of turns)
   pub behind : List ℕ
-  pub told : IsToldBehind options text policy (packets_of turns) verdicts behind
+  pub told : IsToldBehind options text policy (packets_of turns) verdicts (latest_second (packets_of turns)) behind
   pub counted : totals ≡ totals_of verdicts (cuts_of turns)
   pub all : report ≡ lines_in wording 1 (packets_of turns) verdicts ++ (captures_end options.lines (cuts_of turns) totals ++ behind)
 

@@ -21,7 +21,7 @@ use Rattle.racl_io.specs.declared.totals_and_truncation.Captured.{Captured}
 use Rattle.racl_io.specs.Sinks.{GotFront}
 use Rattle.racl_io.specs.Tellings.{Wording}
 use Rattle.racl_io.specs.Transfers.{GaveAtMost}
-use Rattle.racl_views.specs.Hits.{AreHits}
+use Rattle.racl_views.specs.Hits.{AreHits, latest_second}
 use Rattle.racl_views.specs.Stored.{StoredFacts}
 use Rattle.racl_views.specs.PartTellings.{AreExplainedLines, AreObjectLines, TellsRun}
 use Rattle.racl_views.specs.RunEntries.{RunFacts}
@@ -30,7 +30,7 @@ use Rattle.capture_stream.specs.Savings.{Outputs}
 use Rattle.racl_runs.specs.Crews.{AreRestingWith, Orders, orders_of}
 use Rattle.racl_runs.specs.declared.sized_tables_and_workers.SizedWorkers.{SizedWorkers}
 use Rattle.racl_runs.specs.LiveSaves.{HaveSaved}
-use Rattle.racl_runs.specs.Runs.{AgeInTime, AreStoredOf, ByOneThread, ByWorkers, bucket_deal, keeps_stored, layout_for}
+use Rattle.racl_runs.specs.Runs.{AgeInTime, AreToldOf, ByOneThread, ByWorkers, bucket_deal, keeps_stored, layout_for}
 use Rattle.racl_report.specs.ReadInputs.{told_of}
 use Rattle.racl_report.specs.RunReports.{AreLines, IsReportOn, sessions_behind, told_facts, view_behind}
 use Rattle.racl_report.specs.declared.saved_packets.Saves.{Saves}
@@ -91,14 +91,16 @@ abbrev pub TellsAsAsked : Options → List ℕ → PolicyFacts → Wording → T
 TellsAsAsked options text policy wording =
     TellsRun (AreFirstLines options.lines) (AreLines options.lines) (record { policy = policy; text = text; shown = options.shown }) wording
 
--- what stands behind the totals of packets with these verdicts: hits, and the sessions that stood in the tables then
-pub record IsToldBehind (options : Options) (text : List ℕ) (policy : PolicyFacts) (packets : List PacketFacts) (verdicts : List Verdict) (behind : List ℕ) : Type 0 where
+-- What stands behind the totals of packets with these verdicts: hits, and the sessions that stood in the tables then. Sessions are
+-- counted at this second; where they may be removed, those are told that are live then.
+pub record IsToldBehind (options : Options) (text : List ℕ) (policy : PolicyFacts) (packets : List PacketFacts) (verdicts : List Verdict) (latest : ℕ) (behind : List ℕ)
+    : Type 0 where
   pub by_live : ByLiveWorkers options policy packets verdicts
   pub stored : StoredFacts
-  pub kept : keeps_stored options ≡ true → AreStoredOf (layout_for options.tables) by_live.by_workers.views stored
+  pub kept : keeps_stored options ≡ true → AreToldOf (layout_for options.tables) options.times (ages_in options) latest by_live.by_workers.views stored
   pub hits : List ℕ
   pub told : (captures : List Captured)
-      → AreHits options.hits (view_behind options.lines) options.times (told_facts policy text packets (record { verdicts = verdicts; captures = captures }) options.shown) stored hits
+      → AreHits options.hits (view_behind options.lines) options.times latest (told_facts policy text packets (record { verdicts = verdicts; captures = captures }) options.shown) stored hits
   pub all : behind ≡ hits ++ sessions_behind options stored
 
 -- The source's bytes are a capture, and this is the report on it.
@@ -113,7 +115,8 @@ pub record IsLiveReport (options : Options) (text : List ℕ) (given : Option (L
   pub verdicts : List Verdict
   pub by_live : ByLiveWorkers options policy packets verdicts
   pub stored : StoredFacts
-  pub kept : keeps_stored options ≡ true → AreStoredOf (layout_for options.tables) by_live.by_workers.views stored
+  pub kept : keeps_stored options ≡ true
+      → AreToldOf (layout_for options.tables) options.times (ages_in options) (latest_second packets) by_live.by_workers.views stored
   pub told : IsReportOn options text policy packets
       (record { outcome = record { verdicts = verdicts; captures = told_of None packets truncated ∷ [] }; stored = stored }) report
   pub counted : totals ≡ totals_of verdicts (told_of None packets truncated ∷ [])

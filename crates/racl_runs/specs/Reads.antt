@@ -24,7 +24,8 @@ use Rattle.racl_runs.specs.declared.input_front.Marked.{Marked}
 use Rattle.racl_runs.specs.declared.input_front.Opened.{Opened}
 use Rattle.racl_runs.specs.declared.input_front.Opened.TheVariants.{Bytes, Whole}
 use Rattle.racl_runs.specs.declared.input_front.InputFront.{InputFront}
-use Rattle.racl_runs.specs.Runs.{AgeInTime, AreStoredOf, ByOneThread, ByWorkers, keeps_stored, layout_for}
+use Rattle.racl_views.specs.Hits.{latest_second}
+use Rattle.racl_runs.specs.Runs.{AgeInTime, AreToldOf, ByOneThread, ByWorkers, keeps_stored, layout_for}
 use Rattle.racl_report.specs.KeptInputs.{KeepsWhere}
 use Rattle.racl_report.specs.ReadInputs.{IsRead, told_of}
 use Rattle.racl_report.specs.RunReports.{JudgedFacts}
@@ -33,10 +34,11 @@ use Rattle.racl_report.specs.declared.kept_input.Kept.{Kept}
 -- ---- what is answered of the bytes of an input
 
 -- workers gave the verdicts on these packets, and these are the one-thread filter's where none says no-pages and ageing is in
--- time; the sessions stood in the tables then
+-- time; the sessions that are told stood in the tables then
 pub record IsReached (options : Options) (policy : PolicyFacts) (packets : List PacketFacts) (captures : List Captured) (judged : JudgedFacts) : Type 0 where
   pub by_workers : ByWorkers options options.ages policy packets judged.outcome.verdicts
-  pub kept : keeps_stored options ≡ true → AreStoredOf (layout_for options.tables) by_workers.views judged.stored
+  pub kept : keeps_stored options ≡ true
+      → AreToldOf (layout_for options.tables) options.times options.ages (latest_second packets) by_workers.views judged.stored
   pub by_one_thread : HavePages judged.outcome.verdicts → AgeInTime by_workers → ByOneThread options.tables options.times policy packets judged.outcome.verdicts
   pub told : judged.outcome.captures ≡ captures
 

@@ -1,5 +1,5 @@
 -- What a run has filtered, from the bytes of its input.
-use Rattle.std.specs.Prelude.{◌≡◌, ◌≤◌, ◌||◌, ℕ, Bool, true, List, Option, Some, IfSome, All, MatchResult, Result}
+use Rattle.std.specs.Prelude.{◌≡◌, ◌≤◌, ◌||◌, ℕ, Bool, true, false, List, Option, Some, IfSome, All, MatchResult, Result}
 use Rattle.std.specs.Io.KnownBytes.{Appends}
 use Rattle.packet_view.specs.Captures.{PacketFacts}
 use Rattle.packet_view.specs.declared.tuple.Family.{Family}
@@ -21,7 +21,8 @@ use Rattle.racl_io.specs.declared.fault.Fault.{Fault}
 use Rattle.racl_io.specs.Faults.{IsSystemFault}
 use Rattle.racl_io.specs.declared.totals_and_truncation.Totals.{Totals}
 use Rattle.racl_io.specs.Reports.{totals_of}
-use Rattle.racl_views.specs.Stored.{StoredFacts}
+use Rattle.racl_views.specs.Hits.{latest_second}
+use Rattle.racl_views.specs.Stored.{StoredFacts, live_at}
 use Rattle.racl_report.specs.ReadInputs.{IsRead}
 use Rattle.racl_report.specs.RunReports.{IsReport, Outcome}
 
@@ -78,6 +79,17 @@ pub record AreStoredOf (layout : Layout) (views : Views) (stored : StoredFacts) 
   pub four : AreStored layout.four views.four.known stored.four
   pub six : AreStored layout.six views.six.known stored.six
 
+-- what is told of them: all, or those that are live at a second, where sessions that have ended may be removed
+abbrev pub told_at : Timeouts → Bool → ℕ → StoredFacts → StoredFacts
+told_at times false latest stored = stored
+told_at times true latest stored = live_at times latest stored
+
+-- so much is told of the pairs of both families' tables
+pub record AreToldOf (layout : Layout) (times : Timeouts) (ages : Bool) (latest : ℕ) (views : Views) (told : StoredFacts) : Type 0 where
+  pub stored : StoredFacts
+  pub are : AreStoredOf layout views stored
+  pub told_is : told ≡ told_at times ages latest stored
+
 -- ---- outcomes
 
 -- the bytes are an input on which the one-thread filter comes to this outcome over tables of this size
@@ -91,8 +103,8 @@ pub record HasOutcome (size : TableSize) (times : Timeouts) (bytes : List ℕ) (
 
 -- An input was read, workers gave these verdicts on its packets, and after what was written before stands the report on it.
 -- The verdicts are those of the one-thread filter, which forgets nothing, where none of them says no-pages, and ageing is in
--- time. The sessions that are told stood in the tables when these workers had ended. Where it is known which bytes the reader
--- gives, these are the input.
+-- time. The sessions that are told stood in the tables when these workers had ended; where workers age, these are the ones that are
+-- live at the latest second of any packet. Where it is known which bytes the reader gives, these are the input.
 pub record HasRun (options : Options) (given old new : Option (List ℕ)) (totals : Totals) : Type 0 where
   pub bytes : List ℕ
   pub known : IfSome given (λ known. bytes ≡ known)
@@ -102,7 +114,7 @@ pub record HasRun (options : Options) (given old new : Option (List ℕ)) (total
   pub read : IsRead bytes policy packets outcome.captures
   pub by_workers : ByWorkers options options.ages policy packets outcome.verdicts
   pub stored : StoredFacts
-  pub kept : keeps_stored options ≡ true → AreStoredOf (layout_for options.tables) by_workers.views stored
+  pub kept : keeps_stored options ≡ true → AreToldOf (layout_for options.tables) options.times options.ages (latest_second packets) by_workers.views stored
   pub by_one_thread : HavePages outcome.verdicts → AgeInTime by_workers → ByOneThread options.tables options.times policy packets outcome.verdicts
   pub report : List ℕ
   pub told : IsReport options bytes policy packets (record { outcome = outcome; stored = stored }) report

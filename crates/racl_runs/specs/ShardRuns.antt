@@ -1,5 +1,5 @@
 -- A run over the packets of one shard of a capture, which is told while it is read (this project's profile).
-use Rattle.std.specs.Prelude.{◌≡◌, ◌≢◌, ◌⊎◌, ◌++◌, ℕ, Bool, List, Option, Result, IfSome, MatchResult, length}
+use Rattle.std.specs.Prelude.{◌≡◌, ◌≢◌, ◌⊎◌, ◌++◌, ℕ, Bool, List, [], Option, Result, IfSome, MatchResult, length}
 use Rattle.std.specs.Io.KnownBytes.{Appends, IsAtEnd}
 use Rattle.packet_view.specs.Captures.{IsCaptureAt, PacketFacts, RecordFacts, end_of}
 use Rattle.packet_view.specs.declared.capture.Order.{Order}
@@ -20,7 +20,10 @@ use Rattle.capture_shards.specs.Shards.{IsOwnOf, Own, own_packets}
 use Rattle.racl_runs.specs.LiveRuns.{AreFirstVerdicts, HasHead, IsEarlyFault, IsToldBehind, TellsAsAsked}
 use Rattle.racl_runs.specs.Runs.{layout_for}
 use Rattle.racl_runs.specs.ShardSaves.{HaveSavedOwn, SavesOwn}
+use Rattle.racl_report.specs.RunReports.{view_behind}
 use Rattle.racl_report.specs.declared.saved_packets.Saves.{Saves}
+use Rattle.racl_views.specs.Hits.{latest_second}
+use Rattle.racl_views.specs.ShardLines.{shard_told}
 
 -- these packets are the shard's, over tables of the size that the words ask for
 abbrev pub AreOwn : Options → ShardFacts → Own → Type 0
@@ -30,15 +33,29 @@ AreOwn options shard own = IsOwnOf (layout_for options.tables) shard.count shard
 abbrev pub own_lines : Wording → Own → List PacketFacts → List Verdict → List ℕ
 own_lines wording own packets verdicts = lines_at wording (own_numbers own 1 packets) (own_packets own 1 packets) verdicts
 
+-- what is said right behind the totals of a capture with so many packets, the latest of this second
+abbrev pub Note : Type 0
+Note = ℕ → ℕ → List ℕ
+
+-- nothing, where all packets are one's own
+abbrev pub no_note : Note
+no_note packets latest = []
+
+-- of which shard of how many the report is
+abbrev pub shard_note : Options → ShardFacts → Note
+shard_note options shard packets latest =
+    shard_told (view_behind options.lines) (record { number = shard.number; count = shard.count; packets = packets; latest = latest })
+
 -- The workers gave these verdicts on one's own packets, as in a run on a capture of these alone; this stands behind their totals,
--- and all that is told are the lines of these packets, and what stands behind.
-pub record IsOwnReport (options : Options) (text : List ℕ) (wording : Wording) (policy : PolicyFacts) (own : Own) (packets : List PacketFacts) (truncated : Bool)
+-- with sessions as they are at the latest second of the whole capture. All that is told are the lines of these packets, the totals, a
+-- note, and what stands behind.
+pub record IsOwnReport (options : Options) (text : List ℕ) (note : Note) (wording : Wording) (policy : PolicyFacts) (own : Own) (packets : List PacketFacts) (truncated : Bool)
     (totals : Totals) (report : List ℕ) : Type 0 where
   pub verdicts : List Verdict
   pub behind : List ℕ
-  pub told : IsToldBehind options text policy (own_packets own 1 packets) verdicts behind
+  pub told : IsToldBehind options text policy (own_packets own 1 packets) verdicts (latest_second packets) behind
   pub counted : totals ≡ totals_of verdicts (told_alone (length (own_packets own 1 packets)) truncated)
-  pub all : report ≡ own_lines wording own packets verdicts ++ (wording.end totals ++ behind)
+  pub all : report ≡ own_lines wording own packets verdicts ++ (wording.end totals ++ (note (length packets) (latest_second packets) ++ behind))
 
 -- What workers handed over of one's own packets, who go on, put at the places of these.
 pub record AreFirstOwn (T : Type 0) (options : Options) (own : Own) (policy : PolicyFacts) (packets : List PacketFacts) (verdicts : List Verdict) : Type 0 where
@@ -70,7 +87,7 @@ pub record IsShardReport (options : Options) (shard : ShardFacts) (text : List �
   pub mine : AreOwn options shard own
   pub wording : Wording
   pub tells : TellsAsAsked options text policy wording
-  pub is : IsOwnReport options text wording policy own packets truncated totals report
+  pub is : IsOwnReport options text (shard_note options shard) wording policy own packets truncated totals report
 
 -- and it was written, and the shard's packets were saved that it says are dropped, and that pass
 pub record HasRunShard {S : Type 0} (sink : S → Option (List ℕ)) (options : Options) (shard : ShardFacts) (text : List ℕ) (given : Option (List ℕ))

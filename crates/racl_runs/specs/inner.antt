@@ -1,6 +1,7 @@
 pub mod AskedWordings
 pub mod Captures
 pub mod Comparings
+pub mod DatedPackets
 pub mod Heads
 pub mod InterfaceChecks
 pub mod Kept

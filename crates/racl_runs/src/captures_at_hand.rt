@@ -13,13 +13,14 @@ ghost use Rattle.racl_report.specs.KeptInputs.{Keeps};
 ghost use Rattle.racl_runs.specs.Reads.{AnswersInput, HasMarked, IsReached};
 ghost use Rattle.racl_runs.specs.inner.Plans.{HasReached, IsPlanFor, MayJudgeMarked};
 
+use crate::dated_judging::latest_where;
 use crate::digit_captures::{Decoded, decode_captures};
 use crate::ended_workers::Ended;
 use crate::input_front::Marked;
 use crate::pace::Stopwatch;
 use crate::run_plan::plan_for;
 use crate::sized_tables_and_workers::{Manner, SizedWorkers, create_sized};
-use crate::stored_sessions::with_stored;
+use crate::stored_sessions::{needs_latest, with_stored};
 use crate::workers_as_judges::Crew;
 use capture_stream::Judge;
 use flow_workers::Filter;
@@ -70,6 +71,7 @@ fn judge_in_manner<T: Clock + Threads + Wait + Sync>(
     let ended = Ended {
         verdicts,
         captures: told,
+        latest: latest_where(needs_latest(options), 0, packets),
         callers,
     };
     with_stored(alloc, options, tables, ended)

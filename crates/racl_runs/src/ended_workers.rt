@@ -13,6 +13,8 @@ pub struct Ended {
     pub verdicts: Vec<Verdict>,
     /// What the report tells of each capture.
     pub captures: Vec<Captured>,
+    /// The latest second of any packet, where it is noted.
+    pub latest: u32,
     /// All callers of each table as one.
     pub callers: SizedCallers,
     pub ghost counted: { packets_in captures.items ≡ length verdicts.items },

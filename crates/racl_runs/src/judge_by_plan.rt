@@ -9,11 +9,12 @@ ghost use Rattle.racl_runs.specs.Crews.{HaveJudgedSome};
 ghost use Rattle.racl_runs.specs.inner.Streams.{HasEnded};
 ghost use Rattle.racl_runs.specs.Reads.{HasJudged, MayJudge};
 
+use crate::dated_judging::Dated;
 use crate::ended_workers::Ended;
 use crate::pace::Stopwatch;
 use crate::run_plan::{plan_for, threads_beside, window_size};
 use crate::sized_tables_and_workers::{Manner, SizedWorkers, create_sized};
-use crate::stored_sessions::with_stored;
+use crate::stored_sessions::{needs_latest, with_stored};
 use crate::workers_as_judges::Crew;
 use capture_stream::{Opening, Streamed, judge_stream};
 use flow_workers::Filter;
@@ -27,9 +28,11 @@ use std::time::Clock;
 
 /// What workers leave who judged all packets of the only capture by a plan: the verdicts, what the report tells of it,
 /// and their callers.
-pub fn end_capture_by_plan<T: Wait>(streamed: Streamed<Crew<'_, '_, T>>) -> Result<Ended, Fault>
-    requires { HaveJudgedSome streamed.judges.workers }
-    ensures ok { IfOk result (HasEnded streamed.entry.judges.workers streamed.entry.truncated) }
+pub fn end_capture_by_plan<T: Wait>(
+    streamed: Streamed<Dated<Crew<'_, '_, T>>>,
+) -> Result<Ended, Fault>
+    requires { HaveJudgedSome streamed.judges.inner.workers }
+    ensures ok { IfOk result (HasEnded streamed.entry.judges.inner.workers streamed.entry.judges.latest streamed.entry.truncated) }
     ensures fault { IfErr result (λ fault. fault ≡ Memory) }
 {
     let Streamed {
@@ -37,7 +40,8 @@ pub fn end_capture_by_plan<T: Wait>(streamed: Streamed<Crew<'_, '_, T>>) -> Resu
         truncated,
         ..
     } = streamed;
-    let Crew { alloc, workers, .. } = judges;
+    let Dated { inner, latest, .. } = judges;
+    let Crew { alloc, workers, .. } = inner;
     let Ok((verdicts, callers)) = workers.end(alloc) else {
         return Err(Fault::Memory);
     };
@@ -50,6 +54,7 @@ pub fn end_capture_by_plan<T: Wait>(streamed: Streamed<Crew<'_, '_, T>>) -> Resu
     Ok(Ended {
         verdicts,
         captures,
+        latest,
         callers,
     })
 }
@@ -94,9 +99,14 @@ pub fn judge_records<R: Source + Send, T: Clock + Threads + Wait + Sync>(
         workers,
         watch,
     };
+    let judges = Dated {
+        inner: crew,
+        noted: needs_latest(options),
+        latest: 0,
+    };
     let size = window_size(are_several);
     let beside = threads_beside(rt, are_several);
-    match judge_stream(beside, alloc, reader, crew, opening, size) {
+    match judge_stream(beside, alloc, reader, judges, opening, size) {
         Ok(streamed) => match end_capture_by_plan(streamed) {
             Ok(ended) => with_stored(alloc, options, tables, ended),
             Err(fault) => Err(fault),

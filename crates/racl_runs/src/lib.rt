@@ -7,6 +7,7 @@ mod capture_header_reading;
 mod captures_at_hand;
 mod compared_judging;
 mod counted_judging;
+mod dated_judging;
 mod diff_run;
 mod digit_captures;
 mod ended_workers;

@@ -9,8 +9,10 @@ ghost use Rattle.capture_stream.specs.Lives.{with_read};
 ghost use Rattle.racl_runs.specs.LiveInterfaceRuns.{HasRunComing, IsComingRunFault, TellsComing};
 
 use crate::asked_lines::AskedLines;
+use crate::dated_judging::Dated;
 use crate::live_run::{EXPECTED, LiveAsked, LiveWay, ages_early, told_behind_live, workers_over};
 use crate::sized_tables_and_workers::create_sized;
+use crate::stored_sessions::keeps_stored;
 use acl_policy::read_policy;
 use capture_stream::{Arrivals, FaultAt, ToldArrivals, tell_arrivals};
 use flow_workers::Filter;
@@ -73,8 +75,13 @@ fn tell_captures<L: Teller, A: Arrivals, W: Sink, T: Clock + Threads + Wait + Sy
     let Ok((tables, callers)) = create_sized(alloc, way.options.tables, ages) else {
         return Err(placeless(Fault::Memory));
     };
-    let Ok(judges) = workers_over(rt, alloc, way, &tables, callers) else {
+    let Ok(inner) = workers_over(rt, alloc, way, &tables, callers) else {
         return Err(placeless(Fault::Memory));
+    };
+    let judges = Dated {
+        inner,
+        noted: keeps_stored(way.options),
+        latest: 0,
     };
     let told = match tell_arrivals(alloc, arrivals, writer, teller, judges) {
         Ok(told) => told,
@@ -85,10 +92,11 @@ fn tell_captures<L: Teller, A: Arrivals, W: Sink, T: Clock + Threads + Wait + Sy
         totals,
         cuts,
     } = told;
-    let Ok((counts, callers)) = judges.end(alloc) else {
+    let Dated { inner, latest, .. } = judges;
+    let Ok((counts, callers)) = inner.end(alloc) else {
         return Err(placeless(Fault::Memory));
     };
-    let Ok(behind) = told_behind_live(alloc, way, tables, &counts, callers) else {
+    let Ok(behind) = told_behind_live(alloc, way, tables, &counts, callers, latest) else {
         return Err(placeless(Fault::Memory));
     };
     match tell_end_of_captures(alloc, writer, way.options.lines, &cuts, &totals, &behind) {

@@ -1,5 +1,5 @@
 //! One run over a capture that is told while it comes.
-ghost use Rattle.std.specs.Prelude.{[], ◌≡◌, ◌-◌, ◌<◌, ◌≤◌, ◌^◌, ◌++◌, if◌then◌else◌, IfOk, IfSome, List, MatchResult, None, Some, nat_lt};
+ghost use Rattle.std.specs.Prelude.{[], ◌≡◌, ◌-◌, ◌<◌, ◌≤◌, ◌^◌, ◌++◌, if◌then◌else◌, IfOk, IfSome, List, MatchResult, None, Some, nat_lt, true, ℕ};
 ghost use Rattle.packet_view.specs.Captures.{PacketFacts};
 ghost use Rattle.acl_policy.specs.Policies.{IsPolicyText, policy_facts};
 ghost use Rattle.session_state.specs.declared.verdict.Verdict.{Verdict};
@@ -13,17 +13,19 @@ ghost use Rattle.racl_runs.specs.LiveRuns.{HasRunLive, IsLiveRunFault, IsToldBeh
 ghost use Rattle.racl_runs.specs.LiveSaves.{failures_in};
 ghost use Rattle.racl_runs.specs.ShardRuns.{HasFailedOnce};
 ghost use Rattle.racl_runs.specs.inner.LiveEnds.{AreBegun, MayTellBehind};
-ghost use Rattle.racl_runs.specs.inner.OwnRuns.{TellsOwn, own_totals};
+ghost use Rattle.racl_runs.specs.Runs;
+ghost use Rattle.racl_runs.specs.inner.OwnRuns.{TellsOwn, note_for, own_totals};
 
 use crate::asked_lines::AskedLines;
 use crate::capture_header_reading::keep_header;
 use crate::counted_judging::Counted;
+use crate::dated_judging::Dated;
 use crate::live_saves::LiveSaves;
 use crate::pace::Stopwatch;
 use crate::sized_tables_and_workers::{
     MANY_PACKETS, Manner, SizedCallers, SizedTables, SizedWorkers, create_sized,
 };
-use crate::stored_sessions::{keeps_stored, stored_of};
+use crate::stored_sessions::{StoredAsked, keeps_stored, stored_of};
 use crate::workers_as_judges::HandingCrew;
 use acl_policy::read_policy;
 use capture_shards::{Shard, ShardJudge, ShardTeller};
@@ -33,8 +35,8 @@ use flow_workers::Filter;
 use packet_view::Order;
 use racl_io::{Fault, Sink, Source, Teller, Totals};
 use racl_options::Options;
-use racl_report::{Behind, behind_totals, write_behind};
-use racl_views::HitCounts;
+use racl_report::{Behind, behind_totals, view_behind, write_behind};
+use racl_views::{HitCounts, ShardOf, shard_text};
 use std::alloc::{AllocError, Global};
 use std::sync::Wait;
 use std::thread::Threads;
@@ -98,20 +100,60 @@ pub fn workers_over<'t, 'f, T: Clock + Threads + Wait + Sync>(
     })
 }
 
-/// What stands behind the totals of a live run whose workers have ended: with these counts, and these tables, which end.
+/// What stands behind the totals of a live run whose workers have ended: with these counts, and these tables, which end. This is
+/// the latest second of the capture, where sessions are told or counted.
 pub fn told_behind_live(
     alloc: Global,
     way: LiveWay<'_, '_>,
     tables: SizedTables,
     counts: &HitCounts,
     callers: SizedCallers,
+    latest: u32,
 ) -> Result<Behind, AllocError>
     requires { (packets : List PacketFacts) × (said : List Verdict) × MayTellBehind way tables packets said counts.now callers }
-    ensures { IfOk result (λ behind. (packets : List PacketFacts) (said : List Verdict) → MayTellBehind way.entry tables packets said counts.now callers
-        → IsToldBehind way.entry.options.now way.entry.text.now (policy_facts way.entry.filter.now.policy.now) packets said (behind.hits.items ++ behind.sessions.items)) }
+    ensures { IfOk result (λ behind. (packets : List PacketFacts) (said : List Verdict) (second : ℕ) → MayTellBehind way.entry tables packets said counts.now callers
+        → (Runs.keeps_stored way.entry.options.now ≡ true → latest ≡ second)
+        → IsToldBehind way.entry.options.now way.entry.text.now (policy_facts way.entry.filter.now.policy.now) packets said second (behind.hits.items ++ behind.sessions.items)) }
 {
-    let stored = stored_of(alloc, keeps_stored(way.options), tables, callers)?;
-    behind_totals(alloc, way.options, way.text, counts, &stored)
+    let which = StoredAsked {
+        asked: keeps_stored(way.options),
+        live: ages_early(way.options),
+        times: way.options.times,
+        latest,
+    };
+    let stored = stored_of(alloc, which, tables, callers)?;
+    behind_totals(alloc, way.options, way.text, latest, counts, &stored)
+}
+
+// What stands behind the totals, and before it what is said of the shard, where there is one, of a capture with so many packets,
+// the latest of this second.
+fn noted_behind(
+    alloc: Global,
+    options: &Options,
+    shard: Option<Shard>,
+    packets: u64,
+    latest: u32,
+    behind: Behind,
+) -> Result<Behind, AllocError>
+    ensures { IfOk result (λ noted. noted.hits.items ++ noted.sessions.items
+        ≡ note_for options.now shard packets latest ++ (behind.hits.items ++ behind.sessions.items)) }
+{
+    let Some(shard) = shard else {
+        return Ok(behind);
+    };
+    let told = ShardOf {
+        number: shard.number,
+        count: shard.count,
+        packets,
+        latest,
+    };
+    let mut note = shard_text(alloc, view_behind(options.lines), told)?;
+    let Behind { hits, sessions } = behind;
+    note.extend_from_slice(&hits)?;
+    Ok(Behind {
+        hits: note,
+        sessions,
+    })
 }
 
 /// Of a live run the totals are told, and what stands behind them.
@@ -149,6 +191,14 @@ pub fn many_for(workers: usize) -> Option<usize>
     }
 }
 
+// Whether the latest second of the capture is noted: for what is said of a shard, and for sessions that are told or counted.
+fn notes_latest(options: &Options, shard: Option<Shard>) -> bool
+    ensures shard { IfSome shard (λ _. result ≡ true) }
+    ensures stored { Runs.keeps_stored options.now ≡ true → result ≡ true }
+{
+    shard.is_some() || keeps_stored(options)
+}
+
 // The totals over one's own packets, of which there are so many.
 fn totals_over(totals: &Totals, own: u64) -> Totals
     requires { totals.now.passed ≤ own }
@@ -182,7 +232,7 @@ pub fn tell_capture<
     requires says { IsPolicyText head.way.text.now (policy_facts head.way.filter.now.policy.now) }
     requires sound { (head.way.filter.now.times ≡ head.way.options.now.times) × (R.failures reader.old < 2 ^ 64 - 1) × (W.failures writer.old < 2 ^ 64 - 1) }
     requires saves { K.saved saver.old head.order [] [] saver.old }
-    ensures told { let way = head.entry.way in TellsOwn T way.options.now way.text.now (manner_of (L.wording lines) K.saved) (policy_facts way.filter.now.policy.now) (own_among head.entry.shard)
+    ensures told { let way = head.entry.way in TellsOwn T way.options.now way.text.now (note_for way.options.now head.entry.shard) (manner_of (L.wording lines) K.saved) (policy_facts way.filter.now.policy.now) (own_among head.entry.shard)
         head.entry.order (R.bytes reader.old) (R.bytes reader.new) (outputs (W.bytes writer.old) saver.old) (outputs (W.bytes writer.new) saver.new) result }
     ensures read { MatchResult result (λ _. R.failures reader.new ≡ R.failures reader.old) (λ fault. R.failures reader.new ≡ with_read (R.failures reader.old) fault) }
     ensures write { HasFailedOnce result (W.failures writer.old) (W.failures writer.new) (K.failures saver.old) (K.failures saver.new) }
@@ -201,12 +251,16 @@ pub fn tell_capture<
         return Err(Fault::Memory);
     };
     let headed = Headed {
-        judges: ShardJudge {
-            inner,
-            shard,
-            alloc,
-            seen: 0,
-            own: 0,
+        judges: Dated {
+            inner: ShardJudge {
+                inner,
+                shard,
+                alloc,
+                seen: 0,
+                own: 0,
+            },
+            noted: notes_latest(way.options, shard),
+            latest: 0,
         },
         order,
         many: many_for(way.options.workers),
@@ -221,11 +275,15 @@ pub fn tell_capture<
         Err(fault) => return Err(fault),
     };
     let ToldCapture { judges, totals } = told;
-    let ShardJudge { inner, own, .. } = judges;
+    let Dated { inner, latest, .. } = judges;
+    let ShardJudge { inner, seen, own, .. } = inner;
     let Ok((counts, callers)) = inner.end(alloc) else {
         return Err(Fault::Memory);
     };
-    let Ok(behind) = told_behind_live(alloc, way, tables, &counts, callers) else {
+    let Ok(behind) = told_behind_live(alloc, way, tables, &counts, callers, latest) else {
+        return Err(Fault::Memory);
+    };
+    let Ok(behind) = noted_behind(alloc, way.options, shard, seen, latest, behind) else {
         return Err(Fault::Memory);
     };
     let totals = totals_over(&totals, own);

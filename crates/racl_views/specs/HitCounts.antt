@@ -4,7 +4,7 @@ use Rattle.packet_view.specs.Captures.{PacketFacts}
 use Rattle.acl_policy.specs.Policies.{PolicyFacts}
 use Rattle.session_state.specs.declared.verdict.Verdict.{Verdict}
 use Rattle.racl_views.specs.Deciding.{AreDecided}
-use Rattle.racl_views.specs.Hits.{has_reason, is_entry, latest_second}
+use Rattle.racl_views.specs.Hits.{has_reason, is_entry}
 use Rattle.racl_views.specs.declared.counting_reasons.ReasonCounts.{ReasonCounts}
 use Rattle.racl_views.specs.declared.hit_counts.HitCounts.{HitCounts}
 use Rattle.racl_views.specs.declared.counting_reasons.NoRule.TheVariants as reason
@@ -30,7 +30,6 @@ pub record HaveCounted (policy : PolicyFacts) (packets : List PacketFacts) (verd
   pub few : (place : ℕ) → get_or counts.rules.items place 0 ≤ length verdicts
   pub reasons : CountReasons verdicts counts.reasons
   pub entered : counts.entered ≡ count_by is_entry verdicts
-  pub latest : counts.latest ≡ latest_second packets
 
 -- so many more verdicts may be counted
 pub record MayCount (counts : HitCounts) (more : ℕ) : Type 0 where

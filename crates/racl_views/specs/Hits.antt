@@ -75,13 +75,13 @@ live_among times moment pairs = count_by (λ pair. not (is_expired_at times mome
 abbrev pub live_stored : Timeouts → ℕ → StoredFacts → ℕ
 live_stored times moment stored = live_among times moment stored.four + live_among times moment stored.six
 
--- how many were entered, how many packets they let through, and how many of those that were entered aren't live any more at the
--- latest second of any packet
-abbrev pub session_counts : Timeouts → RunFacts → StoredFacts → SessionCounts
-session_counts times run stored = record {
+-- how many were entered, how many packets they let through, and how many of those that were entered aren't live any more at this
+-- second
+abbrev pub session_counts : Timeouts → ℕ → RunFacts → StoredFacts → SessionCounts
+session_counts times latest run stored = record {
   entered = count_by is_entry run.verdicts;
   matched = count_by (has_reason reason.Session) run.verdicts;
-  expired = count_by is_entry run.verdicts - live_stored times (latest_second run.packets) stored;
+  expired = count_by is_entry run.verdicts - live_stored times latest stored;
 }
 
 -- ---- hits
@@ -128,16 +128,16 @@ hit_told form.Json texts it = object_line (hit_object texts it)
 -- ---- all of it
 
 -- What is told of hits, a line or an object for each: of the rules of the policy's text in its order, of the verdicts that are no
--- rule's, and of sessions, by those that are stored after the run.
-pub record IsHits (view : TextOrJson) (times : Timeouts) (run : RunFacts) (stored : StoredFacts) (told : List ℕ) : Type 0 where
+-- rule's, and of sessions, by those that are stored after the run and live at the latest second.
+pub record IsHits (view : TextOrJson) (times : Timeouts) (latest : ℕ) (run : RunFacts) (stored : StoredFacts) (told : List ℕ) : Type 0 where
   pub rules : List RuleLine
   pub lines : AreRules run.text rules
   pub deciding : List (Option RuleName)
   pub decided : AreDecided run.policy run.packets run.verdicts deciding
   pub all : told ≡ flat_map (hit_told view (rule_texts run.text))
-      (rule_hits deciding rules ++ (reason_hits run.verdicts ++ session_hits (session_counts times run stored)))
+      (rule_hits deciding rules ++ (reason_hits run.verdicts ++ session_hits (session_counts times latest run stored)))
 
 -- the same, where it is asked for
-abbrev pub AreHits : Bool → TextOrJson → Timeouts → RunFacts → StoredFacts → List ℕ → Type 0
-AreHits false view times run stored told = told ≡ []
-AreHits true view times run stored told = IsHits view times run stored told
+abbrev pub AreHits : Bool → TextOrJson → Timeouts → ℕ → RunFacts → StoredFacts → List ℕ → Type 0
+AreHits false view times latest run stored told = told ≡ []
+AreHits true view times latest run stored told = IsHits view times latest run stored told

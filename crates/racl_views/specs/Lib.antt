@@ -12,5 +12,6 @@ pub mod RuleLines
 pub mod RuleTexts
 pub mod RunEntries
 pub mod SessionLines
+pub mod ShardLines
 pub mod Stored
 pub mod inner

@@ -18,7 +18,7 @@ use packet_view::Packets;
 use session_state::Verdict;
 use std::alloc::{AllocError, Global};
 
-/// How many packets were decided by each rule, or for another reason, and what sessions are counted by.
+/// How many packets were decided by each rule, or for another reason, and how many entered a session.
 #[derive(Drop)]
 pub struct HitCounts {
     /// How many each rule decided, at the rule's place.
@@ -26,8 +26,6 @@ pub struct HitCounts {
     pub reasons: ReasonCounts,
     /// How many entered a session.
     pub entered: u64,
-    /// The latest second of any.
-    pub latest: u32,
 }
 
 /// How many packets or sessions there are of a kind.
@@ -110,8 +108,8 @@ fn count_session_entries(verdicts: &[Verdict]) -> u64
     count
 }
 
-// The latest second of any packet, among these and those before.
-fn latest_count_second(before: u32, packets: Packets<'_>) -> u32
+/// The latest second of any packet, among these and those before, of which this is the latest: 0 where there are none.
+pub fn latest_second(before: u32, packets: Packets<'_>) -> u32
     ensures { result ≡ max before (Hits.latest_second (remaining packets.entry)) }
 {
     let mut left = packets;
@@ -131,7 +129,6 @@ impl HitCounts {
             rules: Vec::new(alloc),
             reasons: no_reasons(),
             entered: 0,
-            latest: 0,
         }
     }
 
@@ -149,7 +146,6 @@ impl HitCounts {
         count_packets(&mut self.rules, policy, packets, verdicts)?;
         count_reasons(&mut self.reasons, verdicts);
         self.entered += count_session_entries(verdicts);
-        self.latest = latest_count_second(self.latest, packets);
         Ok(())
     }
 }

@@ -1,6 +1,7 @@
 //! What is told of hits, in lines or objects.
 ghost use Rattle.std.specs.Prelude.{◌≡◌, ◌+◌, ◌≤◌, ◌++◌, [], ◌∷◌, List, Option, OnOk, IfOk, codes, length, map};
 ghost use Rattle.std.specs.List.{flat_map};
+ghost use Rattle.packet_view.specs.CheckedCaptures.{remaining};
 ghost use Rattle.acl_policy.specs.Policies.{IsPolicyText, policy_facts};
 ghost use Rattle.session_state.specs.declared.verdict.Verdict.{Verdict};
 ghost use Rattle.racl_views.specs.HitCounts.{CountReasons, HaveCounted};
@@ -16,7 +17,7 @@ ghost use Rattle.racl_views.specs.declared.rule_numbering.RuleName.{RuleName};
 ghost use Rattle.racl_views.specs.inner.Counts.{Count};
 
 use crate::counting_reasons::{NoRule, ReasonCounts};
-use crate::hit_counts::{Hit, HitCounts};
+use crate::hit_counts::{Hit, HitCounts, latest_second};
 use crate::json_fields::{
     add_line, add_number, add_string, add_way, begin_json_object, end_json_object,
 };
@@ -259,29 +260,29 @@ fn hits_to_tell(
 
 /// What is told of the hits of packets that were counted, under a policy that this text says: for each of its rules its
 /// interface, direction and number, its line, how many packets it decided and its text; for each verdict that is no rule's how many
-/// packets have it; and how many sessions were entered, how many packets they let through, and how many have expired by the
-/// latest second of any packet. `stored` has the sessions that the tables hold after the run. An `Err` says that memory ran
-/// out.
+/// packets have it; and how many sessions were entered, how many packets they let through, and how many have expired by this
+/// second. `stored` has the sessions that the tables hold after the run. An `Err` says that memory ran out.
 pub fn counted_hits_text(
     alloc: Global,
     view: TextOrJson,
     times: Timeouts,
+    latest: u32,
     text: &[u8],
     counts: &HitCounts,
     stored: &StoredPairs,
 ) -> Result<Vec<u8>, AllocError>
     ensures { IfOk result (λ told. (run : RunFacts) → run.text ≡ text.now → IsPolicyText run.text run.policy
-        → HaveCounted run.policy run.packets run.verdicts counts.now → IsHits view times run (stored_facts stored.now) told.items) }
+        → HaveCounted run.policy run.packets run.verdicts counts.now → IsHits view times latest run (stored_facts stored.now) told.items) }
 {
     let rules = numbered_rules(alloc, text)?;
-    let sessions = count_sessions(times, counts, stored);
+    let sessions = count_sessions(times, latest, counts, stored);
     let hits = hits_to_tell(alloc, &rules, counts, sessions)?;
     let texts = texts_of(alloc, text)?;
     let told = tell_hits(alloc, view, &texts, &hits)?;
     Ok(told)
 }
 
-/// What is told of the hits of a run, as `counted_hits_text` says. `stored` has the sessions that the tables hold after it. An
+/// What is told of the hits of a run, as `counted_hits_text` says at the latest second of its packets. `stored` has the sessions that the tables hold after it. An
 /// `Err` says that memory ran out.
 pub fn hits_text(
     alloc: Global,
@@ -291,9 +292,10 @@ pub fn hits_text(
     stored: &StoredPairs,
 ) -> Result<Vec<u8>, AllocError>
     ensures { IfOk result (λ told. IsPolicyText run.entry.text.now (policy_facts run.entry.policy.now)
-        → IsHits view times (run_facts run.entry) (stored_facts stored.now) told.items) }
+        → IsHits view times (Hits.latest_second (remaining run.entry.packets)) (run_facts run.entry) (stored_facts stored.now) told.items) }
 {
     let mut counts = HitCounts::new(alloc);
     counts.count(run.policy, run.packets, run.verdicts)?;
-    counted_hits_text(alloc, view, times, run.text, &counts, stored)
+    let latest = latest_second(0, run.packets);
+    counted_hits_text(alloc, view, times, latest, run.text, &counts, stored)
 }

@@ -26,6 +26,7 @@ mod rule_texts_in_policy;
 mod run_and_verdicts;
 mod session_counts;
 mod sessions_as_text_and_json;
+mod shard_lines;
 mod stored_flow;
 mod writing_explained_lines;
 
@@ -34,7 +35,7 @@ pub use capture_of_chosen::{chosen_packets_are_a_capture, write_chosen, write_ch
 pub use chosen_packets::Chosen;
 pub use explained_line_and_json_laws::{explained_lines_begin_as_the_report, objects_read_back};
 pub use flow_key::keys_tell_their_flows;
-pub use hit_counts::HitCounts;
+pub use hit_counts::{HitCounts, latest_second};
 pub use hits_as_text_and_json::{counted_hits_text, hits_text};
 pub use json_report::{ObjectLines, write_object_ends, write_objects};
 pub use rule_lines_by_place::{line_of, rule_table_by_place};
@@ -42,6 +43,7 @@ pub use rule_numbering::{RuleLine, RuleName, numbered_rules};
 pub use rule_table::RuleTable;
 pub use rule_texts_in_policy::text_at;
 pub use run_and_verdicts::Run;
-pub use session_counts::StoredPairs;
+pub use session_counts::{StoredPairs, live_sessions};
 pub use sessions_as_text_and_json::{TextOrJson, sessions_text};
+pub use shard_lines::{ShardOf, shard_text};
 pub use writing_explained_lines::{ExplainedLines, write_explained};

@@ -1,5 +1,5 @@
 -- A run on one capture whose packets are one's own, or a shard's: what it tells behind the capture's header.
-use Rattle.std.specs.Prelude.{◌≡◌, ◌-◌, ◌⊎◌, ◌++◌, ℕ, Bool, List, Option, Result, MatchResult, length}
+use Rattle.std.specs.Prelude.{◌≡◌, ◌-◌, ◌⊎◌, ◌++◌, ℕ, Bool, List, Option, None, Some, Result, MatchResult, length}
 use Rattle.std.specs.Io.KnownBytes.{Appends, Consumes, IsAtEnd}
 use Rattle.packet_view.specs.Captures.{AreRecords, IsEnd, RecordFacts, end_of, packets_at}
 use Rattle.packet_view.specs.declared.capture.Order.{Order}
@@ -18,13 +18,21 @@ use Rattle.capture_shards.specs.Sharing.{IsSpread}
 use Rattle.capture_shards.specs.Shards.{IsOver, Own, own_packets}
 use Rattle.capture_shards.specs.declared.shard.Shard.{Shard}
 use Rattle.racl_runs.specs.Runs.{layout_for}
-use Rattle.racl_runs.specs.ShardRuns.{IsOwnFault, IsOwnReport}
+use Rattle.racl_runs.specs.ShardRuns.{IsOwnFault, IsOwnReport, Note, no_note}
+use Rattle.racl_report.specs.RunReports.{view_behind}
+use Rattle.racl_views.specs.ShardLines.{shard_told}
 
 -- the shard that is asked for, over tables of this size
 pub record IsShardOver (size : TableSize) (asked : ShardAsked) (shard : Shard) : Type 0 where
   pub over : IsOver (layout_for size) shard
   pub number : shard.number ≡ asked.number
   pub count : shard.count ≡ asked.count
+
+-- what is said right behind the totals: of a shard, where there is one
+abbrev pub note_for : Options → Option Shard → Note
+note_for options None = no_note
+note_for options (Some shard) = λ packets latest. shard_told (view_behind options.lines)
+    (record { number = shard.number; count = shard.count; packets = packets; latest = latest })
 
 -- the totals of the verdicts on so many own packets, and of verdicts on others of which none pass or say no-pages
 abbrev pub own_totals : Totals → ℕ → Totals
@@ -37,7 +45,7 @@ own_totals totals own = record {
 }
 
 -- all of a capture behind its header was read, and this is the report on one's own packets
-pub record IsOwnReportBehind (options : Options) (text : List ℕ) (wording : Wording) (policy : PolicyFacts) (own : Own) (order : Order)
+pub record IsOwnReportBehind (options : Options) (text : List ℕ) (note : Note) (wording : Wording) (policy : PolicyFacts) (own : Own) (order : Order)
     (before after : Option (List ℕ)) (totals : Totals) (report : List ℕ) : Type 0 where
   pub read : List ℕ
   pub consumed : Consumes before after read
@@ -47,23 +55,23 @@ pub record IsOwnReportBehind (options : Options) (text : List ℕ) (wording : Wo
   pub records : AreRecords order read packets rest
   pub truncated : Bool
   pub end : IsEnd order rest (end_of truncated)
-  pub is : IsOwnReport options text wording policy own (packets_at 0 packets) truncated totals report
+  pub is : IsOwnReport options text note wording policy own (packets_at 0 packets) truncated totals report
   pub count : length is.verdicts ≡ length (own_packets own 1 (packets_at 0 packets))
 
 -- a write failed behind a front of it
-pub record HasCutOwn (options : Options) (text : List ℕ) (wording : Wording) (policy : PolicyFacts) (own : Own) (order : Order)
+pub record HasCutOwn (options : Options) (text : List ℕ) (note : Note) (wording : Wording) (policy : PolicyFacts) (own : Own) (order : Order)
     (before after old new : Option (List ℕ)) (fault : Fault) : Type 0 where
   pub failed : fault ≡ Write
   pub totals : Totals
   pub report : List ℕ
-  pub is : IsOwnReportBehind options text wording policy own order before after totals report
+  pub is : IsOwnReportBehind options text note wording policy own order before after totals report
   pub front : GotFront old new report
 
 -- or it was written, and what saves packets was given all records
-pub record HasToldOwn {K : Type 0} (options : Options) (text : List ℕ) (manner : Manner K) (policy : PolicyFacts) (own : Own) (order : Order)
+pub record HasToldOwn {K : Type 0} (options : Options) (text : List ℕ) (note : Note) (manner : Manner K) (policy : PolicyFacts) (own : Own) (order : Order)
     (before after : Option (List ℕ)) (old new : Outputs K) (totals : Totals) : Type 0 where
   pub report : List ℕ
-  pub is : IsOwnReportBehind options text manner.wording policy own order before after totals report
+  pub is : IsOwnReportBehind options text note manner.wording policy own order before after totals report
   pub written : Appends old.report new.report report
   pub whole : List ℕ
   pub spelt : is.read ≡ whole ++ is.rest
@@ -73,9 +81,9 @@ pub record HasToldOwn {K : Type 0} (options : Options) (text : List ℕ) (manner
   pub saved : manner.saved old.saver order whole verdicts new.saver
 
 -- so, or why it wasn't
-abbrev pub TellsOwn : {K : Type 0} → Type 0 → Options → List ℕ → Manner K → PolicyFacts → Own → Order → Option (List ℕ) → Option (List ℕ) → Outputs K → Outputs K
+abbrev pub TellsOwn : {K : Type 0} → Type 0 → Options → List ℕ → Note → Manner K → PolicyFacts → Own → Order → Option (List ℕ) → Option (List ℕ) → Outputs K → Outputs K
     → Result Totals Fault → Type 0
-TellsOwn T options text manner policy own order before after old new result =
-    MatchResult result (HasToldOwn options text manner policy own order before after old new)
+TellsOwn T options text note manner policy own order before after old new result =
+    MatchResult result (HasToldOwn options text note manner policy own order before after old new)
     (λ fault. IsOwnFault T options manner policy own order before after old new fault
-    ⊎ HasCutOwn options text manner.wording policy own order before after old.report new.report fault)
+    ⊎ HasCutOwn options text note manner.wording policy own order before after old.report new.report fault)

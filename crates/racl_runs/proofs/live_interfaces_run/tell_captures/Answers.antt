@@ -1,8 +1,8 @@
-use Rattle.std.proofs.Common.{inl, rules}
+use Rattle.std.proofs.Common.{◌∙◌, inl, refl, rules}
 use Rattle.acl_policy.specs.Policies.{policy_facts}
 use Rattle.racl_runs.specs.LiveRuns.{AreFirstVerdicts}
 use Rattle.racl_runs.proofs.CountedLemmas.{may_tell_behind}
-use Rattle.racl_runs.proofs.LiveInterfaceLemmas.{all_told, coming_fault, end_fault, end_refused, none_came_as}
+use Rattle.racl_runs.proofs.LiveInterfaceLemmas.{all_told, coming_fault, end_fault, end_refused, latest_of_turns, none_came_as}
 use Rattle.racl_runs.proofs.LiveLemmas.{as_asked}
 use Rattle.racl_runs.proofs.live_interfaces_run.tell_captures.Goals as goal
 
@@ -17,7 +17,7 @@ returns-in_default-workers_over-clause-told g c =
     (g.A.Arrivals.parts c.args.arrivals.now) (g.W.Sink.bytes c.args.writer.now) c.placeless-in_default-workers_over.result c.placeless-in_default-workers_over.ensures)
 
 pub tell_arrivals-requires-clause-begun : goal.tell_arrivals-requires-clause-begun
-tell_arrivals-requires-clause-begun g c = (search rules, c.in-Ok-workers_over.ensures.none)
+tell_arrivals-requires-clause-begun g c = record { became = (search rules, c.in-Ok-workers_over.ensures.none); noted = refl; latest = λ noted. refl }
 
 pub tell_arrivals-requires-clause-counts : goal.tell_arrivals-requires-clause-counts
 tell_arrivals-requires-clause-counts g c begun packets said are = are.count
@@ -27,13 +27,13 @@ returns-in-Err-clause-told g c =
     inl (coming_fault c.args.way _ _ c.in-Ok-workers_over.ensures (as_asked c.in-Ok.ensures.asked c.ages_early-ages.ensures) c.requires.sound.0 (g.L.Teller.wording c.args.teller.now) _ _ _ _ c.in-Err.found c.in-Err.ensures.told)
 
 pub end-requires : goal.end-requires
-end-requires g c = (_, _, _, _, c.in-Ok-tell_arrivals.ensures.told.stand.1)
+end-requires g c = (_, _, _, _, c.in-Ok-tell_arrivals.ensures.told.stand.became.1)
 
 pub told_behind_live-requires : goal.told_behind_live-requires
 told_behind_live-requires g c =
     let all = c.in-Ok-tell_arrivals.ensures.told in
     let asked = as_asked c.in-Ok.ensures.asked c.ages_early-ages.ensures in
-    let may = may_tell_behind c.args.way _ c.in-Ok-workers_over.judges _ _ _ _ c.requires.says c.requires.sound.0 asked c.in-Ok-workers_over.ensures (c.in-Ok-end.ensures _ _ _ _ all.stand.1) in
+    let may = may_tell_behind c.args.way _ c.in-Ok-workers_over.inner _ _ _ _ c.requires.says c.requires.sound.0 asked c.in-Ok-workers_over.ensures (c.in-Ok-end.ensures _ _ _ _ all.stand.became.1) in
     (_, _, may)
 
 pub returns-in_default-end-clause-told : goal.returns-in_default-end-clause-told
@@ -50,15 +50,19 @@ pub returns-in-Ok-tell_end_of_captures-clause-told : goal.returns-in-Ok-tell_end
 returns-in-Ok-tell_end_of_captures-clause-told g c =
     let all = c.in-Ok-tell_arrivals.ensures.told in
     let asked = as_asked c.in-Ok.ensures.asked c.ages_early-ages.ensures in
-    let may = may_tell_behind c.args.way _ c.in-Ok-workers_over.judges _ _ _ _ c.requires.says c.requires.sound.0 asked c.in-Ok-workers_over.ensures (c.in-Ok-end.ensures _ _ _ _ all.stand.1) in
+    let may = may_tell_behind c.args.way _ c.in-Ok-workers_over.inner _ _ _ _ c.requires.says c.requires.sound.0 asked c.in-Ok-workers_over.ensures (c.in-Ok-end.ensures _ _ _ _ all.stand.became.1) in
+    let latest = latest_of_turns c.args.way _ _ c.in-Ok-workers_over.ensures (as_asked c.in-Ok.ensures.asked c.ages_early-ages.ensures) c.requires.sound.0 (g.L.Teller.wording c.args.teller.now) _ _ _ _
+    c.in-Ok-tell_arrivals.told all in
     all_told c.args.way _ _ c.in-Ok-workers_over.ensures (as_asked c.in-Ok.ensures.asked c.ages_early-ages.ensures) c.requires.sound.0 (g.L.Teller.wording c.args.teller.now) _ _ _ _ c.in-Ok-tell_arrivals.told all _
-    (c.in-Ok-told_behind_live.ensures _ _ may) _ c.deref.result.now c.deref.ensures.value c.in-Ok-tell_end_of_captures.ensures.0
+    (c.in-Ok-told_behind_live.ensures _ _ _ may (λ kept. latest (c.keeps_stored.ensures ∙ kept) refl)) _ c.deref.result.now c.deref.ensures.value c.in-Ok-tell_end_of_captures.ensures.0
 
 pub returns-clause-told : goal.returns-clause-told
 returns-clause-told g c =
     let all = c.in-Ok-tell_arrivals.ensures.told in
     let asked = as_asked c.in-Ok.ensures.asked c.ages_early-ages.ensures in
-    let may = may_tell_behind c.args.way _ c.in-Ok-workers_over.judges _ _ _ _ c.requires.says c.requires.sound.0 asked c.in-Ok-workers_over.ensures (c.in-Ok-end.ensures _ _ _ _ all.stand.1) in
+    let may = may_tell_behind c.args.way _ c.in-Ok-workers_over.inner _ _ _ _ c.requires.says c.requires.sound.0 asked c.in-Ok-workers_over.ensures (c.in-Ok-end.ensures _ _ _ _ all.stand.became.1) in
+    let latest = latest_of_turns c.args.way _ _ c.in-Ok-workers_over.ensures (as_asked c.in-Ok.ensures.asked c.ages_early-ages.ensures) c.requires.sound.0 (g.L.Teller.wording c.args.teller.now) _ _ _ _
+    c.in-Ok-tell_arrivals.told all in
     end_fault c.args.way _ _ c.in-Ok-workers_over.ensures (as_asked c.in-Ok.ensures.asked c.ages_early-ages.ensures) c.requires.sound.0 (g.L.Teller.wording c.args.teller.now) _ _ _ _ c.in-Ok-tell_arrivals.told all _
-    (c.in-Ok-told_behind_live.ensures _ _ may) _ c.deref.result.now c.deref.ensures.value c.placeless-in-Err-tell_end_of_captures.result c.in-Err-tell_end_of_captures.fault
+    (c.in-Ok-told_behind_live.ensures _ _ _ may (λ kept. latest (c.keeps_stored.ensures ∙ kept) refl)) _ c.deref.result.now c.deref.ensures.value c.placeless-in-Err-tell_end_of_captures.result c.in-Err-tell_end_of_captures.fault
     c.placeless-in-Err-tell_end_of_captures.ensures c.in-Err-tell_end_of_captures.ensures.0

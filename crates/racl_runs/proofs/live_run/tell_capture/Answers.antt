@@ -1,13 +1,15 @@
-use Rattle.std.proofs.Common.{[], inl, refl, rules}
+use Rattle.std.proofs.Common.{◌∙◌, ◌++◌, ℕ, List, [], ap, inl, refl, rules}
+use Rattle.std.proofs.lemmas.Option.{IfSome-weaker}
 use Rattle.acl_policy.specs.Policies.{policy_facts}
 use Rattle.capture_stream.specs.Savings.{manner_of, outputs}
 use Rattle.capture_stream.proofs.TellLemmas.{failed_since, none_told, report_failed}
 use Rattle.capture_shards.specs.Sharing.{shard_wording}
 use Rattle.capture_shards.specs.inner.OwnTests.{own_among}
 use Rattle.racl_runs.specs.ShardRuns.{AreFirstOwn, own_manner}
+use Rattle.racl_runs.specs.inner.OwnRuns.{note_for}
 use Rattle.racl_runs.proofs.CountedLemmas.{may_tell_behind}
 use Rattle.racl_runs.proofs.LiveLemmas.{as_asked}
-use Rattle.racl_runs.proofs.OwnEndLemmas.{few_pass, own_end_fault, own_end_told, own_fault, own_unwritten, said_counts}
+use Rattle.racl_runs.proofs.OwnEndLemmas.{few_pass, latest_of_all, note_same, own_end_fault, own_end_told, own_fault, own_unwritten, said_counts, seen_all}
 use Rattle.racl_runs.proofs.live_run.tell_capture.Goals as goal
 
 pub returns-in_default-clause-told : goal.returns-in_default-clause-told
@@ -26,13 +28,17 @@ returns-in_default-workers_over-clause-told g c =
 
 pub tell_live-requires-clause-begun : goal.tell_live-requires-clause-begun
 tell_live-requires-clause-begun g c = record {
-  said = [];
-  became = (search rules, c.in-Ok-workers_over.ensures.none);
-  each = λ counts. refl;
-  spread = λ counts. record { mine = refl; passing = refl; lacking = refl };
-  shard = refl;
-  seen = refl;
-  own = refl;
+  became = record {
+    said = [];
+    became = (search rules, c.in-Ok-workers_over.ensures.none);
+    each = λ counts. refl;
+    spread = λ counts. record { mine = refl; passing = refl; lacking = refl };
+    shard = refl;
+    seen = refl;
+    own = refl;
+  };
+  noted = refl;
+  latest = λ noted. refl;
 }
 
 pub tell_live-requires-clause-counts : goal.tell_live-requires-clause-counts
@@ -44,14 +50,14 @@ returns-in-Err-clause-told g c =
     _ _ _ _ _ c.in-Err.fault c.in-Err.ensures.told)
 
 pub end-requires : goal.end-requires
-end-requires g c = (_, _, _, _, c.in-Ok-tell_live.ensures.told.stand.became.1)
+end-requires g c = (_, _, _, _, c.in-Ok-tell_live.ensures.told.stand.became.became.1)
 
 pub told_behind_live-requires : goal.told_behind_live-requires
 told_behind_live-requires g c =
     let all = c.in-Ok-tell_live.ensures.told in
     let asked = as_asked c.in-Ok.ensures.asked c.ages_early-ages.ensures in
     let may = may_tell_behind c.args.head.way _ c.in-Ok-workers_over.inner _ _ _ _ c.requires.says c.requires.sound.0 asked c.in-Ok-workers_over.ensures
-    (c.in-Ok-end.ensures _ _ _ _ all.stand.became.1) in
+    (c.in-Ok-end.ensures _ _ _ _ all.stand.became.became.1) in
     (_, _, may)
 
 pub returns-in_default-end-clause-told : goal.returns-in_default-end-clause-told
@@ -74,9 +80,18 @@ returns-in-Ok-tell_end_behind-clause-told g c =
     let all = c.in-Ok-tell_live.ensures.told in
     let asked = as_asked c.in-Ok.ensures.asked c.ages_early-ages.ensures in
     let may = may_tell_behind c.args.head.way _ c.in-Ok-workers_over.inner _ _ _ _ c.requires.says c.requires.sound.0 asked c.in-Ok-workers_over.ensures
-    (c.in-Ok-end.ensures _ _ _ _ all.stand.became.1) in
+    (c.in-Ok-end.ensures _ _ _ _ all.stand.became.became.1) in
+    let latest = latest_of_all c.args.head.way _ _ c.in-Ok-workers_over.ensures (as_asked c.in-Ok.ensures.asked c.ages_early-ages.ensures) c.requires.sound.0 (g.L.Teller.wording c.args.lines) g.K.Saver.saved
+    _ _ _ _ _ c.in-Ok-tell_live.told all in
+    let seen = seen_all c.args.head.way _ _ c.in-Ok-workers_over.ensures (as_asked c.in-Ok.ensures.asked c.ages_early-ages.ensures) c.requires.sound.0 (g.L.Teller.wording c.args.lines) g.K.Saver.saved
+    _ _ _ _ _ c.in-Ok-tell_live.told all in
+    let text = c.in-Ok-noted_behind.ensures
+    ∙ ap (λ (n : List ℕ). n ++ (c.in-Ok-told_behind_live.behind.hits.items ++ c.in-Ok-told_behind_live.behind.sessions.items))
+    (note_same c.args.head.way.options.now c.args.head.shard _ _ _ _ seen
+    (IfSome-weaker c.args.head.shard _ _ (λ shard noted. latest noted refl) c.notes_latest.ensures.shard)) in
     own_end_told c.args.head.way _ _ c.in-Ok-workers_over.ensures (as_asked c.in-Ok.ensures.asked c.ages_early-ages.ensures) c.requires.sound.0 (g.L.Teller.wording c.args.lines) g.K.Saver.saved
-    _ _ _ _ _ c.in-Ok-tell_live.told all _ (c.in-Ok-told_behind_live.ensures _ _ may) _
+    _ _ _ _ _ c.in-Ok-tell_live.told all (note_for c.args.head.way.options.now c.args.head.shard) _ _
+    (c.in-Ok-told_behind_live.ensures _ _ _ may (λ kept. latest (c.notes_latest.ensures.stored kept) refl)) text _
     (shard_wording (own_among c.tell_live.new.teller.shard) (g.L.Teller.wording c.tell_live.new.teller.inner)) c.totals_over-totals.result
     c.totals_over-totals.ensures c.in-Ok-tell_live.ensures.same c.in-Ok-tell_end_behind.ensures.0
 
@@ -85,9 +100,18 @@ returns-clause-told g c =
     let all = c.in-Ok-tell_live.ensures.told in
     let asked = as_asked c.in-Ok.ensures.asked c.ages_early-ages.ensures in
     let may = may_tell_behind c.args.head.way _ c.in-Ok-workers_over.inner _ _ _ _ c.requires.says c.requires.sound.0 asked c.in-Ok-workers_over.ensures
-    (c.in-Ok-end.ensures _ _ _ _ all.stand.became.1) in
+    (c.in-Ok-end.ensures _ _ _ _ all.stand.became.became.1) in
+    let latest = latest_of_all c.args.head.way _ _ c.in-Ok-workers_over.ensures (as_asked c.in-Ok.ensures.asked c.ages_early-ages.ensures) c.requires.sound.0 (g.L.Teller.wording c.args.lines) g.K.Saver.saved
+    _ _ _ _ _ c.in-Ok-tell_live.told all in
+    let seen = seen_all c.args.head.way _ _ c.in-Ok-workers_over.ensures (as_asked c.in-Ok.ensures.asked c.ages_early-ages.ensures) c.requires.sound.0 (g.L.Teller.wording c.args.lines) g.K.Saver.saved
+    _ _ _ _ _ c.in-Ok-tell_live.told all in
+    let text = c.in-Ok-noted_behind.ensures
+    ∙ ap (λ (n : List ℕ). n ++ (c.in-Ok-told_behind_live.behind.hits.items ++ c.in-Ok-told_behind_live.behind.sessions.items))
+    (note_same c.args.head.way.options.now c.args.head.shard _ _ _ _ seen
+    (IfSome-weaker c.args.head.shard _ _ (λ shard noted. latest noted refl) c.notes_latest.ensures.shard)) in
     own_end_fault c.args.head.way _ _ c.in-Ok-workers_over.ensures (as_asked c.in-Ok.ensures.asked c.ages_early-ages.ensures) c.requires.sound.0 (g.L.Teller.wording c.args.lines) g.K.Saver.saved
-    _ _ _ _ _ c.in-Ok-tell_live.told all _ (c.in-Ok-told_behind_live.ensures _ _ may) _ c.in-Err-tell_end_behind.fault
+    _ _ _ _ _ c.in-Ok-tell_live.told all (note_for c.args.head.way.options.now c.args.head.shard) _ _
+    (c.in-Ok-told_behind_live.ensures _ _ _ may (λ kept. latest (c.notes_latest.ensures.stored kept) refl)) text _ c.in-Err-tell_end_behind.fault
     (shard_wording (own_among c.tell_live.new.teller.shard) (g.L.Teller.wording c.tell_live.new.teller.inner)) c.totals_over-totals.result
     c.totals_over-totals.ensures c.in-Ok-tell_live.ensures.same c.in-Err-tell_end_behind.ensures.0
 
@@ -96,3 +120,8 @@ returns-clause-write g c =
     let (written, saved) = c.in-Ok-tell_live.ensures.write in
     failed_since _ _ _ _ _ _ c.in-Err-tell_end_behind.fault written saved
     (report_failed _ _ _ c.in-Err-tell_end_behind.fault c.in-Err-tell_end_behind.ensures.1)
+
+pub returns-in_default-noted_behind-clause-told : goal.returns-in_default-noted_behind-clause-told
+returns-in_default-noted_behind-clause-told g c =
+    inl (own_unwritten c.args.head.way _ _ c.in-Ok-workers_over.ensures (as_asked c.in-Ok.ensures.asked c.ages_early-ages.ensures) c.requires.sound.0 (g.L.Teller.wording c.args.lines) g.K.Saver.saved
+    _ _ _ _ _ c.in-Ok-tell_live.told c.in-Ok-tell_live.ensures.told)

@@ -1,5 +1,8 @@
-use Rattle.std.proofs.Common.{◌∙◌}
+use Rattle.std.proofs.Common.{◌∙◌, Bool, ap, subst}
 use Rattle.std.proofs.lemmas.Result.{IfOk-weaker}
+use Rattle.racl_runs.specs.Crews.{size_of, views_with}
+use Rattle.racl_runs.specs.Runs.{AreToldOf, layout_for}
+use Rattle.racl_views.specs.Stored.{stored_facts}
 use Rattle.racl_runs.proofs.CountedLemmas.{ended_idle, told_behind}
 use Rattle.racl_runs.proofs.live_run.told_behind_live.Goals as goal
 
@@ -9,6 +12,10 @@ stored_of-requires g = let (packets, said, may) = g.requires in ended_idle g.arg
 pub returns : goal.returns
 returns g =
     IfOk-weaker g.behind_totals.result _ _
-    (λ behind is packets said may. told_behind g.args.way g.args.tables packets said g.args.counts.now g.args.callers _ behind may
-    (λ asked. g.in_ok-stored.ensures (g.keeps_stored.ensures ∙ asked)) is)
+    (λ behind is packets said second may same. told_behind g.args.way g.args.tables packets said g.args.counts.now g.args.callers _ behind g.args.latest second may
+    (λ asked.
+    subst
+    (λ (ages : Bool). AreToldOf (layout_for (size_of g.args.tables)) g.args.way.options.now.times ages g.args.latest (views_with g.args.callers) (stored_facts g.in_ok-stored.stored))
+    g.ages_early.ensures (g.in_ok-stored.ensures (g.keeps_stored.ensures ∙ asked)))
+    is same)
     g.behind_totals.ensures

@@ -40,7 +40,7 @@ returns-clause-told g c =
     (ready_says c.in-Ok-ready_with.ensures.policy c.in-Ok.ensures.ok) c.in-Ok-keep_header.order header c.args.saves.now.files _ c.tell_capture-told.new.saver
     (given_files _ _ _ _ _ _ (c.as_slice.ensures.value ∙ sym kept) c.swap.ensures.y_after c.in-Ok-begin.ensures.got.0)
     (own_asked options c.args.asked.shard _ (subst (IsShardOver options.tables c.args.asked.shard) (sym c.saver_over-saver.ensures.0) c.shard_over-shard.ensures))
-    _ _ _ c.tell_capture-told.result c.saver_over-saver.ensures.0 c.swap-2.ensures.x_after c.in-Ok-new.ensures c.tell_capture-told.ensures.told
+    _ _ _ c.tell_capture-told.result c.saver_over-saver.ensures.0 c.swap-2.ensures.x_after c.shard_over-shard.ensures c.in-Ok-new.ensures c.tell_capture-told.ensures.told
 
 pub returns-in-Err-begin-clause-write : goal.returns-in-Err-begin-clause-write
 returns-in-Err-begin-clause-write g c = saver_failed _ _ _ _ c.in-Err-begin.fault refl c.in-Err-begin.ensures.failed.1 c.in-Err-begin.ensures.failed.2

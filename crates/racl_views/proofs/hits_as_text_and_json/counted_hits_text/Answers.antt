@@ -24,7 +24,7 @@ returns c = λ run text says have.
     ∙ (λ i. record {
       entered = have.entered i;
       matched = have.reasons.session i;
-      expired = have.entered i - live_stored c.args.times (have.latest i) stored;
+      expired = have.entered i - live_stored c.args.times c.args.latest stored;
     })) in
     record {
       rules = c.in_ok-rules.rules.items;

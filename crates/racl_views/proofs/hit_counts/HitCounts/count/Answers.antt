@@ -1,9 +1,8 @@
-use Rattle.std.proofs.Common.{◌∙◌, ◌++◌, ap, arith, max, sym}
+use Rattle.std.proofs.Common.{◌++◌, arith}
 use Rattle.std.proofs.lemmas.List.{length-append}
 use Rattle.packet_view.specs.CheckedCaptures.{remaining}
 use Rattle.acl_policy.specs.Policies.{policy_facts}
-use Rattle.racl_views.specs.Hits.{latest_second}
-use Rattle.racl_views.proofs.CountLemmas.{decided_both, entries_both, hits_both, latest_both}
+use Rattle.racl_views.proofs.CountLemmas.{decided_both, entries_both, hits_both}
 use Rattle.racl_views.proofs.hit_counts.HitCounts.count.Goals as goal
 
 pub returns : goal.returns
@@ -19,5 +18,4 @@ returns c = λ packets said have each.
       few = λ place. let now = more.few place in let old = have.few place in let both = length-append said verdicts in omega arith;
       reasons = c.count_reasons.ensures said have.reasons;
       entered = let old = have.entered in let now = c.count_session_entries.ensures in let both = entries_both said verdicts in omega arith;
-      latest = c.latest_count_second-self.ensures ∙ ap (λ n. max n (latest_second later)) have.latest ∙ sym (latest_both packets later);
     }

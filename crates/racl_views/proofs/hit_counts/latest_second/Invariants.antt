@@ -1,7 +1,7 @@
 use Rattle.std.proofs.Common.{◌≡◌, length, max}
 use Rattle.packet_view.specs.CheckedCaptures.{remaining}
 use Rattle.racl_views.specs.Hits.{latest_second}
-use Rattle.racl_views.proofs.hit_counts.latest_count_second.Given as goal
+use Rattle.racl_views.proofs.hit_counts.latest_second.Given as goal
 
 -- of the latest so far and those that are left
 abbrev pub invariant-packets : goal.invariant-packets
