@@ -5,6 +5,7 @@ pub mod DealtLists
 pub mod FewPackets
 pub mod FewRemovals
 pub mod HandedPackets
+pub mod KeptSessions
 pub mod ListCounts
 pub mod OneOwner
 pub mod OneReport

@@ -102,7 +102,7 @@ module _ (d : Deal) (times : Timeouts) (policy : PolicyFacts) (packets : List Pa
       runs_at d times home.family home.bucket o.0 o.1 are.steps
       (view_in are.views home.family) recorded (subst (All (IsAsked times)) (sym are.packets_are) are.asked) by inside
 
-  aged_by_one : (d.dealing ≡ Bucket) ⊎ (d.workers ≡ 1) → HavePages verdicts → RemoveInTime d are.steps
+  pub aged_by_one : (d.dealing ≡ Bucket) ⊎ (d.workers ≡ 1) → HavePages verdicts → RemoveInTime d are.steps
       → IsAgedThread d.layout times nothing are.steps
   aged_by_one one paged in_time = record {
     right = right_steps times are.steps (subst (All (IsAsked times)) (sym are.packets_are) are.asked)
@@ -169,22 +169,27 @@ pub packets_counted : (d : Deal) (times : Timeouts) (policy : PolicyFacts) (pack
 packets_counted d times policy packets verdicts removals are =
     ap length are.packets_are ∙ sym (readings_counted are.judged) ∙ sym (zip_count (IsReading policy) packets (readings_of are.judged) are.read)
 
+-- they remove in time
+pub removed_in_time : (d : Deal) (times : Timeouts) (ages : Bool) (policy : PolicyFacts) (packets : List PacketFacts)
+    (verdicts : List Verdict) (v : Views) (are : AreJudgedAgeing d times ages policy packets verdicts v) → AreInTimeOrder packets
+    → AreWithinLimit d packets are.removals → RemoveInTime d are.judged.steps
+removed_in_time d times ages policy packets verdicts v are order few = record {
+  own = subst (All (IsByOwner d)) (sym are.judged.removals_are) are.own;
+  in_time = are.in_time order;
+  few = λ family. subst (λ n. n ≤ (bounds_in d.layout family).limit) (sym count) (few family);
+}
+  where
+    count : length are.judged.steps ≡ length packets + length are.removals
+    count =
+        let n = step_count are.judged.steps in
+        let p = packets_counted d times policy packets verdicts are.removals are.judged in
+        let r = ap length are.judged.removals_are in
+        omega arith
+
 pub one_report_ageing : (d : Deal) (times : Timeouts) (ages : Bool) (policy : PolicyFacts) (packets : List PacketFacts)
     (verdicts : List Verdict) (v : Views) (are : AreJudgedAgeing d times ages policy packets verdicts v)
     → (d.dealing ≡ Bucket) ⊎ (d.workers ≡ 1) → HavePages verdicts → AreInTimeOrder packets
     → AreWithinLimit d packets are.removals → AreVerdicts d.layout times policy packets verdicts
 one_report_ageing d times ages policy packets verdicts v are one paged order few =
-    one_aged_report d times policy packets verdicts are.removals are.judged one paged (record {
-      own = subst (All (IsByOwner d)) (sym are.judged.removals_are) are.own;
-      in_time = are.in_time order;
-      few = λ family. subst (λ n. n ≤ (bounds_in d.layout family).limit) (sym count) (few family);
-    })
-  where
-    count : length are.judged.steps ≡ length packets + length are.removals
-    count =
-        let n = step_count are.judged.steps in
-        let p = ap length are.judged.packets_are in
-        let r = ap length are.judged.removals_are in
-        let q = zip_count (IsReading policy) packets (readings_of are.judged.judged) are.judged.read in
-        let k = readings_counted are.judged.judged in
-        omega arith
+    one_aged_report d times policy packets verdicts are.removals are.judged one paged
+    (removed_in_time d times ages policy packets verdicts v are order few)

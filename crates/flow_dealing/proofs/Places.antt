@@ -1,5 +1,6 @@
 -- Where the elements of lists stand.
-use Rattle.std.proofs.Common.{◌≡◌, ◌∙◌, ℕ, zero, suc, Bool, true, false, cond, List, [], ◌∷◌, ◌++◌, length, map, ap, refl, sym, subst}
+use Rattle.std.proofs.Common.{◌≡◌, ◌∙◌, ℕ, zero, suc, Bool, true, false, cond, List, [], ◌∷◌, ◌++◌, length, map, Some, ap, refl, sym, subst}
+use Rattle.std.specs.Prelude.{slice_get}
 use Rattle.std.specs.List.{All, AllZip, filter}
 use Rattle.std.proofs.lemmas.List.Elements.{All-cons, All-head, All-nil, All-tail}
 use lib.ListN.{get_elem?}
@@ -10,6 +11,11 @@ module _ {X : Type 0} where
   all_at P [] k x all at = absurd (some-ne-none x (sym at))
   all_at P (y ∷ ys) zero x all at = subst P (some-injective y x at) (All-head P y ys all)
   all_at P (y ∷ ys) (suc k) x all at = all_at P ys k x (All-tail P y ys all) at
+
+  pub all_of : (P : X → Type 0) (xs : List X) (k : ℕ) (x : X) → All P xs → slice_get xs k ≡ Some x → P x
+  all_of P [] k x all at = let f : ⊥ = cc in absurd f
+  all_of P (y ∷ ys) zero x all at = let same : y ≡ x = cc in subst P same (All-head P y ys all)
+  all_of P (y ∷ ys) (suc k) x all at = all_of P ys k x (All-tail P y ys all) at
 
   pub all_from : (P : X → Type 0) (xs : List X) → ((k : ℕ) (x : X) → get_elem? xs k ≡ some x → P x) → All P xs
   all_from P [] each = All-nil P

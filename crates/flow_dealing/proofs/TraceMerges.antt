@@ -23,10 +23,10 @@ use Rattle.flow_filter.proofs.AgeingMaps.{later_by}
 use Rattle.flow_dealing.specs.Dealings.{Deal}
 use Rattle.flow_dealing.specs.Traces.{ArePlaced, AreFrames, Item, judged_of}
 use Rattle.flow_dealing.specs.AgeingTraces.{Aged, AreAllDeeds, Deed, HaveDone, IsRemovalOf, aged_in, calls_by, items_in, removal_by}
-use Rattle.flow_dealing.specs.WorkerRecords.{AreInTimeOrder, AreJudgedAgeing, AreJudgedBetween, AreJudgedBy, HasLongExpired, IsByOwner, removal_delay}
+use Rattle.flow_dealing.specs.WorkerRecords.{AreInTimeOrder, AreJudgedAgeing, AreJudgedBetween, AreJudgedBy, AreUntil, HasLongExpired, IsByOwner, removal_delay}
 use Rattle.flow_dealing.proofs.AgeingMerges.{AreStepped, IsLeftOf, never_fall_from, step_all}
 use Rattle.flow_dealing.proofs.DealtEvents.{IsOwn, IsSaid, all_views, own_items, same_list}
-use Rattle.flow_dealing.proofs.Places.{after_map, all_at, all_from, zip_count}
+use Rattle.flow_dealing.proofs.Places.{after_map, all_at, all_from, all_of, zip_count}
 
 -- ---- Lists of workers
 
@@ -121,6 +121,7 @@ module _ (d : Deal) (times : Timeouts) (ages : Bool) (policy : PolicyFacts) (pac
     may : ages ≡ true
     late : HasLongExpired times r
     own : IsByOwner d r
+    timed : (latest : ℕ) → AreUntil latest packets → r.moment ≤ latest
 
   known_in : (w : ℕ) (a : Aged) → IsKnownOf w a → IsKnownIn (removal_by w a)
   known_in w a known = record {
@@ -128,6 +129,8 @@ module _ (d : Deal) (times : Timeouts) (ages : Bool) (policy : PolicyFacts) (pac
     may = known.is.may;
     late = known.is.late;
     own = known.is.own;
+    timed = λ latest until. subst (λ n. n ≤ latest) (sym known.is.timed)
+        (all_of (λ p. p.moment ≤ latest) packets a.behind known.is.packet until known.is.there);
   }
 
   keeps : AreInTimeOrder packets → (k : ℕ) (packet : PacketFacts) → slice_get packets k ≡ Some packet
@@ -205,6 +208,8 @@ module _ (d : Deal) (times : Timeouts) (ages : Bool) (policy : PolicyFacts) (pac
           (All-weaker IsKnownIn (λ r. ⊥) (λ r known. let f : ⊥ = (let may = known.may in cc) in f) (removals_in m.steps) m.removed);
       own = All-weaker IsKnownIn (IsByOwner d) (λ r known. known.own) (removals_in m.steps) m.removed;
       late = All-weaker IsKnownIn (HasLongExpired times) (λ r known. known.late) (removals_in m.steps) m.removed;
+      timed = λ latest until.
+          All-weaker IsKnownIn (λ r. r.moment ≤ latest) (λ r known. known.timed latest until) (removals_in m.steps) m.removed;
       in_time = λ order. never_fall_from 0 (clock_from 0 packets 0) (map moment_of m.steps) (omega arith) (m.in_time order);
     }
 

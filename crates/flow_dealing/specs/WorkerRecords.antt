@@ -124,9 +124,13 @@ HasLongExpired times r = IsOfExpired times (record r { moment = r.moment - remov
 abbrev pub AreInTimeOrder : List PacketFacts → Type 0
 AreInTimeOrder packets = NeverFall 0 (map (λ p. Some p.moment) packets)
 
+-- none of these packets is later than this
+abbrev pub AreUntil : ℕ → List PacketFacts → Type 0
+AreUntil latest packets = All (λ p. p.moment ≤ latest) packets
+
 -- The packets were judged by workers, and this is what all of them know together. Where they age, each removes, between its own
 -- packets, sessions of its own buckets that ended so long before that a packet which is late by less loses none; where they don't,
--- none is removed. Where the packets' moments never fall, those of all steps don't either.
+-- none is removed. No removal is later than the latest packet. Where the packets' moments never fall, those of all steps don't either.
 pub record AreJudgedAgeing (d : Deal) (times : Timeouts) (ages : Bool) (policy : PolicyFacts) (packets : List PacketFacts)
     (verdicts : List Verdict) (views : Views) : Type 0 where
   pub removals : List Removal
@@ -135,6 +139,7 @@ pub record AreJudgedAgeing (d : Deal) (times : Timeouts) (ages : Bool) (policy :
   pub none : ages ≡ false → removals ≡ []
   pub own : All (IsByOwner d) removals
   pub late : All (HasLongExpired times) removals
+  pub timed : (latest : ℕ) → AreUntil latest packets → All (λ r. r.moment ≤ latest) removals
   pub in_time : AreInTimeOrder packets → NeverFall 0 (map moment_of judged.steps)
 
 -- packets and removals are no more than the writes that a bucket may have

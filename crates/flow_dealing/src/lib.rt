@@ -23,6 +23,7 @@ pub use plain_sighting::{PlainSighting, see_plain};
 pub use tasks_in_threads::{Task, run_all};
 pub use worker_of_flow::{Dealing, worker_of};
 pub use worker_record_laws::{
-    ageing_workers_give_one_report, deeds_judge_each_packet, few_packets_have_pages,
-    packets_pass_at_their_places, workers_give_one_report,
+    ageing_workers_give_one_report, ageing_workers_keep_what_is_live, deeds_judge_each_packet,
+    few_packets_have_pages, packets_pass_at_their_places, removals_are_at_most_packets,
+    workers_give_one_report,
 };

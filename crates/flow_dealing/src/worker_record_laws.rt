@@ -1,21 +1,24 @@
 //! What traces and records of all workers mean for the verdicts.
 //!
 //! The functions do nothing: their contracts are the laws.
-ghost use Rattle.std.specs.Prelude.{◌≡◌, ◌⊎◌, ◌<◌, ◌≤◌, Bool, List, All, length, map};
+ghost use Rattle.std.specs.Prelude.{◌≡◌, ◌⊎◌, ◌<◌, ◌≤◌, ℕ, Bool, List, All, length, map};
 ghost use Rattle.packet_view.specs.Captures.{PacketFacts};
 ghost use Rattle.packet_view.specs.declared.tuple.Family.{Family};
 ghost use Rattle.acl_policy.specs.Policies.{PolicyFacts};
+ghost use Rattle.bihash_words.specs.Maps.{Pairs};
+ghost use Rattle.bihash_words.specs.Runs.{IsRun};
+ghost use Rattle.bihash_steps.specs.BucketSteps.{map_now};
 ghost use Rattle.session_state.specs.declared.timeouts.Timeouts.{Timeouts};
 ghost use Rattle.session_state.specs.declared.verdict.Verdict.{Verdict};
-ghost use Rattle.flow_filter.specs.Ageing.{Removal, Step};
-ghost use Rattle.flow_filter.specs.OneThread.{AreVerdicts};
+ghost use Rattle.flow_filter.specs.Ageing.{HoldSameLive, Removal, Step};
+ghost use Rattle.flow_filter.specs.OneThread.{AreVerdicts, Home, IsHome, bounds_in, events_at, nothing};
 ghost use Rattle.flow_dealing.specs.declared.worker_of_flow.Dealing.TheVariants.{Bucket};
 ghost use Rattle.flow_dealing.specs.Views.{Views, view_in};
 ghost use Rattle.flow_dealing.specs.AgeingTraces.{AreAllDeeds, Deed, HaveDone, items_in};
 ghost use Rattle.flow_dealing.specs.Dealings.{Deal};
 ghost use Rattle.flow_dealing.specs.Traces.{ArePlaced};
 ghost use Rattle.flow_dealing.specs.Places.{HaveOwnCalls, PassAtPlaces};
-ghost use Rattle.flow_dealing.specs.WorkerRecords.{AreFew, AreFewBetween, AreInTimeOrder, AreJudged, AreJudgedAgeing, AreJudgedBetween, AreWithinHalf, AreWithinLimit, HasPagesIn, HavePages, IsByOwner, RemoveInTime};
+ghost use Rattle.flow_dealing.specs.WorkerRecords.{AreFew, AreFewBetween, AreInTimeOrder, AreJudged, AreJudgedAgeing, AreJudgedBetween, AreUntil, AreWithinHalf, AreWithinLimit, HasPagesIn, HavePages, IsByOwner, RemoveInTime};
 
 /// Where each worker judged the packets that were dealt to it, and where workers age removed sessions that had ended between
 /// them, each packet was judged once, and its event and each removal's are in the record of its worker, in one order of steps.
@@ -51,6 +54,20 @@ pub fn ageing_workers_give_one_report()
         (verdicts : List Verdict) (v : Views) (are : AreJudgedAgeing d times ages policy packets verdicts v)
         → (d.dealing ≡ Bucket) ⊎ (d.workers ≡ 1) → HavePages verdicts → AreInTimeOrder packets
         → AreWithinLimit d packets are.removals → AreVerdicts d.layout times policy packets verdicts }
+{}
+
+/// By the records of all workers who age, with one worker or where packets are dealt by bucket, where no verdict says that pages were
+/// wanting, the packets' moments never fall, and packets and removals are no more than the writes that a bucket may have: at the
+/// latest moment of the packets, or a later one, each bucket's map, as all workers know it, holds the live sessions that the
+/// one-thread filter, which removes none, leaves there, and no other that is live.
+pub fn ageing_workers_keep_what_is_live()
+    ensures { (d : Deal) (times : Timeouts) (ages : Bool) (policy : PolicyFacts) (packets : List PacketFacts)
+        (verdicts : List Verdict) (v : Views) (are : AreJudgedAgeing d times ages policy packets verdicts v)
+        → (d.dealing ≡ Bucket) ⊎ (d.workers ≡ 1) → HavePages verdicts → AreInTimeOrder packets
+        → AreWithinLimit d packets are.removals → (moment : ℕ) → AreUntil moment packets
+        → (all : AreVerdicts d.layout times policy packets verdicts) (home : Home) → IsHome d.layout home → (last : Pairs) (writes : ℕ)
+        → IsRun (bounds_in d.layout home.family) (nothing home) 0 (events_at d.layout home all.judged) last writes
+        → HoldSameLive times moment last (map_now (view_in v home.family) home.bucket) }
 {}
 
 /// By the records of all workers, with one worker or where packets are dealt by bucket, and where each session is removed by the worker

@@ -1,5 +1,5 @@
 -- The pairs of a table whose keys are lists of words, whatever its shape.
-use Rattle.std.specs.Prelude.{◌≡◌, ◌<◌, ℕ, List, Contains, Some, map}
+use Rattle.std.specs.Prelude.{◌≡◌, ◌<◌, ◌↔◌, ℕ, false, List, Contains, Some, map}
 use Rattle.std.specs.FinMap.{get}
 use Rattle.std.specs.Ordering.{nat_cmp}
 use Rattle.std.specs.Cmp.Lexicographic.{slice_cmp}
@@ -10,6 +10,8 @@ use Rattle.bihash_words.specs.Sizes.{Sizes, bucket_of}
 use Rattle.bihash_rule.specs.Words.{buckets}
 use Rattle.bihash_rule.specs.declared.view.Known.{Known}
 use Rattle.bihash_table.specs.Closing.{map_in}
+use Rattle.session_state.specs.declared.timeouts.Timeouts.{Timeouts}
+use Rattle.session_state.specs.Sessions.{is_expired_at}
 use Rattle.flow_filter.specs.Judged.{Judged}
 use Rattle.flow_filter.specs.OneThread.{Home, Layout, bounds_in, events_at, nothing, sizes_in}
 
@@ -35,3 +37,21 @@ pub record AreLeft (l : Layout) (judged : List Judged) (home : Home) (pairs : Li
   pub kept : (key : List ℕ) (value : ℕ) → Contains pairs (key, value)
       → bucket_of (sizes_in l home.family) key ≡ home.bucket → get last key ≡ Some value
   pub all : (key : List ℕ) (value : ℕ) → get last key ≡ Some value → Contains pairs (key, value)
+
+-- of these pairs, those whose sessions are live at this moment
+abbrev pub AreLiveOf : Timeouts → ℕ → List (List ℕ × ℕ) → List (List ℕ × ℕ) → Type 0
+AreLiveOf times moment stored pairs = (key : List ℕ) (value : ℕ)
+    → Contains pairs (key, value) ↔ (Contains stored (key, value) × (is_expired_at times moment value ≡ false))
+
+-- Of a family's pairs, those of this bucket are the ones that are live at this moment of the map to which the one-thread filter
+-- comes there by these packets, where no bucket held anything at first.
+pub record AreLiveLeft (l : Layout) (times : Timeouts) (moment : ℕ) (judged : List Judged) (home : Home)
+    (pairs : List (List ℕ × ℕ)) : Type 0 where
+  pub last : Pairs
+  pub writes : ℕ
+  pub run : IsRun (bounds_in l home.family) (nothing home) 0 (events_at l home judged) last writes
+  pub kept : (key : List ℕ) (value : ℕ) → Contains pairs (key, value)
+      → bucket_of (sizes_in l home.family) key ≡ home.bucket
+      → (get last key ≡ Some value) × (is_expired_at times moment value ≡ false)
+  pub all : (key : List ℕ) (value : ℕ) → get last key ≡ Some value → is_expired_at times moment value ≡ false
+      → Contains pairs (key, value)
