@@ -2,21 +2,31 @@
 are out."""
 from support.captures import report_of
 from support.cases import Case, each, wanted
-from support.slow_captures import POLICY, capture_of, listing_of, slow, slow_packets, verdicts_on
+from support.slow_captures import POLICY, bucket_of, capture_of, listing_of, slow, slow_packets, verdicts_on
 
 RATES = 0.1, 1, 5
 AGEING = ["--age"], ["--age", "--workers", "4"], ["--age", "--tables", "large"], ["--live"], ["--live", "--age", "--workers", "4"]
 
-# A flow, another one so long after it that all buckets are gone over, and an answer of the first that comes late. What ended less
+FLOWS = 500
+
+
+def looks(moment, flow, count):
+    """Packets of a flow, of which each looks at a part of all buckets, one in 64."""
+    return [(moment + 8 * it, True, 4, flow) for it in range(count)]
+
+
+# Flows, of which some stand in buckets that are looked at when they have ended, and answers of them that come late. What ended less
 # than a minute before is kept.
-SOON = [(1000, True, 4, 0), (1620, True, 4, 1), (1590, False, 4, 0)]
-LATE = [(1000, True, 4, 0), (1675, True, 4, 1), (1585, False, 4, 0)]
-FORGOTTEN = ["pass rule 1 reflect", "pass rule 1 reflect", "drop default"]
+SOON = [*((1000, True, 4, it) for it in range(FLOWS)), *looks(1608, FLOWS, 7), *((1590, False, 4, it) for it in range(FLOWS))]
+
+# A flow, another one while all buckets are looked at, and an answer of the first that comes late.
+LATE = [(1000, True, 4, 0), *looks(1675, 1, 64), (1585, False, 4, 0)]
+FORGOTTEN = ["pass rule 1 reflect"] * 2 + ["pass session"] * 63 + ["drop default"]
 
 # What is told of hits, and of the session that is left, where the late answer finds none.
 TOLD = b"""interface 0 out rule 1 line 2 packets 2 | out permit+reflect ipv4 any any udp
 interface 0 out rule 2 line 3 packets 0 | out permit+reflect ipv6 any any udp
-session packets 0
+session packets 63
 default packets 1
 full packets 0
 worn packets 0
@@ -25,9 +35,9 @@ not-ip packets 0
 malformed packets 0
 short packets 0
 sessions entered 2
-sessions matched 0
+sessions matched 63
 sessions expired 1
-session interface 0 udp 10.0.0.1 port 1025 and 10.0.0.2 port 53 last 1675 until 2275
+session interface 0 udp 10.0.0.1 port 1025 and 10.0.0.2 port 53 last 2179 until 2779
 """
 
 
@@ -68,7 +78,7 @@ class Ageing(Case):
         files = self.files_of(capture_of(packets))
         kept = verdicts_on(packets)
         aged = kept if packets is SOON else FORGOTTEN
-        self.compare({"kept": kept[2]}, {"kept": "pass session"}, "the filter that forgets nothing")
+        self.compare({"kept": kept[-1]}, {"kept": "pass session"}, "the filter that forgets nothing")
         self.compare(self.program.run(files), wanted(report_of(kept)), "no ageing")
         for words in ["--age"], ["--live"], ["--live", "--age"]:
             self.compare(self.program.run([*words, *files]), wanted(report_of(aged)), *words)
@@ -116,9 +126,23 @@ class Ageing(Case):
         got = self.program.run(["--age", "--drops", dropped, "--passes", passed, policy, file])
         self.compare(got, wanted(report), "saved packets")
         with open(dropped, "rb") as saved:
-            self.compare({"dropped": saved.read()}, {"dropped": capture_of(LATE[2:])}, "saved packets")
+            self.compare({"dropped": saved.read()}, {"dropped": capture_of(LATE[-1:])}, "saved packets")
         got = self.program.run(["--age", "--json", policy, file])
         told = {"dropped": got["stdout"].count(b'"verdict":"drop","reason":"default"'), "status": got["status"]}
         self.compare(told, {"dropped": 1, "status": 0}, "json")
         got = self.program.run(["--age", "--explain", policy, file])
-        self.compare({"third": got["stdout"].splitlines()[2].partition(b" |")[0]}, {"third": b"3 drop default"}, "explained")
+        self.compare({"last": got["stdout"].splitlines()[-2].partition(b" |")[0]}, {"last": b"66 drop default"}, "explained")
+
+    @each((tables, tables, bits) for tables, bits in (("standard", 12), ("large", 16)))
+    def long_gap(self, tables, bits):
+        """However long nothing came, a packet looks at one part in 64 of the buckets: at the second one, since the first packet looked
+        at the first. What ended there is forgotten, and all else is found by its late answer."""
+        part = 2 ** bits // 64
+        flows = [(1000, True, 4, it) for it in range(3000)]
+        gone = {number for _, _, _, number in flows if part <= bucket_of(number, bits) < 2 * part}
+        packets = [*flows, (4000, True, 4, 3000), *((1590, False, 4, number) for _, _, _, number in flows)]
+        verdicts = verdicts_on(packets)
+        for number in gone:
+            verdicts[3001 + number] = "drop default"
+        self.assertGreater(len(gone), 10)
+        self.compare(self.program.run(["--age", "--tables", tables, *self.files_of(capture_of(packets))]), wanted(report_of(verdicts)))

@@ -124,12 +124,13 @@ class Diff(Case):
 
     def test_ageing(self):
         """Sessions that have ended stay, as they do in a run on the capture, unless it is asked that they go. Times fall here."""
-        capture = header() + udp(1000, True, (1, 1000), (2, 53)) + udp(2000, True, (3, 7), (4, 9)) + udp(1100, False, (2, 53), (1, 1000))
+        others = b"".join(udp(2000 + 8 * it, True, (3, 7), (4, 9)) for it in range(64))
+        capture = header() + udp(1000, True, (1, 1000), (2, 53)) + others + udp(1100, False, (2, 53), (1, 1000))
         new = NAMES + b"in permit ipv4 10.0.0.2 any udp\n"
-        self.compare(self.run_on(NAMES, new, capture), wanted(b"packets 3 changed 0 pass to drop 0 drop to pass 0 other 0\n", "", 0))
+        self.compare(self.run_on(NAMES, new, capture), wanted(b"packets 66 changed 0 pass to drop 0 drop to pass 0 other 0\n", "", 0))
         told = self.program.run(["diff", "--age", self.old, self.new, "-"], capture)
         self.compare({"status": told["status"], "totals": told["stdout"].splitlines()[-1:]},
-                     {"status": 5, "totals": [b"packets 3 changed 1 pass to drop 0 drop to pass 1 other 0"]}, "sessions that have ended go")
+                     {"status": 5, "totals": [b"packets 66 changed 1 pass to drop 0 drop to pass 1 other 0"]}, "sessions that have ended go")
 
     def test_the_other_way(self):
         """A new rule lets a request pass, and its session the answer."""

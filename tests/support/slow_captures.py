@@ -4,6 +4,7 @@ import random
 import struct
 
 from support.captures import header, record
+from support.large_inputs import mixed
 
 TIMEOUT = 600
 POLICY = b"mac 02:00:00:00:00:01\nout permit+reflect ipv4 any any udp\nout permit+reflect ipv6 any any udp\n"
@@ -25,6 +26,13 @@ def datagram(moment, outbound, family, number):
     way = OUTSIDE + INSIDE if outbound else INSIDE + OUTSIDE
     ports = struct.pack(">HHHH", source[1], target[1], 8, 0)
     return record(moment, way + HEADS[family] + source[0] + target[0] + ports)
+
+
+def bucket_of(number, bits):
+    """The bucket of the IPv4 flow with this number, among two to the power of bits."""
+    ends = int.from_bytes(address(4, 1), "big"), int.from_bytes(address(4, 2 + number // 60_000), "big")
+    ports = 1024 + number % 60_000 << 48 | 53 << 32 | 17 << 24
+    return mixed(mixed(ends[0] << 32 | ends[1]) ^ ports) % 2 ** bits
 
 
 def capture_of(packets):

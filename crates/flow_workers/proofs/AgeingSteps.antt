@@ -1,5 +1,5 @@
 -- Sessions that a worker removes between its packets.
-use Rattle.std.proofs.Common.{◌≡◌, ◌∙◌, ◌+◌, ◌-◌, ◌<◌, ◌≤◌, ◌%◌, ℕ, Bool, true, false, List, [], ◌∷◌, ◌++◌, length, map, Option, Some, None, ap, refl, sym, subst, arith, append_assoc, append-nil, drop}
+use Rattle.std.proofs.Common.{◌≡◌, ◌∙◌, ◌+◌, ◌-◌, ◌<◌, ◌≤◌, ◌%◌, ℕ, Bool, true, false, List, [], ◌∷◌, ◌++◌, length, map, Option, Some, None, ap, refl, sym, subst, arith, append_assoc, append-nil, drop, inr, min}
 use Rattle.std.specs.Prelude.{if◌then◌else◌, slice_get}
 use Rattle.std.specs.List.{All}
 use Rattle.std.proofs.lemmas.List.Elements.{All-append, All-cons, All-head, All-nil, All-tail, All-weaker}
@@ -18,7 +18,7 @@ use Rattle.bihash_rule.specs.declared.view.View.{View}
 use Rattle.bihash_steps.specs.BucketCalls.{event}
 use Rattle.bihash_steps.specs.CallerCalls.{IsIdle}
 use Rattle.bihash_steps.specs.Seats.{CallerState}
-use Rattle.bihash_table.specs.Ageing.{Ages, Look, LookInTurn, Sweeps}
+use Rattle.bihash_table.specs.Ageing.{Ages, EndsAt, Look, LookInTurn, Sweeps}
 use Rattle.bihash_table.proofs.LooksInTurn.{looks_join}
 use Rattle.bihash_table.proofs.SameCallers.{same_through}
 use Rattle.bihash_table.specs.Answers.{entry_of, with_locks}
@@ -37,7 +37,8 @@ use Rattle.flow_workers.specs.declared.session_tables.Callers.{Callers}
 use Rattle.flow_workers.specs.declared.worker_share.Batch.{Batch}
 use Rattle.flow_workers.specs.declared.worker_share.Share.{Share}
 use Rattle.flow_workers.specs.Callers.{views_of}
-use Rattle.flow_workers.specs.inner.Ageing.{HasAged, IsOwn, MayAge}
+use Rattle.flow_workers.specs.inner.Ageing.{HasAged, HasAgedOn, IsOwn, MayAge}
+use Rattle.flow_workers.specs.inner.AgeingTimes.{no_moment}
 use Rattle.flow_workers.specs.inner.Jobs.{HasWorkedOn, run_facts}
 use Rattle.flow_workers.specs.inner.Wanted.{KeepWanted}
 use Rattle.flow_workers.specs.inner.Work.{AreSaid, IsWorkUntil, RecordContinues, RunFacts, numbers_of}
@@ -266,7 +267,7 @@ idle_aged z workers worker is_expired s t idle aged = record {
 }
 
 -- one bucket more was swept
-pub aged_more : (z : Sizes) (workers worker b went : ℕ) (is_expired : ℕ → Bool) (s u t : CallerState)
+aged_more : (z : Sizes) (workers worker b went : ℕ) (is_expired : ℕ → Bool) (s u t : CallerState)
     → HasAged z workers worker is_expired s u → Sweeps z u t b (b + 1) is_expired went → IsOwn workers worker b
     → HasAged z workers worker is_expired s t
 aged_more z workers worker b went is_expired s u t aged swept own = record {
@@ -279,6 +280,27 @@ aged_more z workers worker b went is_expired s u t aged swept own = record {
       subst (IsOwn workers worker) (sym e) own) swept.looks swept.within);
   ages = looks_join z is_expired s.view u.view t.view aged.looks swept.looks aged.ages swept.ages;
 }
+
+-- looks that come after others end where they do
+ends_behind : (first more : List Look) (b : ℕ) → EndsAt more b → EndsAt (first ++ more) b
+ends_behind first more b ends = record {
+  before = first ++ ends.before;
+  after = ends.after;
+  found = ends.found;
+  splits = ap (λ looks. first ++ looks) ends.splits
+      ∙ sym (append_assoc first ends.before (record { bucket = b; found = ends.found } ∷ ends.after));
+  stays = ends.stays;
+  later = ends.later;
+}
+
+-- and this place is behind it
+pub aged_on : (z : Sizes) (workers worker b went from next : ℕ) (is_expired : ℕ → Bool) (s u t : CallerState)
+    → HasAged z workers worker is_expired s u → Sweeps z u t b (b + 1) is_expired went → IsOwn workers worker b
+    → next ≡ min (b + workers) no_moment → HasAgedOn z workers worker is_expired s t from next
+aged_on z workers worker b went from next is_expired s u t aged swept own is = (
+  aged_more z workers worker b went is_expired s u t aged swept own,
+  inr (b, ends_behind aged.looks swept.looks b (swept.each b (omega arith) (omega arith)), is),
+)
 
 -- ---- A worker
 

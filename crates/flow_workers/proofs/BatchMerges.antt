@@ -49,7 +49,7 @@ nothing_in_place run verdicts none said = record {
 }
 
 pub all_begun : {A B R G K L : Type 0} (ga : Ghosts A K) (gb : Ghosts B L) (all : Workers A B R G K L ga gb)
-    → IsSoundSetup ga gb all.setup → AreSplit all.setup.tables.now all.setup.workers all.shares.items
+    → IsSoundSetup ga gb all.setup → AreSplit all.setup.tables.now all.setup.workers all.setup.ages all.shares.items
     → all.verdicts.items ≡ [] → all.count ≡ 0 → AreAtRest [] all
 all_begun ga gb all sound split none count = record {
   sound = sound;

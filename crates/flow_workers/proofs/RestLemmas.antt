@@ -94,7 +94,7 @@ module _ {A B K L : Type 0} (ga : Ghosts A K) (gb : Ghosts B L) (dealer : Dealer
 -- ---- One worker
 
 module _ {A B R G K L : Type 0} (ga : Ghosts A K) (gb : Ghosts B L) (setup : Setup A B R G K L) where
-  pub rest_begun : (w : ℕ) (share : Share A B K L ga gb) → IsUnused setup.tables.now share
+  pub rest_begun : (w : ℕ) (share : Share A B K L ga gb) → IsUnused setup.tables.now setup.ages share
       → IsAtRestAfter ga gb [] setup [] w share
   rest_begun w share unused = record {
     idle = unused.callers.idle;

@@ -1,12 +1,12 @@
 //! When a worker removes sessions that have ended, and how many of its buckets at once. No promise rests on it.
-ghost use Rattle.std.specs.Prelude.{◌≡◌, ◌<◌};
+ghost use Rattle.std.specs.Prelude.{◌≡◌, ◌<◌, ◌/◌, nat_lt};
 ghost use Rattle.flow_workers.specs.inner.AgeingTimes.{due_after, seconds_of_part, seconds_of_round};
 
 use session_state::Timeouts;
 
 // A round over all of a worker's buckets takes so many seconds of the packets' moments.
 const ROUND: u64 = 512;
-// It is made in so many parts.
+// It is made in so many parts, of which a packet looks at one where pages aren't short.
 const PARTS: u64 = 64;
 
 /// How often a worker ages, and which of its buckets come next.
@@ -23,13 +23,13 @@ pub struct AgeingClock {
 }
 
 impl AgeingClock {
-    ghost use Rattle.std.specs.Prelude.{◌≡◌, ◌-◌, ◌^◌, false, true};
+    ghost use Rattle.std.specs.Prelude.{◌≡◌};
+    ghost use Rattle.flow_workers.specs.inner.AgeingTimes.{first_due};
 
     /// That of a worker before its first packet.
     pub fn new(ages: bool) -> AgeingClock
         ensures begun { (result.last ≡ 0) × (result.four ≡ 0) × (result.six ≡ 0) }
-        ensures due { ages ≡ true → result.due ≡ 0 }
-        ensures never { ages ≡ false → result.due ≡ 2 ^ 64 - 1 }
+        ensures due { result.due ≡ first_due ages }
     {
         AgeingClock {
             last: 0,
@@ -38,6 +38,13 @@ impl AgeingClock {
             six: 0,
         }
     }
+}
+
+/// Whether pages are short in a table of so many, where so many were never handed out.
+pub fn are_short(unused: u64, pages: u64) -> bool
+    ensures { result ≡ nat_lt unused (pages / 2) }
+{
+    unused < pages / 2
 }
 
 /// How many seconds a round takes: where pages are short, a quarter of the shortest timeout.
@@ -59,10 +66,15 @@ pub fn part_seconds(round: u64) -> u64
     (round / PARTS).max(1)
 }
 
-/// How many of so many buckets are due after so many seconds: all after a round.
-pub fn due_buckets(buckets: u64, elapsed: u64, round: u64) -> u64
-    requires { 0 < round }
-    ensures { result ≡ due_after buckets elapsed round }
+/// How many of so many buckets a packet looks at, so many seconds after the last ageing: no more than one part, however long that
+/// was, or where pages are short all after a round.
+pub fn due_buckets(buckets: u64, elapsed: u64, times: &Timeouts, short_of_pages: bool) -> u64
+    ensures { result ≡ due_after times.now short_of_pages buckets elapsed }
 {
-    buckets.saturating_mul(elapsed).div_ceil(round).min(buckets)
+    let round = round_seconds(times, short_of_pages);
+    let due = buckets.saturating_mul(elapsed).div_ceil(round);
+    if short_of_pages {
+        return due.min(buckets);
+    }
+    due.min(buckets.div_ceil(PARTS))
 }

@@ -1,5 +1,6 @@
 //! The first callers split among new workers, a share for each.
 ghost use Rattle.std.specs.Prelude.{◌≡◌, [], IfOk};
+ghost use Rattle.flow_workers.specs.inner.AgeingTimes.{first_due};
 ghost use Rattle.flow_workers.specs.inner.Shares.{AreSplit, MaySplit};
 
 use crate::ageing_clock::AgeingClock;
@@ -18,6 +19,7 @@ fn unused_share<A: Shape, B: Shape>(
 ) -> Share<A, B>
     ensures callers { result.callers ≡ callers }
     ensures silent { result.said.items ≡ [] }
+    ensures due { result.clock.due ≡ first_due ages }
 {
     Share {
         callers,
@@ -37,7 +39,7 @@ pub fn split_shares<A: Shape, B: Shape, R: Wait>(
     ages: bool,
 ) -> Result<Vec<Share<A, B>>, AllocError>
     requires { MaySplit tables.now callers workers }
-    ensures { IfOk result (λ v. AreSplit tables.now workers v.items) }
+    ensures { IfOk result (λ v. AreSplit tables.now workers ages v.items) }
 {
     let mut left = callers;
     let mut shares = Vec::new(alloc);

@@ -1,13 +1,14 @@
 //! A worker between two of its packets: sessions that have ended are removed from buckets of its own.
-ghost use Rattle.std.specs.Prelude.{◌<◌, ◌^◌, IfSome};
+ghost use Rattle.std.specs.Prelude.{◌≡◌, ◌<◌, ◌^◌, true, IfSome};
 ghost use Rattle.bihash_words.specs.Sizes.{IsSound, sizes_of};
 ghost use Rattle.bihash_rule.specs.Callers.{IsLawfulCaller};
 ghost use Rattle.bihash_steps.specs.CallerCalls.{IsIdle};
 ghost use Rattle.session_state.specs.Sessions.{is_expired_at};
-ghost use Rattle.flow_workers.specs.inner.Ageing.{HasAged, IsOwn, MayAge};
+ghost use Rattle.flow_workers.specs.inner.Ageing.{HasAgedOn, HasTicked, IsOwn, MayAge};
+ghost use Rattle.flow_workers.specs.inner.AgeingTimes.{count_of_own, due_after};
 ghost use Rattle.flow_workers.specs.inner.Jobs.{HasWorkedOn};
 
-use crate::ageing_clock::{due_buckets, part_seconds, round_seconds};
+use crate::ageing_clock::{are_short, due_buckets, part_seconds, round_seconds};
 use crate::gate::Gate;
 use crate::worker_share::{Batch, Share};
 use bihash_table::{Caller, Sessions};
@@ -58,8 +59,8 @@ fn age_table<S: Shape, R: Wait>(
     requires few { own.worker < own.workers }
     requires idle { IsIdle table.now.row caller.old.seat }
     requires lawful { IsLawfulCaller (sizes_of S.Shape) caller.old.seat.view }
-    ensures { HasAged (sizes_of S.Shape) own.workers own.worker (is_expired_at expiry.now.times expiry.now.moment)
-        caller.old.seat caller.new.seat }
+    ensures { HasAgedOn (sizes_of S.Shape) own.workers own.worker (is_expired_at expiry.now.times expiry.now.moment)
+        caller.old.seat caller.new.seat own.from result }
 {
     let mut at = own.from;
     for _ in 0..own.count {
@@ -72,22 +73,26 @@ fn age_table<S: Shape, R: Wait>(
     at
 }
 
-// How many seconds a round over this table takes.
-fn round_of<S: Shape>(table: &Sessions<S>, times: &Timeouts) -> u64
-    ensures { 0 < result }
-{
-    round_seconds(times, table.unused_pages() < S::PAGES / 2)
+// Whether pages of this table are short.
+fn is_short<S: Shape>(table: &Sessions<S>) -> bool {
+    are_short(table.unused_pages(), S::PAGES)
 }
 
-// How many of a worker's own buckets of a table are due.
-fn due_of<S: Shape>(worker: usize, workers: usize, elapsed: u64, round: u64) -> u64
+// At how many of a worker's own buckets of a table it looks, so many seconds after the last ageing.
+fn due_of<S: Shape>(
+    worker: usize,
+    workers: usize,
+    elapsed: u64,
+    times: &Timeouts,
+    short_of_pages: bool,
+) -> u64
     requires sound { IsSound (sizes_of S.Shape) }
     requires few { worker < workers }
-    requires round { 0 < round }
+    ensures { result ≡ due_after times.now short_of_pages (count_of_own (2 ^ S.LOG2_BUCKETS) worker workers) elapsed }
 {
     let buckets = 1usize << S::LOG2_BUCKETS;
     let own = buckets.saturating_sub(worker).div_ceil(workers);
-    due_buckets(own as u64, elapsed, round)
+    due_buckets(own as u64, elapsed, times, short_of_pages)
 }
 
 // Removes sessions that have ended from buckets that fall to the worker, before it judges the packet at this place of the batch,
@@ -102,7 +107,8 @@ fn age<A: Shape, B: Shape, R: Wait, G: Gate>(
     share: &mut Share<A, B>,
 )
     requires { MayAge ⟦<A as Shape>⟧ ⟦<B as Shape>⟧ batch.now worker _at moment share.old }
-    ensures { HasWorkedOn ⟦<A as Shape>⟧ ⟦<B as Shape>⟧ batch.now worker _at _at share.old share.new }
+    ensures worked { HasWorkedOn ⟦<A as Shape>⟧ ⟦<B as Shape>⟧ batch.now worker _at _at share.old share.new }
+    ensures ticked { batch.now.setup.ages ≡ true → HasTicked batch.now.setup.filter.now.times moment share.new.clock }
 {
     let setup = &batch.setup;
     if !setup.ages {
@@ -115,25 +121,29 @@ fn age<A: Shape, B: Shape, R: Wait, G: Gate>(
     let elapsed = u64::from(moment).saturating_sub(share.clock.last);
     let workers = setup.workers;
     let tables = setup.tables;
-    let round_four = round_of(&tables.four, &expiry.times);
-    let round_six = round_of(&tables.six, &expiry.times);
+    let short_four = is_short(&tables.four);
+    let short_six = is_short(&tables.six);
     let four = OwnBuckets {
         worker,
         workers,
         from: share.clock.four,
-        count: due_of::<A>(worker, workers, elapsed, round_four),
+        count: due_of::<A>(worker, workers, elapsed, &expiry.times, short_four),
     };
     let six = OwnBuckets {
         worker,
         workers,
         from: share.clock.six,
-        count: due_of::<B>(worker, workers, elapsed, round_six),
+        count: due_of::<B>(worker, workers, elapsed, &expiry.times, short_six),
     };
     let callers = &mut share.callers;
     share.clock.four = age_table(setup.rt, &tables.four, &mut callers.four, four, &expiry);
     share.clock.six = age_table(setup.rt, &tables.six, &mut callers.six, six, &expiry);
     share.clock.last = u64::from(moment);
-    share.clock.due = u64::from(moment).saturating_add(part_seconds(round_four.min(round_six)));
+    let round = round_seconds(&expiry.times, short_four).min(round_seconds(
+        &expiry.times,
+        short_six,
+    ));
+    share.clock.due = u64::from(moment).saturating_add(part_seconds(round));
 }
 
 /// Removes sessions that have ended, where that is due, before the worker judges the packet at this place of the batch, which

@@ -19,4 +19,5 @@ pub mod RunLemmas
 pub mod SavingLemmas
 pub mod ShardRunLemmas
 pub mod ShardSaveLemmas
+pub mod SortedPairs
 pub mod StoredLaws

@@ -12,12 +12,13 @@ loop-preserved g c =
     record {
       callers = c.in_ok-own.ensures.1;
       count = omega arith;
-      each = λ i d below. subst (λ xs. IsUnused c.args.tables.now (slice_index_or xs i d))
+      each = λ i d below. subst (λ xs. IsUnused c.args.tables.now c.args.ages (slice_index_or xs i d))
           (sym c.in_ok-push.ensures.items)
-          (below_push (λ k share. IsUnused c.args.tables.now share) c.loop.shares.items _ inv.each
+          (below_push (λ k share. IsUnused c.args.tables.now c.args.ages share) c.loop.shares.items _ inv.each
           (record {
             callers = subst (AreFresh c.args.tables.now) (sym c.unused_share.ensures.callers) c.in_ok-own.ensures.0;
             silent = c.unused_share.ensures.silent;
+            due = c.unused_share.ensures.due;
           }) i d (omega arith));
     }
 
@@ -31,11 +32,12 @@ returns g c =
     let some_worker = c.requires.some in
     record {
       count = omega arith;
-      each = λ i d below. subst (λ xs. IsUnused c.args.tables.now (slice_index_or xs i d))
+      each = λ i d below. subst (λ xs. IsUnused c.args.tables.now c.args.ages (slice_index_or xs i d))
           (sym c.in_ok-push-2.ensures.items)
-          (below_push (λ k share. IsUnused c.args.tables.now share) c.loop.shares.items _ inv.each
+          (below_push (λ k share. IsUnused c.args.tables.now c.args.ages share) c.loop.shares.items _ inv.each
           (record {
             callers = subst (AreFresh c.args.tables.now) (sym c.unused_share-2.ensures.callers) inv.callers;
             silent = c.unused_share-2.ensures.silent;
+            due = c.unused_share-2.ensures.due;
           }) i d (omega arith));
     }

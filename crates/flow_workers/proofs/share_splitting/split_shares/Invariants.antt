@@ -7,5 +7,5 @@ abbrev pub invariant-loop : goal.invariant-loop
 invariant-loop g l = record {
   callers : AreFresh l.tables l.left;
   count : length l.shares.items + 1 ≡ l.counter;
-  each : (i : ℕ) (d : _) → i < length l.shares.items → IsUnused l.tables (slice_index_or l.shares.items i d);
+  each : (i : ℕ) (d : _) → i < length l.shares.items → IsUnused l.tables l.ages (slice_index_or l.shares.items i d);
 }

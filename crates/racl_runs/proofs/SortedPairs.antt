@@ -1,0 +1,130 @@
+-- Lists of pairs in the order of their keys: those with the same pairs are the same.
+use Rattle.std.proofs.Common.{◌≡◌, ◌∙◌, ℕ, suc, zero, Bool, true, false, List, [], ◌∷◌, ap, arith, filter, inl, inr, length, refl, subst, sym}
+use Rattle.std.specs.Prelude.{◌⊎◌, ◌<◌, Contains, slice_index_or}
+use Rattle.std.specs.Cmp.{IsTotalOrder}
+use Rattle.std.specs.Cmp.Lexicographic.{nat_list_cmp_total, slice_cmp}
+use Rattle.std.specs.List.{AllByRecursion}
+use Rattle.std.specs.List.Sorted.{IsStrictlySortedBy}
+use Rattle.std.specs.Ordering.{nat_cmp, ordering_reverse}
+use Rattle.std.specs.declared.cmp.Ordering.{Ordering}
+use Rattle.std.specs.declared.cmp.Ordering.TheVariants.{Equal, Greater, Less}
+use Rattle.flow_workers.specs.Stored.{keys_in}
+
+abbrev Pair : Type 0
+Pair = List ℕ × ℕ
+
+abbrev IsBelow : List ℕ → List ℕ → Type 0
+IsBelow one other = slice_cmp nat_cmp one other ≡ Less
+
+abbrev pub AreSorted : List Pair → Type 0
+AreSorted pairs = IsStrictlySortedBy (slice_cmp nat_cmp) (keys_in pairs)
+
+-- ---- elements
+
+at_head : (p : Pair) (pairs : List Pair) → Contains (p ∷ pairs) p
+at_head p pairs = (zero, omega arith, refl)
+
+behind_head : (q p : Pair) (pairs : List Pair) → Contains pairs p → Contains (q ∷ pairs) p
+behind_head q p pairs (k, inside, at) = (suc k, omega arith, at)
+
+head_or_behind : (q p : Pair) (pairs : List Pair) → Contains (q ∷ pairs) p → (q ≡ p) ⊎ Contains pairs p
+head_or_behind q p pairs (zero, inside, at) = inl at
+head_or_behind q p pairs (suc k, inside, at) = inr (k, omega arith, at)
+
+none_inside : (p : Pair) → Contains [] p → ⊥
+none_inside p (k, inside, at) = omega arith
+
+-- ---- order
+
+is_less : Ordering → Bool
+is_less Less = true
+is_less Equal = false
+is_less Greater = false
+
+less_or_greater : (o : Ordering) → o ≡ Less → ordering_reverse o ≡ Less → ⊥
+less_or_greater Less is back = let f = ap is_less back in cc
+less_or_greater Equal is back = let f = ap is_less is in cc
+less_or_greater Greater is back = let f = ap is_less is in cc
+
+not_both : (one other : List ℕ) → IsBelow one other → IsBelow other one → ⊥
+not_both one other below above =
+    less_or_greater (slice_cmp nat_cmp one other) below (sym (nat_list_cmp_total.antisymm other one) ∙ above)
+
+-- ---- a list and its first pair
+
+below_all : (key : List ℕ) (pairs : List Pair) (p : Pair) → AllByRecursion (λ other. IsBelow key other) (keys_in pairs) → Contains pairs p → IsBelow key p.0
+below_all key [] p all inside = absurd (none_inside p inside)
+below_all key (q ∷ pairs) p all inside =
+    elim (head_or_behind q p pairs inside) [ inl same ↦ subst (λ (r : Pair). IsBelow key r.0) same all.0 | inr later ↦ below_all key pairs p all.1 later ]
+
+-- where the first pair is the same, the others are, too
+tail_within : (x y p : Pair) (xs ys : List Pair) → x ≡ y → AllByRecursion (λ other. IsBelow x.0 other) (keys_in xs) → Contains (y ∷ ys) p → Contains xs p → Contains ys p
+tail_within x y p xs ys same above all inside =
+    elim (head_or_behind y p ys all) [
+      inl first ↦
+          let low = below_all x.0 xs p above inside in
+          let here : IsBelow x.0 x.0 = subst (λ (r : Pair). IsBelow x.0 r.0) (sym (same ∙ first)) low in absurd (not_both x.0 x.0 here here)
+    | inr later ↦ later
+    ]
+
+pub same_pairs : (xs ys : List Pair) → AreSorted xs → AreSorted ys → ((p : Pair) → Contains xs p → Contains ys p) → ((p : Pair) → Contains ys p → Contains xs p) → xs ≡ ys
+unfolding IsStrictlySortedBy
+same_pairs [] [] first second to from = refl
+same_pairs [] (y ∷ ys) first second to from = absurd (none_inside y (from y (at_head y ys)))
+same_pairs (x ∷ xs) [] first second to from = absurd (none_inside x (to x (at_head x xs)))
+same_pairs (x ∷ xs) (y ∷ ys) first second to from = λ i. heads i ∷ tails i
+  where
+    heads : x ≡ y
+    heads = elim (head_or_behind y x ys (to x (at_head x xs))) [
+      inl same ↦ sym same
+    | inr later ↦ elim (head_or_behind x y xs (from y (at_head y ys))) [
+        inl same ↦ same
+      | inr other ↦ absurd (not_both x.0 y.0 (below_all x.0 xs y first.0 other) (below_all y.0 ys x second.0 later))
+      ]
+    ]
+
+    tails : xs ≡ ys
+    tails = same_pairs xs ys first.1 second.1
+        (λ p inside. tail_within x y p xs ys heads first.0 (to p (behind_head x p xs inside)) inside)
+        (λ p inside. tail_within y x p ys xs (sym heads) second.0 (from p (behind_head y p ys inside)) inside)
+
+-- ---- pairs that pass a test
+
+pub of_filter : (test : Pair → Bool) (pairs : List Pair) (p : Pair) → Contains (filter test pairs) p → Contains pairs p × (test p ≡ true)
+of_filter test [] p inside = absurd (none_inside p inside)
+of_filter test (q ∷ pairs) p inside = go (test q) refl inside
+  where
+    go : (passes : Bool) → test q ≡ passes → Contains (if passes then q ∷ filter test pairs else filter test pairs) p → Contains (q ∷ pairs) p × (test p ≡ true)
+    go true is has = elim (head_or_behind q p (filter test pairs) has) [
+      inl same ↦ (subst (Contains (q ∷ pairs)) same (at_head q pairs), ap test (sym same) ∙ is)
+    | inr later ↦ let rest = of_filter test pairs p later in (behind_head q p pairs rest.0, rest.1)
+    ]
+    go false is has = let rest = of_filter test pairs p has in (behind_head q p pairs rest.0, rest.1)
+
+pub in_filter : (test : Pair → Bool) (pairs : List Pair) (p : Pair) → Contains pairs p → test p ≡ true → Contains (filter test pairs) p
+in_filter test [] p inside passing = absurd (none_inside p inside)
+in_filter test (q ∷ pairs) p inside passing = go (test q) refl (head_or_behind q p pairs inside)
+  where
+    go : (passes : Bool) → test q ≡ passes → (q ≡ p) ⊎ Contains pairs p → Contains (if passes then q ∷ filter test pairs else filter test pairs) p
+    go true is (inl same) = subst (Contains (q ∷ filter test pairs)) same (at_head q (filter test pairs))
+    go true is (inr later) = behind_head q p (filter test pairs) (in_filter test pairs p later passing)
+    go false is (inl same) = let no : false ≡ true = sym is ∙ (ap test same ∙ passing) in cc
+    go false is (inr later) = in_filter test pairs p later passing
+
+below_filter : (test : Pair → Bool) (key : List ℕ) (pairs : List Pair) → AllByRecursion (λ other. IsBelow key other) (keys_in pairs)
+    → AllByRecursion (λ other. IsBelow key other) (keys_in (filter test pairs))
+below_filter test key [] all = tt
+below_filter test key (q ∷ pairs) all = go (test q)
+  where
+    go : (passes : Bool) → AllByRecursion (λ other. IsBelow key other) (keys_in (if passes then q ∷ filter test pairs else filter test pairs))
+    go true = (all.0, below_filter test key pairs all.1)
+    go false = below_filter test key pairs all.1
+
+pub sorted_filter : (test : Pair → Bool) (pairs : List Pair) → AreSorted pairs → AreSorted (filter test pairs)
+unfolding IsStrictlySortedBy
+sorted_filter test [] sorted = tt
+sorted_filter test (q ∷ pairs) sorted = go (test q)
+  where
+    go : (passes : Bool) → AreSorted (if passes then q ∷ filter test pairs else filter test pairs)
+    go true = (below_filter test q.0 pairs sorted.0, sorted_filter test pairs sorted.1)
+    go false = sorted_filter test pairs sorted.1
