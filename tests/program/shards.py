@@ -68,7 +68,7 @@ class Shards(Case):
     def test_note(self):
         """Behind its totals a report says of which shard it is, of how many packets, and their latest second."""
         held = self.hold("policy", NAMES)
-        for words, text in ([], b"shard 2 of 3 of 807 packets until 1700\n"), (["--json"], b'{"shard":2,"of":3,"of_packets":807,"until":1700}\n'):
+        for words, text in ([], b"shard 2 of 3 of 807 packets until 1700\n"), (["--json"], b'{"shard":2,"shards":3,"capture_packets":807,"capture_until":1700}\n'):
             told = self.program.run(["--shard", "2/3", "--summary", "--hits", *words, held, "-"], ENDED)["stdout"].splitlines(True)
             self.compare({"note": told[1]}, {"note": text}, *words)
         self.compare({"note": b"shard" in self.program.run(["--any-length", held, "-"], ENDED)["stdout"]}, {"note": False})

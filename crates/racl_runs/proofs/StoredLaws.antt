@@ -1,20 +1,36 @@
 -- The sessions that stand in the tables when a run has ended.
-use Rattle.std.proofs.Common.{◌≡◌, ◌∙◌, ℕ, Bool, List, Option, ap, inl, refl, subst, sym, true, false}
+use Rattle.std.proofs.Common.{◌≡◌, ◌∙◌, ◌≤◌, ℕ, ◌+◌, Bool, List, [], ◌∷◌, Option, None, Some, ap, arith, inl, inr, max, not, refl, subst, sym, true, false}
+use Rattle.std.specs.FinMap.{get, len}
+use Rattle.std.specs.Prelude.{Contains}
+use Rattle.std.proofs.lemmas.List.Elements.{All-cons, All-nil, All-weaker}
+use Rattle.packet_view.specs.Captures.{PacketFacts}
 use Rattle.packet_view.specs.declared.tuple.Family.{Family}
 use Rattle.packet_view.specs.declared.tuple.Family.TheVariants.{V4, V6}
-use Rattle.flow_filter.specs.OneThread.{Layout, sizes_in}
+use Rattle.acl_policy.specs.Policies.{PolicyFacts}
+use Rattle.bihash_words.specs.Maps.{Answers, AnswersFull, Bounds, Case, Event, NewKey, NoRoom, OldKey, Pairs, Unchanged, WornOut, case_with, effect_of}
+use Rattle.bihash_words.specs.Runs.{IsRun, writes_of}
+use Rattle.bihash_words.specs.Sizes.{bucket_of}
+use Rattle.session_state.specs.Sessions.{is_expired_at}
+use Rattle.session_state.specs.declared.timeouts.Timeouts.{Timeouts}
+use Rattle.session_state.specs.declared.verdict.Verdict.{Verdict}
+use Rattle.flow_filter.specs.Judged.{readings_of}
+use Rattle.flow_filter.specs.OneThread.{Home, Layout, bounds_in, events_at, nothing, sizes_in}
+use Rattle.flow_filter.proofs.HomeLemmas.{holds_key}
+use Rattle.flow_filter.proofs.OneThreadLemmas.{one_judged}
+use Rattle.flow_filter.proofs.ReadingLemmas.{one_readings}
 use Rattle.flow_dealing.specs.Views.{Views, view_in}
-use Rattle.flow_dealing.specs.WorkerRecords.{AreJudgedAgeing, HavePages}
+use Rattle.flow_dealing.specs.WorkerRecords.{AreJudgedAgeing, AreUntil, HavePages}
 use Rattle.flow_dealing.proofs.OneReport.{judged_by_one}
-use Rattle.flow_workers.specs.Stored.{AreStored}
-use Rattle.flow_workers.proofs.StoredLemmas.{left_by_one}
+use Rattle.flow_workers.specs.Stored.{AreLiveOf, AreStored}
+use Rattle.flow_workers.proofs.StoredLemmas.{left_by_one, live_left_by_one}
 use Rattle.racl_io.specs.declared.totals_and_truncation.Totals.{Totals}
 use Rattle.racl_options.specs.declared.settings.Options.{Options}
-use Rattle.racl_views.specs.Stored.{StoredFacts}
-use Rattle.racl_runs.specs.Runs.{AreStoredOf, AreToldOf, HasRun, bucket_deal, keeps_stored, layout_for, told_at}
-use Rattle.session_state.specs.declared.timeouts.Timeouts.{Timeouts}
-use Rattle.racl_runs.proofs.OutcomeLemmas.{judged_unaged}
-use Rattle.racl_runs.specs.StoredRuns.{AreLeftByOneThread, pairs_of}
+use Rattle.racl_views.specs.Hits.{latest_second}
+use Rattle.racl_views.specs.Stored.{StoredFacts, live_at, live_pairs}
+use Rattle.racl_runs.specs.Runs.{AgeInTime, AreStoredOf, AreToldOf, ByWorkers, HasRun, bucket_deal, keeps_stored, layout_for, told_at}
+use Rattle.racl_runs.specs.StoredRuns.{AreLeftByOneThread, AreLiveByOneThread, pairs_of}
+use Rattle.racl_runs.proofs.OutcomeLemmas.{by_one, judged_unaged}
+use Rattle.racl_runs.proofs.SortedPairs.{AreSorted, in_filter, of_filter, same_pairs, sorted_filter}
 
 stored_in : (l : Layout) (views : Views) (stored : StoredFacts) → AreStoredOf l views stored → (family : Family)
     → AreStored (sizes_in l family) (view_in views family).known (pairs_of stored family)
@@ -49,6 +65,10 @@ left_by_run options given old new totals run unaged paged asked =
     }
 
 -- ---- Workers that age
+
+not_true : (b : Bool) → not b ≡ true → b ≡ false
+not_true true is = let no : false ≡ true = is in cc
+not_true false is = refl
 
 -- those that are live among a family's pairs
 live_only : (times : Timeouts) (moment : ℕ) (pairs : List (List ℕ × ℕ)) → AreLiveOf times moment pairs (live_pairs times moment pairs)
@@ -94,8 +114,13 @@ module _ (options : Options) (ages : Bool) (policy : PolicyFacts) (packets : Lis
       }
 
 -- no packet is behind the latest second of all
-pub until_latest : (packets others : List PacketFacts) → AreUntil (latest_second (others ++ packets)) packets
-until_latest packets others = absurd missing
+pub until_latest : (packets : List PacketFacts) → AreUntil (latest_second packets) packets
+until_latest [] = All-nil (λ (p : PacketFacts). p.moment ≤ 0)
+until_latest (packet ∷ packets) =
+    let later = latest_second packets in
+    All-cons (λ (p : PacketFacts). p.moment ≤ max packet.moment later) packet packets (omega arith)
+    (All-weaker (λ (p : PacketFacts). p.moment ≤ later) (λ (p : PacketFacts). p.moment ≤ max packet.moment later) packets
+    (λ p below. omega arith) (until_latest packets))
 
 -- ---- One listing
 
@@ -126,7 +151,7 @@ module _ (l : Layout) (times : Timeouts) (latest : ℕ) (policy : PolicyFacts) (
   within : (family : Family) (pair : List ℕ × ℕ) → Contains (pairs_of told family) pair → Contains (pairs_of other family) pair
   within family pair inside =
       let home : Home = record { family = family; bucket = bucket_of (sizes_in l family) pair.0 } in
-      let few : IsHome l home = mod_below (sizes_in l family) pair.0 in
+      let few = holds_key l family pair.0 in
       let a = one.left home few in
       let b = two.left home few in
       let judged = one_judged l times nothing one.verdicts_are.judged two.verdicts_are.judged
@@ -136,3 +161,13 @@ module _ (l : Layout) (times : Timeouts) (latest : ℕ) (policy : PolicyFacts) (
       (subst (λ js. IsRun (bounds_in l family) (nothing home) 0 (events_at l home js) b.last b.writes) (sym judged) b.run) in
       let (at, live) = a.kept pair.0 pair.1 inside refl in
       b.all pair.0 pair.1 (subst (λ (m : Pairs). get m pair.0 ≡ Some pair.1) same at) live
+
+-- the same sessions are told, whoever judged
+pub one_listing : (l : Layout) (times : Timeouts) (latest : ℕ) (policy : PolicyFacts) (packets : List PacketFacts) (verdicts others : List Verdict) (told other : StoredFacts)
+    → AreLiveByOneThread l times latest policy packets verdicts told → AreLiveByOneThread l times latest policy packets others other → told ≡ other
+one_listing l times latest policy packets verdicts others told other one two = λ i. record { four = same V4 i; six = same V6 i }
+  where
+    same : (family : Family) → pairs_of told family ≡ pairs_of other family
+    same family = same_pairs (pairs_of told family) (pairs_of other family) (one.ascending family) (two.ascending family)
+        (within l times latest policy packets verdicts others told other one two family)
+        (within l times latest policy packets others verdicts other told two one family)

@@ -38,7 +38,8 @@ pub use racl_io::{Device, DeviceFault, Fault, Sink, Source, Totals};
 pub use racl_options::{Lines, Options, TableSize};
 pub use racl_report::{InterfaceInput, PlacedFault, Saves, remark, status};
 pub use run_laws::{
-    each_input_has_one_outcome, interfaces_have_one_outcome, told_sessions_are_those_of_one_thread,
+    each_input_has_one_outcome, interfaces_have_one_outcome, live_sessions_have_one_listing,
+    told_live_sessions_are_those_of_one_thread, told_sessions_are_those_of_one_thread,
 };
 pub use runs_end_to_end::{run, run_saving};
 pub use shard_run::{ShardRunAsked, run_shard};

@@ -2,9 +2,14 @@
 ghost use Rattle.std.specs.Prelude.{◌≡◌, ◌⊎◌, ◌+◌, ◌≤◌, false, true, ℕ, List, Option, length};
 ghost use Rattle.packet_view.specs.Bytes.{AreBytes};
 ghost use Rattle.session_state.specs.declared.timeouts.Timeouts.{Timeouts};
-ghost use Rattle.flow_dealing.specs.WorkerRecords.{HavePages};
+ghost use Rattle.session_state.specs.declared.verdict.Verdict.{Verdict};
+ghost use Rattle.packet_view.specs.Captures.{PacketFacts};
+ghost use Rattle.acl_policy.specs.Policies.{PolicyFacts};
+ghost use Rattle.flow_filter.specs.OneThread.{Layout};
+ghost use Rattle.flow_dealing.specs.WorkerRecords.{AreUntil, HavePages};
 ghost use Rattle.racl_options.specs.declared.settings.Options.{Options};
 ghost use Rattle.racl_options.specs.declared.settings.TableSize.{TableSize};
+ghost use Rattle.capture_shards.specs.Shards.{Own, own_packets};
 ghost use Rattle.racl_io.specs.declared.fault.Fault.{Fault};
 ghost use Rattle.racl_io.specs.declared.totals_and_truncation.Totals.{Totals};
 ghost use Rattle.racl_io.specs.Faults.{IsInputFault};
@@ -13,9 +18,12 @@ ghost use Rattle.racl_views.specs.declared.capture_bytes.CaptureBytes.{CaptureBy
 ghost use Rattle.racl_report.specs.InterfaceInputs.{AreAllBytes, IsFaultApart, bytes_in};
 ghost use Rattle.racl_report.specs.declared.interface_captures.PlacedFault.{PlacedFault};
 ghost use Rattle.racl_runs.specs.InterfaceRuns.{HasOutcomeApart};
-ghost use Rattle.racl_runs.specs.Runs.{HasOutcome, HasRun, keeps_stored, layout_for};
+ghost use Rattle.racl_runs.specs.LiveRuns.{IsToldBehind, ages_in};
+ghost use Rattle.racl_runs.specs.Runs.{AgeInTime, HasOutcome, HasRun, keeps_stored, layout_for};
 ghost use Rattle.racl_report.specs.RunReports.{Outcome};
-ghost use Rattle.racl_runs.specs.StoredRuns.{AreLeftByOneThread};
+ghost use Rattle.racl_runs.specs.StoredRuns.{AreLeftByOneThread, AreLiveByOneThread};
+ghost use Rattle.racl_views.specs.Hits.{latest_second};
+ghost use Rattle.racl_views.specs.Stored.{StoredFacts};
 
 /// All bytes are an input whose run has one outcome, that of the one-thread filter, or have one fault, and never both.
 pub fn each_input_has_one_outcome()
@@ -48,4 +56,26 @@ pub fn told_sessions_are_those_of_one_thread()
     ensures { (options : Options) (given old new : Option (List ℕ)) (totals : Totals) (run : HasRun options given old new totals)
         → options.ages ≡ false → HavePages run.outcome.verdicts → keeps_stored options ≡ true
         → AreLeftByOneThread (layout_for options.tables) options.times run.policy run.packets run.outcome.verdicts run.stored }
+{}
+
+/// The sessions that are told of a run that ages are those that the one-thread filter leaves, which removes none, and that are live
+/// at the latest second of any packet, in the order of their keys, where no verdict says no-pages and ageing is in time. So they
+/// are of a run that tells packets while they come, and of a shard, at the latest second of its whole capture.
+pub fn told_live_sessions_are_those_of_one_thread()
+    ensures run { (options : Options) (given old new : Option (List ℕ)) (totals : Totals) (run : HasRun options given old new totals)
+        → options.ages ≡ true → HavePages run.outcome.verdicts → AgeInTime run.by_workers → keeps_stored options ≡ true
+        → AreLiveByOneThread (layout_for options.tables) options.times (latest_second run.packets) run.policy run.packets run.outcome.verdicts run.stored }
+    ensures behind { (options : Options) (text : List ℕ) (policy : PolicyFacts) (packets : List PacketFacts) (verdicts : List Verdict) (latest : ℕ) (behind : List ℕ)
+        (is : IsToldBehind options text policy packets verdicts latest behind) → ages_in options ≡ true → HavePages verdicts
+        → AgeInTime is.by_live.by_workers → AreUntil latest packets → keeps_stored options ≡ true
+        → AreLiveByOneThread (layout_for options.tables) options.times latest policy packets verdicts is.stored }
+    ensures until { (packets : List PacketFacts) → AreUntil (latest_second packets) packets }
+    ensures own { (own : Own) (packets : List PacketFacts) → AreUntil (latest_second packets) (own_packets own 1 packets) }
+{}
+
+/// There is one listing of such sessions of an input, whatever the number of workers and however their run tells packets.
+pub fn live_sessions_have_one_listing()
+    ensures { (l : Layout) (times : Timeouts) (latest : ℕ) (policy : PolicyFacts) (packets : List PacketFacts) (verdicts others : List Verdict)
+        (told other : StoredFacts) → AreLiveByOneThread l times latest policy packets verdicts told
+        → AreLiveByOneThread l times latest policy packets others other → told ≡ other }
 {}

@@ -12,8 +12,8 @@ shard_line it = numbered (codes "shard ") it.number ++ (numbered (codes " of ") 
     ++ (numbered (codes " of ") it.packets ++ (numbered (codes " packets until ") it.latest ++ codes "\n")))
 
 abbrev pub shard_object : ShardOf → List ℕ
-shard_object it = object_line (object_of (number (codes "shard") it.number ∷ number (codes "of") it.count ∷ number (codes "of_packets") it.packets
-    ∷ number (codes "until") it.latest ∷ []))
+shard_object it = object_line (object_of (number (codes "shard") it.number ∷ number (codes "shards") it.count ∷ number (codes "capture_packets") it.packets
+    ∷ number (codes "capture_until") it.latest ∷ []))
 
 abbrev pub shard_told : TextOrJson → ShardOf → List ℕ
 shard_told form.Text it = shard_line it

@@ -34,16 +34,15 @@ fn push_shard(piece: &mut Piece, shard: ShardOf)
     piece.push(b"\n");
 }
 
-// The object that says so.
-fn shard_object_text(alloc: Global, shard: ShardOf) -> Result<Vec<u8>, AllocError>
-    ensures { IfOk result (λ told. told.items ≡ shard_object shard) }
+// The object that says so, behind a text.
+fn shard_object_text(text: Vec<u8>, shard: ShardOf) -> Result<Vec<u8>, AllocError>
+    ensures { IfOk result (λ new. new.items ≡ text.items ++ shard_object shard) }
 {
-    let text = Vec::new(alloc);
     let mut object = begin_json_object(&text)?;
     add_number(&mut object, "shard", shard.number)?;
-    add_number(&mut object, "of", shard.count)?;
-    add_number(&mut object, "of_packets", shard.packets)?;
-    add_number(&mut object, "until", u64::from(shard.latest))?;
+    add_number(&mut object, "shards", shard.count)?;
+    add_number(&mut object, "capture_packets", shard.packets)?;
+    add_number(&mut object, "capture_until", u64::from(shard.latest))?;
     end_json_object(object, text)
 }
 
@@ -58,6 +57,6 @@ pub fn shard_text(alloc: Global, view: TextOrJson, shard: ShardOf) -> Result<Vec
             push_shard(&mut piece, shard);
             append_line_text(Vec::new(alloc), &piece)
         }
-        TextOrJson::Json => shard_object_text(alloc, shard),
+        TextOrJson::Json => shard_object_text(Vec::new(alloc), shard),
     }
 }
