@@ -297,6 +297,7 @@ ends_behind first more b ends = record {
 pub aged_on : (z : Sizes) (workers worker b went from next : ℕ) (is_expired : ℕ → Bool) (s u t : CallerState)
     → HasAged z workers worker is_expired s u → Sweeps z u t b (b + 1) is_expired went → IsOwn workers worker b
     → next ≡ min (b + workers) no_moment → HasAgedOn z workers worker is_expired s t from next
+unfolding aged_more
 aged_on z workers worker b went from next is_expired s u t aged swept own is = (
   aged_more z workers worker b went is_expired s u t aged swept own,
   inr (b, ends_behind aged.looks swept.looks b (swept.each b (omega arith) (omega arith)), is),

@@ -139,11 +139,9 @@ fn age<A: Shape, B: Shape, R: Wait, G: Gate>(
     share.clock.four = age_table(setup.rt, &tables.four, &mut callers.four, four, &expiry);
     share.clock.six = age_table(setup.rt, &tables.six, &mut callers.six, six, &expiry);
     share.clock.last = u64::from(moment);
-    let round = round_seconds(&expiry.times, short_four).min(round_seconds(
-        &expiry.times,
-        short_six,
-    ));
-    share.clock.due = u64::from(moment).saturating_add(part_seconds(round));
+    let round_four = round_seconds(&expiry.times, short_four);
+    let round_six = round_seconds(&expiry.times, short_six);
+    share.clock.due = u64::from(moment).saturating_add(part_seconds(round_four.min(round_six)));
 }
 
 /// Removes sessions that have ended, where that is due, before the worker judges the packet at this place of the batch, which

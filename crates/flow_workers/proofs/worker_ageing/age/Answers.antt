@@ -15,9 +15,9 @@ returns-clause-worked g c =
 
 pub returns-clause-ticked : goal.returns-clause-ticked
 returns-clause-ticked g c = λ ages. record {
-  last = refl;
-  four = c.is_short.result;
-  six = c.is_short-2.result;
-  due = c.saturating_add.ensures ∙ ap (λ n. min (c.args.moment + n) no_moment)
-      (c.part_seconds.ensures ∙ ap seconds_of_part (c.min.ensures ∙ ap₂ min c.round_seconds.ensures.seconds c.round_seconds-2.ensures.seconds));
+  last = c.from-share.ensures;
+  four = c.is_short-short_four.result;
+  six = c.is_short-short_six.result;
+  due = c.saturating_add-share.ensures ∙ ap₂ (λ m n. min (m + n) no_moment) c.from-2.ensures
+      (c.part_seconds.ensures ∙ ap seconds_of_part (c.min.ensures ∙ ap₂ min c.round_seconds-round_four.ensures.seconds c.round_seconds-round_six.ensures.seconds));
 }

@@ -23,4 +23,4 @@ sweep-requires-clause-idle g c = idle_aged _ _ _ _ _ _ c.requires.idle c.loop.in
 
 pub loop-preserved : goal.loop-preserved
 loop-preserved g c =
-    aged_on (sizes_of g.S.Shape) _ _ _ _ _ _ _ _ _ _ c.loop.invariant.0 c.sweep.ensures c.in-Some.ensures.own c.saturating_add.ensures
+    aged_on (sizes_of g.S.Shape) _ _ _ _ _ _ _ _ _ _ c.loop.invariant.0 c.sweep.ensures c.in-Some.ensures.own c.saturating_add-at.ensures
