@@ -12,7 +12,7 @@ ghost use Rattle.racl_views.specs.Stored.{stored_facts};
 use crate::asked_report::{sessions_of, view_behind};
 use racl_io::{Fault, Sink, write_all};
 use racl_options::Options;
-use racl_views::{HitCounts, StoredPairs, counted_hits_text};
+use racl_views::{HitCounts, StoredPairs, count_sessions, counted_hits_text};
 use std::alloc::{AllocError, Global};
 
 /// What stands behind the totals: hits, and behind them sessions.
@@ -36,15 +36,8 @@ fn counted_hits_of(
         → AreHits options.now.hits (RunReports.view_behind options.now.lines) options.now.times latest run (stored_facts stored.now) told.items) }
 {
     if options.hits {
-        counted_hits_text(
-            alloc,
-            view_behind(options.lines),
-            options.times,
-            latest,
-            text,
-            counts,
-            stored,
-        )
+        let sessions = count_sessions(options.times, latest, counts, stored);
+        counted_hits_text(alloc, view_behind(options.lines), text, counts, sessions)
     } else {
         Ok(Vec::new(alloc))
     }

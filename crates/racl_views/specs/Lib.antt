@@ -1,5 +1,6 @@
 pub mod CapturePackets
 pub mod ChosenRecords
+pub mod CountedSessions
 pub mod Deciding
 pub mod Entries
 pub mod ExplainedLines

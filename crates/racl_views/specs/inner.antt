@@ -1,6 +1,5 @@
 pub mod Batches
 pub mod ChosenBytes
-pub mod CountedSessions
 pub mod Counts
 pub mod EntryLists
 pub mod Fields

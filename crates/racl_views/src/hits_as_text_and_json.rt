@@ -1,5 +1,5 @@
 //! What is told of hits, in lines or objects.
-ghost use Rattle.std.specs.Prelude.{◌≡◌, ◌+◌, ◌≤◌, ◌++◌, [], ◌∷◌, List, Option, OnOk, IfOk, codes, length, map};
+ghost use Rattle.std.specs.Prelude.{◌≡◌, ◌+◌, ◌≤◌, ◌++◌, [], ◌∷◌, ℕ, List, Option, OnOk, IfOk, codes, length, map};
 ghost use Rattle.std.specs.List.{flat_map};
 ghost use Rattle.packet_view.specs.CheckedCaptures.{remaining};
 ghost use Rattle.acl_policy.specs.Policies.{IsPolicyText, policy_facts};
@@ -11,7 +11,9 @@ ghost use Rattle.racl_views.specs.Objects.{number, object_line, object_of};
 ghost use Rattle.packet_words.specs.PacketWords.{numbered};
 ghost use Rattle.racl_views.specs.RuleTexts.{shown_of};
 ghost use Rattle.racl_views.specs.RunEntries.{RunFacts, run_facts};
-ghost use Rattle.racl_views.specs.Stored.{stored_facts};
+ghost use Rattle.session_state.specs.declared.timeouts.Timeouts as session;
+ghost use Rattle.racl_views.specs.Stored.{StoredFacts, stored_facts};
+ghost use Rattle.racl_views.specs.CountedSessions.{sessions_by};
 ghost use Rattle.racl_views.specs.declared.hit_counts.Hit.TheVariants.{Rule, Unruled};
 ghost use Rattle.racl_views.specs.declared.rule_numbering.RuleName.{RuleName};
 ghost use Rattle.racl_views.specs.inner.Counts.{Count};
@@ -260,22 +262,20 @@ fn hits_to_tell(
 
 /// What is told of the hits of packets that were counted, under a policy that this text says: for each of its rules its
 /// interface, direction and number, its line, how many packets it decided and its text; for each verdict that is no rule's how many
-/// packets have it; and how many sessions were entered, how many packets they let through, and how many have expired by this
-/// second. `stored` has the sessions that the tables hold after the run. An `Err` says that memory ran out.
+/// packets have it; and how many sessions were entered, how many packets they let through, and how many have expired: these
+/// counts. An `Err` says that memory ran out.
 pub fn counted_hits_text(
     alloc: Global,
     view: TextOrJson,
-    times: Timeouts,
-    latest: u32,
     text: &[u8],
     counts: &HitCounts,
-    stored: &StoredPairs,
+    sessions: SessionCounts,
 ) -> Result<Vec<u8>, AllocError>
-    ensures { IfOk result (λ told. (run : RunFacts) → run.text ≡ text.now → IsPolicyText run.text run.policy
-        → HaveCounted run.policy run.packets run.verdicts counts.now → IsHits view times latest run (stored_facts stored.now) told.items) }
+    ensures { IfOk result (λ told. (run : RunFacts) (times : session.Timeouts) (latest : ℕ) (stored : StoredFacts) → run.text ≡ text.now
+        → IsPolicyText run.text run.policy → HaveCounted run.policy run.packets run.verdicts counts.now
+        → sessions ≡ sessions_by times latest counts.now stored → IsHits view times latest run stored told.items) }
 {
     let rules = numbered_rules(alloc, text)?;
-    let sessions = count_sessions(times, latest, counts, stored);
     let hits = hits_to_tell(alloc, &rules, counts, sessions)?;
     let texts = texts_of(alloc, text)?;
     let told = tell_hits(alloc, view, &texts, &hits)?;
@@ -297,5 +297,6 @@ pub fn hits_text(
     let mut counts = HitCounts::new(alloc);
     counts.count(run.policy, run.packets, run.verdicts)?;
     let latest = latest_second(0, run.packets);
-    counted_hits_text(alloc, view, times, latest, run.text, &counts, stored)
+    let sessions = count_sessions(times, latest, &counts, stored);
+    counted_hits_text(alloc, view, run.text, &counts, sessions)
 }

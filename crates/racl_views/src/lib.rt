@@ -43,7 +43,7 @@ pub use rule_numbering::{RuleLine, RuleName, numbered_rules};
 pub use rule_table::RuleTable;
 pub use rule_texts_in_policy::text_at;
 pub use run_and_verdicts::Run;
-pub use session_counts::{StoredPairs, live_sessions};
+pub use session_counts::{SessionCounts, StoredPairs, count_sessions, live_sessions};
 pub use sessions_as_text_and_json::{TextOrJson, sessions_text};
 pub use shard_lines::{ShardOf, shard_text};
 pub use writing_explained_lines::{ExplainedLines, write_explained};

@@ -4,7 +4,7 @@ ghost use Rattle.session_state.specs.Sessions.{is_expired_at};
 ghost use Rattle.racl_views.specs.Hits.{live_among};
 ghost use Rattle.racl_views.specs.Stored;
 ghost use Rattle.racl_views.specs.Stored.{live_at, stored_facts};
-ghost use Rattle.racl_views.specs.inner.CountedSessions.{sessions_by};
+ghost use Rattle.racl_views.specs.CountedSessions.{sessions_by};
 
 use crate::hit_counts::HitCounts;
 use session_state::{Session, Timeouts};

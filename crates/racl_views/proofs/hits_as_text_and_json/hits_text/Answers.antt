@@ -24,5 +24,5 @@ returns c =
     IfOk-weaker c.counted_hits_text.result _ _
     (λ told all is.
     subst (λ n. IsHits c.args.view c.args.times n (run_facts c.args.run) (stored_facts c.args.stored.now) told.items) (c.latest_second-latest.ensures ∙ first)
-    (all (run_facts c.args.run) refl is (c.in_ok-count.ensures [] [] (c.new-counts.ensures (policy_facts c.args.run.policy.now)) refl)))
+    (all (run_facts c.args.run) c.args.times c.latest_second-latest.result (stored_facts c.args.stored.now) refl is (c.in_ok-count.ensures [] [] (c.new-counts.ensures (policy_facts c.args.run.policy.now)) refl) c.count_sessions-sessions.ensures))
     c.counted_hits_text.ensures
