@@ -93,9 +93,9 @@ judged_as packets verdicts views orders tables asked ready workers ages given si
     subst (λ s. AreJudgedAgeing (bucket_deal s workers) ready.times ages (policy_facts ready.policy.now) packets verdicts views) sized
     (subst (λ (o : Orders). AreSaidKnowing o packets verdicts views) given said)
 
-pub both_true : {a b : Bool} → a ≡ true → b ≡ true → (a && b) ≡ true
-both_true {true} {b} first second = second
-both_true {false} {b} first second = first
+pub both_true : (a b : Bool) → a ≡ true → b ≡ true → (a && b) ≡ true
+both_true true b first second = second
+both_true false b first second = first
 
 -- where none are removed, no second counts for what is told of sessions
 pub told_when : (layout : Layout) (times : Timeouts) (ages : Bool) (m n : ℕ) (views : Views) (told : StoredFacts) → (ages ≡ true → m ≡ n)

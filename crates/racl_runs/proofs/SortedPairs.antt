@@ -74,14 +74,15 @@ same_pairs [] (y ∷ ys) first second to from = absurd (none_inside y (from y (a
 same_pairs (x ∷ xs) [] first second to from = absurd (none_inside x (to x (at_head x xs)))
 same_pairs (x ∷ xs) (y ∷ ys) first second to from = λ i. heads i ∷ tails i
   where
+    second_first : Contains ys x → x ≡ y
+    second_first later =
+        elim (head_or_behind x y xs (from y (at_head y ys))) [
+          inl same ↦ same
+        | inr other ↦ absurd (not_both x.0 y.0 (below_all x.0 xs y first.0 other) (below_all y.0 ys x second.0 later))
+        ]
+
     heads : x ≡ y
-    heads = elim (head_or_behind y x ys (to x (at_head x xs))) [
-      inl same ↦ sym same
-    | inr later ↦ elim (head_or_behind x y xs (from y (at_head y ys))) [
-        inl same ↦ same
-      | inr other ↦ absurd (not_both x.0 y.0 (below_all x.0 xs y first.0 other) (below_all y.0 ys x second.0 later))
-      ]
-    ]
+    heads = elim (head_or_behind y x ys (to x (at_head x xs))) [ inl same ↦ sym same | inr later ↦ second_first later ]
 
     tails : xs ≡ ys
     tails = same_pairs xs ys first.1 second.1

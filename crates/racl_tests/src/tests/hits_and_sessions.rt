@@ -2,8 +2,8 @@
 use acl_policy::{Policy, read_policy};
 use packet_view::{Direction, Packets};
 use racl_views::{
-    CaptureBytes, RuleLine, RuleName, Run, StoredPairs, TextOrJson, hits_text, numbered_rules,
-    packets_in, sessions_text,
+    CaptureBytes, RuleLine, RuleName, Run, ShardOf, StoredPairs, TextOrJson, hits_text,
+    live_sessions, numbered_rules, packets_in, sessions_text, shard_text,
 };
 use session_state::{Shown, Timeouts, Verdict};
 use std::alloc::{AllocError, Global};
@@ -194,6 +194,44 @@ const OBJECTS: &str =
     {\"address\":\"2001:db8::1\",\"port\":53}],\"last\":4294967295,\"until\":4294967895}\n\
     {\"interface\":0,\"protocol\":6,\"ends\":[{\"address\":\"::1\",\"port\":65535,\"flags\":2},\
     {\"address\":\"2001:db8::1\",\"port\":22,\"flags\":0}],\"last\":7,\"until\":127}\n";
+
+// Those that are live at the second 651, the first behind that of echo's.
+const LIVE: &str =
+    "session interface 0 udp 10.0.0.1 port 1000 and 10.0.0.2 port 53 last 100 until 700\n\
+    session interface 0 tcp 10.0.0.1 port 40000 flags 12 and 10.0.0.2 port 80 flags 12 last 1700000000 until 1700003600\n\
+    session interface 255 udp ::1 port 5353 and 2001:db8::1 port 53 last 4294967295 until 4294967895\n";
+
+/// Of stored sessions those that are live at a second, up to the last in which they are.
+#[test]
+fn sessions_that_are_live(rt: HostRuntime) -> Result<(), Fail> {
+    let stored = stored_of(rt.alloc(), &FOUR, &SIX)?;
+    let live = live_sessions(rt.alloc(), &TIMES, 651, &stored)?;
+    let text = sessions_text(rt.alloc(), TextOrJson::Text, TIMES, &live)?;
+    assert!(rt; text.as_slice() == LIVE.as_bytes());
+    let live = live_sessions(rt.alloc(), &TIMES, 650, &stored)?;
+    assert!(rt; live.four.len() == 3);
+    assert!(rt; live.six.len() == 1);
+    Ok(())
+}
+
+const SHARD: ShardOf = ShardOf {
+    number: 2,
+    count: 8,
+    packets: 806,
+    latest: 1700,
+};
+
+/// Which shard a report is of is told as text and as JSON.
+#[test]
+fn which_shard_a_report_is_of(rt: HostRuntime) -> Result<(), Fail> {
+    let object = "{\"shard\":2,\"shards\":8,\"capture_packets\":806,\"capture_until\":1700}\n";
+    let line = "shard 2 of 8 of 806 packets until 1700\n";
+    for (view, told) in [(TextOrJson::Text, line), (TextOrJson::Json, object)] {
+        let text = shard_text(rt.alloc(), view, SHARD)?;
+        assert!(rt; text.as_slice() == told.as_bytes());
+    }
+    Ok(())
+}
 
 /// Sessions are told as text and as JSON, like the hits of rules.
 #[test]

@@ -4,6 +4,7 @@ use Rattle.packet_view.specs.CheckedCaptures.{remaining}
 use Rattle.racl_runs.specs.Crews.{AreIdleOf, AreSaidBy, Orders, orders_of}
 use Rattle.racl_views.specs.Hits.{latest_second}
 use Rattle.racl_runs.specs.declared.workers_as_judges.Crew.{Crew}
+use Rattle.racl_runs.specs.Runs.{keeps_stored}
 use Rattle.racl_runs.proofs.OutcomeLemmas.{both_true, judged_count, reached_by}
 use Rattle.racl_runs.proofs.captures_at_hand.judge_in_manner.Goals as goal
 
@@ -51,5 +52,5 @@ returns-clause-ok g c =
     (λ judged stored. reached_by c.args.options.now manner.filter.now c.in-Ok.tables manner.workers _ (orders_of c.in-Ok-new.workers) packets
     _ judged plan.times plan.some plan.few c.in-Ok.ensures.asked.four
     c.in-Ok-new.ensures.given c.in-Ok.ensures.asked.size said stored
-    (λ ages kept. let latest = c.latest_where.ensures (c.needs_latest.ensures ∙ both_true ages kept) in let later = latest_second packets in omega (arith, latest, later)))
+    (λ ages kept. let latest = c.latest_where.ensures (c.needs_latest.ensures ∙ both_true c.args.options.now.ages (keeps_stored c.args.options.now) ages kept) in let later = latest_second packets in omega (arith, latest, later)))
     c.with_stored.ensures.ok

@@ -4,6 +4,7 @@ use Rattle.packet_view.specs.Captures.{packets_at}
 use Rattle.acl_policy.specs.Policies.{policy_facts}
 use Rattle.racl_runs.specs.Crews.{AreAfter, orders_of}
 use Rattle.racl_runs.specs.Reads.{HasJudged}
+use Rattle.racl_runs.specs.Runs.{keeps_stored}
 use Rattle.racl_views.specs.Hits.{latest_second}
 use Rattle.racl_runs.specs.declared.dated_judging.Dated.{Dated}
 use Rattle.racl_runs.specs.declared.workers_as_judges.Crew.{Crew}
@@ -59,5 +60,5 @@ returns-in-Ok-end_capture_by_plan-clause-ok g c =
     c.plan_for-expected.ensures.some c.plan_for-expected.ensures.few c.in-Ok-create_sized.ensures.asked.four
     c.in-Ok-new.ensures.given c.in-Ok-create_sized.ensures.asked.size s.whole s.records s.end at
     c.in-Ok-end_capture_by_plan.ensures.ok has
-    (λ ages kept. latest (c.needs_latest.ensures ∙ both_true ages kept) ∙ first)))
+    (λ ages kept. latest (c.needs_latest.ensures ∙ both_true c.args.options.now.ages (keeps_stored c.args.options.now) ages kept) ∙ first)))
     c.with_stored.ensures.ok

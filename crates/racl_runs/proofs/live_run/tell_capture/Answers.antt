@@ -1,5 +1,5 @@
 use Rattle.std.proofs.Common.{◌∙◌, ◌++◌, ℕ, List, [], ap, inl, refl, rules}
-use Rattle.std.proofs.lemmas.Option.{IfSome-weaker}
+use Rattle.std.proofs.lemmas.Option.{IfSome_then}
 use Rattle.acl_policy.specs.Policies.{policy_facts}
 use Rattle.capture_stream.specs.Savings.{manner_of, outputs}
 use Rattle.capture_stream.proofs.TellLemmas.{failed_since, none_told, report_failed}
@@ -88,7 +88,7 @@ returns-in-Ok-tell_end_behind-clause-told g c =
     let text = c.in-Ok-noted_behind.ensures
     ∙ ap (λ (n : List ℕ). n ++ (c.in-Ok-told_behind_live.behind.hits.items ++ c.in-Ok-told_behind_live.behind.sessions.items))
     (note_same c.args.head.way.options.now c.args.head.shard _ _ _ _ seen
-    (IfSome-weaker c.args.head.shard _ _ (λ shard noted. latest noted refl) c.notes_latest.ensures.shard)) in
+    (IfSome_then c.args.head.shard c.notes_latest.ensures.shard (λ shard noted. latest noted refl))) in
     own_end_told c.args.head.way _ _ c.in-Ok-workers_over.ensures (as_asked c.in-Ok.ensures.asked c.ages_early-ages.ensures) c.requires.sound.0 (g.L.Teller.wording c.args.lines) g.K.Saver.saved
     _ _ _ _ _ c.in-Ok-tell_live.told all (note_for c.args.head.way.options.now c.args.head.shard) _ _
     (c.in-Ok-told_behind_live.ensures _ _ _ may (λ kept. latest (c.notes_latest.ensures.stored kept) refl)) text _
@@ -108,7 +108,7 @@ returns-clause-told g c =
     let text = c.in-Ok-noted_behind.ensures
     ∙ ap (λ (n : List ℕ). n ++ (c.in-Ok-told_behind_live.behind.hits.items ++ c.in-Ok-told_behind_live.behind.sessions.items))
     (note_same c.args.head.way.options.now c.args.head.shard _ _ _ _ seen
-    (IfSome-weaker c.args.head.shard _ _ (λ shard noted. latest noted refl) c.notes_latest.ensures.shard)) in
+    (IfSome_then c.args.head.shard c.notes_latest.ensures.shard (λ shard noted. latest noted refl))) in
     own_end_fault c.args.head.way _ _ c.in-Ok-workers_over.ensures (as_asked c.in-Ok.ensures.asked c.ages_early-ages.ensures) c.requires.sound.0 (g.L.Teller.wording c.args.lines) g.K.Saver.saved
     _ _ _ _ _ c.in-Ok-tell_live.told all (note_for c.args.head.way.options.now c.args.head.shard) _ _
     (c.in-Ok-told_behind_live.ensures _ _ _ may (λ kept. latest (c.notes_latest.ensures.stored kept) refl)) text _ c.in-Err-tell_end_behind.fault
