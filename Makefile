@@ -53,12 +53,11 @@ install-program:
 	install -m 755 install/racl racl-page racl-import $(TO)/bin
 	install -d $(TO)/libexec/racl/racl_import
 	install -m 644 racl_import/*.py $(TO)/libexec/racl/racl_import
-	install -D -m 644 $(PAGES)/racl.1 $(SHARE)/man/man1/racl.1
+	install -d $(SHARE)/man/man1
+	install -m 644 $(PAGES)/racl.1 $(PAGES)/racl-import.1 $(PAGES)/racl-page.1 $(SHARE)/man/man1
 	install -D -m 644 $(PAGES)/racl.bash $(SHARE)/bash-completion/completions/racl
 	install -D -m 644 $(PAGES)/_racl $(SHARE)/zsh/site-functions/_racl
-	install -d $(DOC)/examples
-	install -m 644 docs/POLICIES.md docs/FORMATS.md $(DOC)
-	install -m 644 examples/*.* $(DOC)/examples
+	install/documents $(DOC)
 
 install-libraries:
 	install -d $(TO)/include $(TO)/lib/pkgconfig
@@ -69,7 +68,7 @@ install-libraries:
 	[ -n "$(DESTDIR)" ] || ldconfig 2>/dev/null || true
 
 uninstall:
-	rm -f $(TO)/bin/racl $(TO)/bin/racl-page $(TO)/bin/racl-import $(SHARE)/man/man1/racl.1 $(SHARE)/bash-completion/completions/racl $(SHARE)/zsh/site-functions/_racl
+	rm -f $(TO)/bin/racl $(TO)/bin/racl-page $(TO)/bin/racl-import $(SHARE)/man/man1/racl.1 $(SHARE)/man/man1/racl-*.1 $(SHARE)/bash-completion/completions/racl $(SHARE)/zsh/site-functions/_racl
 	rm -f $(TO)/include/racl.h $(TO)/include/bihash.h $(TO)/lib/libracl.* $(TO)/lib/libbihash.*
 	rm -f $(TO)/lib/pkgconfig/racl.pc $(TO)/lib/pkgconfig/bihash.pc
 	rm -rf $(TO)/libexec/racl $(DOC)

@@ -1,5 +1,6 @@
 //! The files of a written policy, and their lines.
-ghost use Rattle.std.specs.Prelude.{◌≡◌, IfOk, IfSome, map, string_bytes};
+ghost use Rattle.std.specs.Prelude.{◌≡◌, IfNone, IfOk, IfSome, map, string_bytes};
+ghost use Rattle.std.specs.Str.{IsUtf8};
 ghost use Rattle.policy_expand.specs.Sources.{file_lines, source_facts};
 
 use std::alloc::{AllocError, Global};
@@ -47,8 +48,9 @@ pub fn lines_of_file<'a>(
     alloc: Global,
     file: &'a PolicyFile,
 ) -> Result<Option<Vec<SourceLine<'a>>>, AllocError>
-    ensures { IfOk result (λ found. IfSome found (λ lines. map source_facts lines.items
+    ensures some { IfOk result (λ found. IfSome found (λ lines. map source_facts lines.items
         ≡ file_lines (string_bytes file.now.name) file.now.text.items)) }
+    ensures none { IfOk result (λ found. IfNone found (IsUtf8 file.now.text.items → ⊥)) }
 {
     match str::from_utf8(file.text.as_slice()) {
         Ok(text) => Ok(Some(lines_of_text(alloc, file.name.as_str(), text)?)),

@@ -1,5 +1,5 @@
 //! The file that a line includes.
-ghost use Rattle.std.specs.Prelude.{◌≡◌, ◌≤◌, ◌∷◌, [], IfOk, MatchOption, List, ℕ, codes, false, length, string_bytes, take, true};
+ghost use Rattle.std.specs.Prelude.{◌≡◌, ◌≤◌, ◌∷◌, [], IfErr, IfOk, MatchOption, List, ℕ, codes, false, length, string_bytes, take, true};
 ghost use Rattle.acl_policy.specs.Words.{without_comment, words_of};
 ghost use Rattle.policy_expand.specs.Inclusions.{Includes, IsFolder, IsNamedIn, IsOrdinary};
 ghost use Rattle.policy_expand.specs.Sources.{source_facts};
@@ -47,7 +47,8 @@ fn named_in(alloc: Global, file: &[u8], word: &[u8]) -> Result<Vec<u8>, AllocErr
 
 // The word of a line that names the file which it includes. None: it includes none.
 fn include_word(line: &[u8]) -> Result<Option<&[u8]>, LineFault<'_>>
-    ensures { IfOk result (λ found. MatchOption found
+    ensures err { IfErr result (λ _. (more : List (List ℕ)) × (words_of (without_comment line.now) ≡ codes "include" ∷ more)) }
+    ensures ok { IfOk result (λ found. MatchOption found
         ((more : List (List ℕ)) → words_of (without_comment line.now) ≡ codes "include" ∷ more → ⊥)
         (λ word. words_of (without_comment line.now) ≡ codes "include" ∷ word.now ∷ [])) }
 {
@@ -68,7 +69,8 @@ fn include_word(line: &[u8]) -> Result<Option<&[u8]>, LineFault<'_>>
 
 /// Whether a line includes no file. One whose include is wrong includes one.
 pub fn is_ordinary(line: &[u8]) -> bool
-    ensures { result ≡ true → (more : List (List ℕ)) → words_of (without_comment line.now) ≡ codes "include" ∷ more → ⊥ }
+    ensures yes { result ≡ true → (more : List (List ℕ)) → words_of (without_comment line.now) ≡ codes "include" ∷ more → ⊥ }
+    ensures no { result ≡ false → (more : List (List ℕ)) × (words_of (without_comment line.now) ≡ codes "include" ∷ more) }
 {
     match include_word(line) {
         Ok(None) => true,

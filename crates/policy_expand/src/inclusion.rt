@@ -1,5 +1,5 @@
 //! The whole text of a policy: its lines, with those of included files in the places of the lines that include them.
-ghost use Rattle.std.specs.Prelude.{◌≡◌, ◌++◌, List, IfOk, IfSome, None, OnOk, Some, map, string_bytes};
+ghost use Rattle.std.specs.Prelude.{◌≡◌, ◌++◌, List, IfErr, IfOk, IfSome, None, OnOk, Some, map, string_bytes};
 ghost use Rattle.std.specs.Str.{bytes_eq};
 ghost use Rattle.policy_expand.specs.Inclusions.{AllStand, AreOrdinary, IsWhole, StandsOnce, file_facts, text_of};
 ghost use Rattle.policy_expand.specs.Sources.{SourceFacts, source_facts};
@@ -100,7 +100,8 @@ fn all_lines_once<'a>(
 
 // The first of these lines that includes a file, or is to.
 fn first_include<'a>(lines: &[SourceLine<'a>]) -> Option<SourceLine<'a>>
-    ensures { result ≡ None → AreOrdinary (map source_facts lines.now) }
+    ensures none { result ≡ None → AreOrdinary (map source_facts lines.now) }
+    ensures some { IfSome result (λ _. AreOrdinary (map source_facts lines.now) → ⊥) }
 {
     let mut rest = lines;
     'lines: while !rest.is_empty() {
@@ -118,8 +119,9 @@ pub fn included_lines<'a>(
     files: &'a [PolicyFile],
     lines: Vec<SourceLine<'a>>,
 ) -> Result<Vec<SourceLine<'a>>, WrongLine<'a>>
-    ensures { IfOk result (λ whole. IsWhole (map file_facts files.now) (map source_facts lines.entry.items)
+    ensures ok { IfOk result (λ whole. IsWhole (map file_facts files.now) (map source_facts lines.entry.items)
         (map source_facts whole.items)) }
+    ensures err { IfErr result (λ _. AreOrdinary (map source_facts lines.entry.items) → ⊥) }
 {
     let mut lines = lines;
     for _ in 0..MOST_DEEP {
