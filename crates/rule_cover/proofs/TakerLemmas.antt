@@ -1,14 +1,16 @@
 -- How one rule after the other is left out.
-use Rattle.std.proofs.Common.{◌≡◌, ◌≢◌, ◌≤◌, ◌<◌, ◌⊎◌, ◌∙◌, ℕ, zero, suc, ◌+◌, Bool, List, [], ◌∷◌, ◌++◌, Option, Some, None, All, length, map, take, get_or, arith, refl, sym, ap, subst, inl, inr}
+use Rattle.std.proofs.Common.{◌≡◌, ◌≢◌, ◌≤◌, ◌<◌, ◌⊎◌, ◌∙◌, ℕ, zero, suc, ◌+◌, Bool, List, [], ◌∷◌, ◌++◌, Global, Option, Some, None, Vec, All, below_more, length, map, take, get_or, arith, refl, sym, ap, subst, inl, inr}
 use Rattle.std.specs.Prelude.{Contains, option_map, slice_get}
 use Rattle.std.proofs.lemmas.Bool.{cases_lt}
-use Rattle.std.proofs.lemmas.List.{length-take, length_push, map_more, map_push, take-append-le, take_all, take_more}
-use Rattle.std.proofs.lemmas.List.Elements.{All-append, All-cons, All-contains, All-nil, All-pop, All-weaker, Contains-append_cases, Contains-append_left, Contains-append_right, Contains-get_or, Contains-push, Contains-push_cases}
+use Rattle.std.proofs.lemmas.List.{length-take, length_push, map_more, map_push, take-append-le, take_all}
+use Rattle.std.proofs.lemmas.List.Elements.{All-cons, All-contains, All-nil, All-pop, All-push, All-weaker, Contains-append_cases, Contains-append_left, Contains-append_right, Contains-get_or, Contains-push, Contains-push_cases}
 use Rattle.std.proofs.lemmas.Option.{get_or_from_slice_get, none-some, same_Some, slice_get-get_or, slice_get-map, slice_get_within}
-use Rattle.packet_view.specs.Tuples.{TupleFacts}
+use Rattle.packet_view.specs.Tuples.{TupleFacts, tuple_facts}
 use Rattle.acl_policy.specs.Rules.{RuleFacts}
-use Rattle.rule_cover.specs.Covers.{AreTaken, IsLeft, IsMarked, IsNeeded, IsTakenByMarked}
-use Rattle.rule_cover.specs.inner.Takers.{AreAt, AreMarkedIn, AreTried, IsTried}
+use Rattle.rule_cover.specs.Covers.{IsCover, IsLeft, IsMarked, IsNeeded, IsTakenByMarked}
+use Rattle.rule_cover.specs.declared.uncovered_packets.Cover.{Cover}
+use Rattle.rule_cover.specs.declared.uncovered_packets.Cover.TheVariants.{Left, Taken, Unknown}
+use Rattle.rule_cover.specs.inner.Takers.{AreAt, AreMarkedIn, AreTried}
 
 -- an element is at a place, and what is at a place is an element
 at_of : {X : Type 0} (xs : List X) (x : X) → Contains xs x → (i : ℕ) × (slice_get xs i ≡ Some x)
@@ -60,13 +62,13 @@ other_there rules places others k rule are in_them at =
 pub at_none : (rules : List RuleFacts) (others : List RuleFacts) → others ≡ [] → AreAt rules [] others
 at_none rules others none = record { same = ap (map (λ (r : RuleFacts). Some r)) none }
 
-pub at_more : (rules : List RuleFacts) (places : List ℕ) (i place : ℕ) (others : List RuleFacts) (rule : RuleFacts) → i < length places → place ≡ get_or places i place
-    → slice_get rules place ≡ Some rule → AreAt rules (take i places) others → AreAt rules (take (i + 1) places) (others ++ rule ∷ [])
-at_more rules places i place others rule within is at are = record {
+pub at_more : (rules : List RuleFacts) (places : List ℕ) (i : ℕ) (others : List RuleFacts) (rule : RuleFacts) → i < length places
+    → slice_get rules (get_or places i 0) ≡ Some rule → AreAt rules (take i places) others → AreAt rules (take (i + 1) places) (others ++ rule ∷ [])
+at_more rules places i others rule within at are = record {
   same = map_push (λ (r : RuleFacts). Some r) others rule
       ∙ ap (λ (xs : List (Option RuleFacts)). xs ++ Some rule ∷ []) are.same
-      ∙ ap (λ (o : Option RuleFacts). map (slice_get rules) (take i places) ++ o ∷ []) (sym at ∙ ap (slice_get rules) is)
-      ∙ sym (map_more (slice_get rules) places i place within);
+      ∙ ap (λ (o : Option RuleFacts). map (slice_get rules) (take i places) ++ o ∷ []) (sym at)
+      ∙ sym (map_more (slice_get rules) places i 0 within);
 }
 
 -- places that stay
@@ -122,6 +124,21 @@ stay_without places first marks stay x are within not = record {
   ];
 }
 
+-- the marked places, up to one more
+pub marked_passed : (marks : List Bool) (places : List ℕ) (place : ℕ) → (IsMarked marks place → ⊥) → ((k : ℕ) → k < place → IsMarked marks k → Contains places k)
+    → (k : ℕ) → k < place + 1 → IsMarked marks k → Contains places k
+marked_passed marks places place not every = below_more (λ (k : ℕ). IsMarked marks k → Contains places k) place every (λ marked. absurd (not marked))
+
+pub marked_pushed : (marks : List Bool) (old new : List ℕ) (place : ℕ) → place < length marks → All (λ k. k < length marks) old
+    → ((k : ℕ) → k < place → IsMarked marks k → Contains old k) → new ≡ old ++ place ∷ []
+    → All (λ k. k < length marks) new × ((k : ℕ) → k < place + 1 → IsMarked marks k → Contains new k)
+marked_pushed marks old new place within each every same = (
+  subst (All (λ k. k < length marks)) (sym same) (All-push (λ k. k < length marks) old place each within),
+  below_more (λ (k : ℕ). IsMarked marks k → Contains new k) place
+  (λ k less marked. subst (λ (xs : List ℕ). Contains xs k) (sym same) (Contains-append_left old (place ∷ []) k (every k less marked)))
+  (λ marked. subst (λ (xs : List ℕ). Contains xs place) (sym same) (Contains-push old place)),
+)
+
 -- a rule that is needed among some is needed among fewer
 needed_of : (rule : RuleFacts) (rules : List RuleFacts) (old new : List ℕ) → ((k : ℕ) → Contains new k → Contains old k)
     → (place : ℕ) → IsNeeded rule rules old place → IsNeeded rule rules new place
@@ -147,6 +164,14 @@ left_needs rule rules places place others tuple are left = record {
     | inr behind ↦ let it = other_there rules places others k other are behind at in left.none it.0 other it.1
   ];
 }
+
+-- so the rule is needed where the others weren't found to take all, and a test is left
+pub is_needed : (rule : RuleFacts) (rules : List RuleFacts) (places : List ℕ) (place : ℕ) (others : List RuleFacts) (cover : Cover) (tests : ℕ)
+    → AreAt rules places others → IsCover rule rule others cover → ((marks : Vec Bool Global) → cover ≡ Taken marks → ⊥) → (cover ≡ Unknown → tests ≡ 0)
+    → tests ≢ 0 → IsNeeded rule rules (place ∷ places) place
+is_needed rule rules places place others (Left tuple) tests are is not none left = left_needs rule rules places place others (tuple_facts tuple) are is
+is_needed rule rules places place others (Taken marks) tests are is not none left = absurd (not marks refl)
+is_needed rule rules places place others Unknown tests are is not none left = absurd (left (none refl))
 
 -- the last rule is put first
 pub put_first : (rule : RuleFacts) (rules : List RuleFacts) (tests fewer : ℕ) (old places : List ℕ) (place tried : ℕ) → old ≡ places ++ place ∷ []
