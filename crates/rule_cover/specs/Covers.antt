@@ -1,5 +1,5 @@
 -- Which packets there are, and what rules leave of a set of them: this project's profile of first match.
-use Rattle.std.specs.Prelude.{◌≡◌, ◌≤◌, ◌<◌, ℕ, ◌^◌, IsTrue, List, slice_get, Some}
+use Rattle.std.specs.Prelude.{◌≡◌, ◌≢◌, ◌<◌, ℕ, ◌^◌, Bool, true, IsTrue, List, Contains, length, slice_get, Some}
 use Rattle.packet_view.specs.Addresses.{address_limit, fields_suit}
 use Rattle.packet_view.specs.Tuples.{TupleFacts, tuple_facts}
 use Rattle.packet_view.specs.declared.tuple.Fields.{Fields}
@@ -31,17 +31,30 @@ pub record IsLeft (a b : RuleFacts) (rules : List RuleFacts) (tuple : TupleFacts
   pub two : Matches b tuple
   pub none : DecidesByDefault rules tuple
 
--- A rule of the list from the first to the last place matches the packet.
-abbrev pub IsTaken : List RuleFacts → ℕ → ℕ → TupleFacts → Type 0
-IsTaken rules first last tuple =
-    (k : ℕ) × (rule : RuleFacts) × (first ≤ k) × (k ≤ last) × (slice_get rules k ≡ Some rule) × Matches rule tuple
+-- A rule of the list at such a place matches the packet.
+abbrev pub IsTaken : List RuleFacts → (ℕ → Type 0) → TupleFacts → Type 0
+IsTaken rules at tuple = (k : ℕ) × (rule : RuleFacts) × at k × (slice_get rules k ≡ Some rule) × Matches rule tuple
 
--- Each packet that both rules match is matched by a rule of the list, from the first to the last place.
-abbrev pub AreTaken : RuleFacts → RuleFacts → List RuleFacts → ℕ → ℕ → Type 0
-AreTaken one two rules first last =
-    (tuple : TupleFacts) → IsPacket tuple → Matches one tuple → Matches two tuple → IsTaken rules first last tuple
+-- Each packet that both rules match is matched by a rule of the list at such a place.
+abbrev pub AreTaken : RuleFacts → RuleFacts → List RuleFacts → (ℕ → Type 0) → Type 0
+AreTaken one two rules at = (tuple : TupleFacts) → IsPacket tuple → Matches one tuple → Matches two tuple → IsTaken rules at tuple
+
+-- The place of a rule that is marked.
+abbrev pub IsMarked : List Bool → ℕ → Type 0
+IsMarked marks k = slice_get marks k ≡ Some true
+
+pub record IsTakenByMarked (one two : RuleFacts) (rules : List RuleFacts) (marks : List Bool) : Type 0 where
+  pub marks : length marks ≡ length rules
+  pub taken : AreTaken one two rules (IsMarked marks)
 
 abbrev pub IsCover : RuleFacts → RuleFacts → List RuleFacts → Cover → Type 0
 IsCover one two rules (Left tuple) = IsLeft one two rules (tuple_facts tuple)
-IsCover one two rules (Taken first last) = AreTaken one two rules first last
+IsCover one two rules (Taken marks) = IsTakenByMarked one two rules marks.items
 IsCover one two rules Unknown = Unit {0}
+
+-- The rule at a place can't be left out of those at some: a packet of the rule is matched by no other of them.
+pub record IsNeeded (rule : RuleFacts) (rules : List RuleFacts) (places : List ℕ) (place : ℕ) : Type 0 where
+  pub tuple : TupleFacts
+  pub packet : IsPacket tuple
+  pub is : Matches rule tuple
+  pub alone : (k : ℕ) (other : RuleFacts) → Contains places k → k ≢ place → slice_get rules k ≡ Some other → Matches other tuple → ⊥

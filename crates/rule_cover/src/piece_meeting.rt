@@ -1,5 +1,5 @@
 //! Where rules meet a piece.
-ghost use Rattle.std.specs.Prelude.{◌≤◌, length, map};
+ghost use Rattle.std.specs.Prelude.{◌≡◌, ◌≤◌, ◌<◌, IfSome, None, length, map};
 ghost use Rattle.acl_policy.specs.Rules.{rule_facts};
 ghost use Rattle.rule_cover.specs.inner.Pieces.{IsMeeting, IsParting};
 
@@ -23,19 +23,27 @@ fn part_by(region: &Region, rule: &Rule) -> Parting
     }
 }
 
-/// The first rule from the piece's place on that may match packets of it.
-pub fn first_meeting(piece: &PacketSet, rules: &[Rule]) -> Meeting
+/// The first rule from the piece's place on that may match packets of it; each that is looked at takes one of the tests that
+/// are left. None: too few were left.
+pub fn first_meeting(tests: &mut u64, piece: &PacketSet, rules: &[Rule]) -> Option<Meeting>
     requires { piece.now.place ≤ length rules.now }
-    ensures { IsMeeting (map rule_facts rules.now) piece.now result }
+    ensures meets { IfSome result (IsMeeting (map rule_facts rules.now) piece.now) }
+    ensures spent { IfSome result (λ met. met.place < length rules.now → tests.new < tests.old) }
+    ensures fewer { tests.new ≤ tests.old }
+    ensures none { result ≡ None → tests.new ≡ 0 }
 {
     for place in piece.place..rules.len() {
+        if *tests == 0 {
+            return None;
+        }
+        *tests -= 1;
         match part_by(&piece.region, &rules[place]) {
             Parting::Apart => {}
-            parting => return Meeting { place, parting },
+            parting => return Some(Meeting { place, parting }),
         }
     }
-    Meeting {
+    Some(Meeting {
         place: rules.len(),
         parting: Parting::Apart,
-    }
+    })
 }

@@ -1,8 +1,9 @@
 //! The packets that no rule of a list matches, of those that two rules match: they are cut at the ends of the rules' ranges
 //! until no rule matches some of a piece, or one matches all of it.
-ghost use Rattle.std.specs.Prelude.{IfOk, OnOk, map};
+ghost use Rattle.std.specs.Prelude.{◌≡◌, ◌≤◌, IfOk, Ok, OnOk, map};
 ghost use Rattle.acl_policy.specs.Rules.{rule_facts};
 ghost use Rattle.rule_cover.specs.Covers.{IsCover};
+ghost use Rattle.rule_cover.specs.declared.uncovered_packets.Cover.TheVariants.{Unknown};
 ghost use Rattle.rule_cover.specs.inner.Pieces.{AddsShown, AreFirst};
 
 use crate::packet_in_region::packet_in;
@@ -16,14 +17,13 @@ use packet_view::Tuple;
 use std::alloc::{AllocError, Global};
 
 /// What rules leave of the packets that two other rules match both.
-#[derive(Clone, Copy, Debug, PartialEq, Eq)]
+#[derive(Debug, Drop, PartialEq)]
 pub enum Cover {
     /// This packet.
     Left(Tuple),
-    /// None: the rules from the first of these places to the last, counted from 0, take all such packets. The places name no
-    /// rule where there is no such packet.
-    Taken(usize, usize),
-    /// It was not found out in so many steps.
+    /// None: the rules of the list that are marked take all such packets.
+    Taken(Vec<bool>),
+    /// It was not found out in so many tests.
     Unknown,
 }
 
@@ -60,30 +60,25 @@ fn all_packets(alloc: Global, one: &Rule, two: &Rule) -> Result<Vec<PacketSet>, 
     Ok(left)
 }
 
-/// A packet that both rules match and no rule of the list does, or that there is none. `Unknown` is answered only where more
-/// than so many tests of a rule were needed. An `Err` says that memory ran out.
+/// A packet that both rules match and no rule of the list does, or that there is none. Each look at a rule takes one of the
+/// tests; `Unknown` is answered only where none is left. An `Err` says that memory ran out.
 pub fn uncovered(
     alloc: Global,
+    tests: &mut u64,
     one: &Rule,
     two: &Rule,
     rules: &[Rule],
-    most: u64,
 ) -> Result<Cover, AllocError>
-    ensures { IfOk result (IsCover (rule_facts one.now) (rule_facts two.now) (map rule_facts rules.now)) }
+    ensures cover { IfOk result (IsCover (rule_facts one.now) (rule_facts two.now) (map rule_facts rules.now)) }
+    ensures fewer { tests.new ≤ tests.old }
+    ensures unknown { result ≡ Ok Unknown → tests.new ≡ 0 }
 {
     let mut left = all_packets(alloc, one, two)?;
-    let mut first = rules.len();
-    let mut last: usize = 0;
-    let mut tests: u64 = 0;
-    'pieces: for _ in 0..most {
-        let Some(piece) = left.pop() else {
-            return Ok(Cover::Taken(first, last));
-        };
-        let met = first_meeting(&piece, rules);
-        tests = tests.saturating_add((met.place - piece.place) as u64);
-        if tests > most {
+    let mut marks = vec![in alloc; false; rules.len()]?;
+    'pieces: while let Some(piece) = left.pop() {
+        let Some(met) = first_meeting(tests, &piece, rules) else {
             return Ok(Cover::Unknown);
-        }
+        };
         match met.parting {
             Parting::Apart => {
                 if let Some(tuple) = packet_in(&piece.region) {
@@ -92,8 +87,7 @@ pub fn uncovered(
                 continue;
             }
             Parting::Whole => {
-                first = first.min(met.place);
-                last = last.max(met.place);
+                marks[met.place] = true;
                 continue;
             }
             Parting::Cut(outside, inside) => {
@@ -109,5 +103,5 @@ pub fn uncovered(
             }
         }
     }
-    Ok(Cover::Unknown)
+    Ok(Cover::Taken(marks))
 }

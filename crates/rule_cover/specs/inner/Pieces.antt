@@ -1,9 +1,9 @@
 -- Pieces of the packets that are looked for.
-use Rattle.std.specs.Prelude.{◌≡◌, ◌≤◌, ◌<◌, ◌⊎◌, ℕ, List, [], ◌∷◌, ◌++◌, All, length, slice_get, Some}
+use Rattle.std.specs.Prelude.{◌≡◌, ◌≤◌, ◌<◌, ◌⊎◌, ℕ, Bool, List, [], ◌∷◌, ◌++◌, All, length, slice_get, Some}
 use Rattle.packet_view.specs.Tuples.{TupleFacts}
 use Rattle.acl_policy.specs.Matching.{Matches}
 use Rattle.acl_policy.specs.Rules.{RuleFacts}
-use Rattle.rule_cover.specs.Covers.{IsPacket, IsTaken}
+use Rattle.rule_cover.specs.Covers.{IsMarked, IsPacket, IsTaken}
 use Rattle.rule_cover.specs.declared.packet_set.Meeting.{Meeting}
 use Rattle.rule_cover.specs.declared.packet_set.Parting.{Parting}
 use Rattle.rule_cover.specs.declared.packet_set.Parting.TheVariants.{Apart, Whole, Cut}
@@ -79,7 +79,9 @@ pub record AreFirst (a b : RuleFacts) (pieces : List PacketSet) : Type 0 where
   pub each : All (IsWhole a b) pieces
   pub every : (tuple : TupleFacts) → IsPacket tuple → Matches a tuple → Matches b tuple → IsInSome pieces tuple
 
--- Each packet of both rules is matched by a rule from the first to the last place, or is in a piece.
-pub record IsSearch (a b : RuleFacts) (rules : List RuleFacts) (pieces : List PacketSet) (first last : ℕ) : Type 0 where
+-- Each packet of both rules is matched by a marked rule, or is in a piece.
+pub record IsSearch (a b : RuleFacts) (rules : List RuleFacts) (pieces : List PacketSet) (marks : List Bool) : Type 0 where
+  pub marks : length marks ≡ length rules
   pub each : All (IsPiece a b rules) pieces
-  pub every : (tuple : TupleFacts) → IsPacket tuple → Matches a tuple → Matches b tuple → IsTaken rules first last tuple ⊎ IsInSome pieces tuple
+  pub every : (tuple : TupleFacts) → IsPacket tuple → Matches a tuple → Matches b tuple
+      → IsTaken rules (IsMarked marks) tuple ⊎ IsInSome pieces tuple
