@@ -1,45 +1,13 @@
 -- What is found pair after pair.
-use Rattle.std.specs.Prelude.{◌≡◌, ◌≢◌, ◌<◌, ℕ, ◌+◌, List, ◌++◌, length, map, Option, Some, None, All, Contains}
+use Rattle.std.specs.Prelude.{◌≡◌, ◌<◌, ℕ, ◌+◌, List, ◌++◌, length, map, All, Contains}
 use Rattle.packet_view.specs.declared.tuple.Direction.{Direction}
 use Rattle.packet_view.specs.Tuples.{TupleFacts, tuple_facts}
-use Rattle.acl_policy.specs.declared.rule.Action.{Action}
-use Rattle.acl_policy.specs.declared.rule.Action.TheVariants.{Deny}
-use Rattle.acl_policy.specs.Matching.{DecidesByDefault, Matches}
 use Rattle.acl_policy.specs.Policies.{PolicyFacts}
 use Rattle.acl_policy.specs.Rules.{RuleFacts, rule_facts}
-use Rattle.rule_cover.specs.Covers.{IsPacket}
-use Rattle.rule_cover.specs.declared.uncovered_packets.Cover.{Cover}
-use Rattle.rule_cover.specs.declared.uncovered_packets.Cover.TheVariants.{Left, Taken, Unknown}
-use Rattle.policy_compare.specs.Comparisons.{AreApart, DifferBy, IsExample, OwnDiffer, decider_at, outcome, rules_at}
+use Rattle.policy_compare.specs.Comparisons.{AreApart, DifferBy, IsExample, OwnDiffer, decider_at, rules_at}
 use Rattle.policy_compare.specs.declared.taking_rules.Sides.{Sides}
 use Rattle.policy_compare.specs.declared.difference.Difference.{Difference}
 use Rattle.policy_compare.specs.declared.difference.Pair.{Pair}
-
--- ---- one pair
-
--- the rule matches the packet, where there is one
-abbrev pub MatchesIf : Option RuleFacts → TupleFacts → Type 0
-MatchesIf None tuple = Unit {0}
-MatchesIf (Some rule) tuple = Matches rule tuple
-
--- the action of the rule, and that of none
-abbrev pub action_of : Option RuleFacts → Action
-action_of None = Deny
-action_of (Some rule) = rule.action
-
--- Both match the packet and let different things become of it, and no earlier rule matches it.
-pub record IsFree (one two : Option RuleFacts) (earlier : List RuleFacts) (tuple : TupleFacts) : Type 0 where
-  pub packet : IsPacket tuple
-  pub by_one : MatchesIf one tuple
-  pub by_two : MatchesIf two tuple
-  pub none : DecidesByDefault earlier tuple
-  pub apart : outcome tuple (action_of one) ≢ outcome tuple (action_of two)
-
--- A packet that is so was found, or there is none.
-abbrev pub IsFound : (TupleFacts → Type 0) → Cover → Type 0
-IsFound Is (Left tuple) = Is (tuple_facts tuple)
-IsFound Is (Taken first last) = (tuple : TupleFacts) → Is tuple → ⊥
-IsFound Is Unknown = Unit {0}
 
 -- ---- all pairs of an interface and a direction
 

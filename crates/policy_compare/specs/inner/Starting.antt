@@ -8,11 +8,9 @@ use Rattle.packet_view.specs.declared.tuple.Fields.TheVariants.{Absent, Icmp, Po
 use Rattle.packet_view.specs.Tuples.{TupleFacts}
 use Rattle.session_state.specs.Flows.{request_type}
 use Rattle.acl_policy.specs.declared.rule.Action.TheVariants.{Deny}
-use Rattle.acl_policy.specs.Matching.{DecidesByDefault, Matches}
+use Rattle.acl_policy.specs.Matching.{Matches}
 use Rattle.acl_policy.specs.Rules.{RuleFacts}
 use Rattle.rule_cover.specs.Covers.{IsLeft, IsPacket}
-use Rattle.rule_cover.specs.declared.uncovered_packets.Cover.{Cover}
-use Rattle.rule_cover.specs.declared.uncovered_packets.Cover.TheVariants.{Left, Taken, Unknown}
 
 -- fields of a packet that may start a session: ports, or the type of an echo request
 abbrev pub start_fields : Family → Fields → Bool
@@ -57,11 +55,3 @@ IsLeftOf proto one two earlier tuple = IsLeft one two earlier tuple × (tuple.pr
 abbrev pub IsLeftOfStarting : RuleFacts → RuleFacts → List RuleFacts → TupleFacts → Type 0
 IsLeftOfStarting one two earlier tuple =
     IsLeft one two earlier tuple × ((tuple.proto ≡ 6) ⊎ ((tuple.proto ≡ 17) ⊎ (tuple.proto ≡ icmp_of one.family)))
-
--- the packet that is left by the one search or else by the other
-abbrev pub either : Cover → Cover → Cover
-either (Left tuple) other = Left tuple
-either (Taken first last) other = other
-either Unknown (Left tuple) = Left tuple
-either Unknown (Taken first last) = Unknown
-either Unknown Unknown = Unknown
