@@ -68,10 +68,10 @@ pub left_of_part : (one part two : RuleFacts) (proto : ℕ) (earlier : List Rule
 left_of_part one part two proto earlier found narrow is =
     finding_of_cover (IsLeftOf proto one two earlier) part two earlier found is
     (λ tuple left.
-        let both = (narrow tuple left.packet).0 left.one in
-        (record { packet = left.packet; one = both.0; two = left.two; none = left.none }, both.1))
+    let both = (narrow tuple left.packet).0 left.one in
+    (record { packet = left.packet; one = both.0; two = left.two; none = left.none }, both.1))
     (λ tuple it.
-        record { packet = it.0.packet; one = (narrow tuple it.0.packet).1 (it.0.one, it.1); two = it.0.two; none = it.0.none })
+    record { packet = it.0.packet; one = (narrow tuple it.0.packet).1 (it.0.one, it.1); two = it.0.two; none = it.0.none })
 
 pub left_of_three : (one two : RuleFacts) (earlier : List RuleFacts) (a b c : Finding) → IsFinding (IsLeftOf 6 one two earlier) a
     → IsFinding (IsLeftOf 17 one two earlier) b → IsFinding (IsLeftOf (icmp_of one.family) one two earlier) c
@@ -153,20 +153,22 @@ apart_of_starting one two earlier rest found other first second is left =
     let here = subst (λ (rules : List RuleFacts). IsFinding (IsLeftOfStarting one two rules) found) is left in
     finding_as (IsLeftOfStarting one two (idle_rules ++ rest)) (IsFreeApart (Some one) (Some two) rest) found here
     (λ tuple it.
-        let none = none_of_right idle_rules rest tuple it.0.none in
-        let of = subst (λ (f : Family). (tuple.proto ≡ 6) ⊎ ((tuple.proto ≡ 17) ⊎ (tuple.proto ≡ icmp_of f))) it.0.one.0 it.1 in
-        let starts = starts_past_idle tuple it.0.packet of (none_of_left idle_rules rest tuple it.0.none) in
-        (record { packet = it.0.packet; by_one = it.0.one; by_two = it.0.two; none = none }, apart_starts tuple one.action two.action other starts))
+    let none = none_of_right idle_rules rest tuple it.0.none in
+    let of = subst (λ (f : Family). (tuple.proto ≡ 6) ⊎ ((tuple.proto ≡ 17) ⊎ (tuple.proto ≡ icmp_of f))) it.0.one.0 it.1 in
+    let starts = starts_past_idle tuple it.0.packet of (none_of_left idle_rules rest tuple it.0.none) in
+    (record { packet = it.0.packet; by_one = it.0.one; by_two = it.0.two; none = none }, apart_starts tuple one.action two.action other starts))
     (λ tuple both.
-        let free = both.0 in
-        let starts = starts_apart tuple one.action two.action first second both.1 in
-        let of = of_flows tuple.family tuple.proto tuple.fields free.packet.suits (sym (may_start_by tuple) ∙ starts) in
-        (record {
-          packet = free.packet;
-          one = free.by_one;
-          two = free.by_two;
-          none = none_of_both idle_rules rest tuple (idle_pass tuple free.packet starts) free.none;
-        }, subst (λ (f : Family). (tuple.proto ≡ 6) ⊎ ((tuple.proto ≡ 17) ⊎ (tuple.proto ≡ icmp_of f))) (sym free.by_one.0) of))
+    let free = both.0 in
+    let starts = starts_apart tuple one.action two.action first second both.1 in
+    let of = of_flows tuple.family tuple.proto tuple.fields free.packet.suits (sym (may_start_by tuple) ∙ starts) in (
+      record {
+        packet = free.packet;
+        one = free.by_one;
+        two = free.by_two;
+        none = none_of_both idle_rules rest tuple (idle_pass tuple free.packet starts) free.none;
+      },
+      subst (λ (f : Family). (tuple.proto ≡ 6) ⊎ ((tuple.proto ≡ 17) ⊎ (tuple.proto ≡ icmp_of f))) (sym free.by_one.0) of,
+    ))
 
 -- ---- one rule, or both
 

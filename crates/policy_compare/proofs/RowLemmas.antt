@@ -1,19 +1,23 @@
 -- What is told of all pairs, one after the other.
-use Rattle.std.proofs.Common.{◌≡◌, ◌<◌, ◌≤◌, ◌⊎◌, ℕ, zero, suc, ◌+◌, List, [], ◌∷◌, ◌++◌, Option, Some, None, IfSome, length, map, take, refl, sym, subst, ap, ◌∙◌, inl, inr, arith}
+use Rattle.std.proofs.Common.{◌≡◌, ◌<◌, ◌≤◌, ◌⊎◌, ℕ, zero, suc, ◌+◌, List, [], ◌∷◌, ◌++◌, Option, Some, None, IfSome, length, length-append, length-take-le, map, take, refl, sym, subst, ap, ◌∙◌, inl, inr, arith}
 use Rattle.std.specs.Prelude.{Contains, option_to_list}
 use Rattle.std.proofs.lemmas.Bool.{cases_eq}
-use Rattle.std.proofs.lemmas.List.{map-id}
+use Rattle.std.proofs.lemmas.List.{length-map, map-append, map-id, take-map}
+use Rattle.std.proofs.Math.Seq.{take-append-add}
 use Rattle.std.proofs.lemmas.List.Elements.{All-same}
 use Rattle.packet_view.specs.declared.tuple.Direction.{Direction}
 use Rattle.packet_view.specs.declared.tuple.Direction.TheVariants.{Inbound, Outbound}
 use Rattle.packet_view.specs.declared.tuple.Tuple.{Tuple}
 use Rattle.packet_view.specs.Tuples.{TupleFacts, tuple_facts}
 use Rattle.acl_policy.specs.Policies.{PolicyFacts}
+use Rattle.acl_policy.specs.declared.rule.Rule.{Rule}
+use Rattle.acl_policy.specs.Rules.{RuleFacts, rule_facts}
 use Rattle.policy_compare.specs.Comparisons.{AreApart, DifferBy, GoByBoth, IsComparison, IsDifference, IsExample, OwnDiffer, rules_at}
 use Rattle.policy_compare.specs.declared.difference.Comparison.{Comparison}
 use Rattle.policy_compare.specs.declared.difference.Difference.{Difference}
 use Rattle.policy_compare.specs.declared.difference.Pair.{Pair}
 use Rattle.policy_compare.specs.inner.Found.{Adds, AddsDifferences, IsAtInterface, IsAtRow, IsAtSides, IsBeforeInterface, IsBeforeRow, IsDifferenceOf, IsOtherBefore, IsPairOf, SidesFacts, pair_at, sides_at}
+use Rattle.policy_compare.specs.inner.Starting.{idle_of, idle_rules}
 use Rattle.policy_compare.proofs.AddingLemmas.{adds_both, adds_found, adds_none, adds_other}
 use Rattle.policy_compare.proofs.DeciderLemmas.{at_places, next_of_row, next_row}
 
@@ -43,6 +47,34 @@ pub front_of_both : {A : Type 0} (xs ys : List A) (i j : ℕ) → i ≤ length x
 front_of_both xs ys zero j within = let none : 0 + j ≡ j = omega arith in rw none refl
 front_of_both [] ys (suc i) j within = absurd (omega (arith, within))
 front_of_both (x ∷ xs) ys (suc i) j within = let more : suc i + j ≡ suc (i + j) = omega arith in rw more (ap (λ (l : List _). x ∷ l) (front_of_both xs ys i j (omega (arith, within))))
+
+-- the rules before two places, behind the idle ones
+pub earlier_rules : (all before after : List Rule) (place other : ℕ) → map rule_facts all ≡ idle_rules ++ map rule_facts (take place before ++ after)
+    → place ≤ length before
+    → map rule_facts (take (8 + place + other) all) ≡ idle_rules ++ (take place (map rule_facts before) ++ take other (map rule_facts after))
+unfolding idle_rules idle_of
+earlier_rules all before after place other is within =
+    let same = length-map before rule_facts in
+    let sum : 8 + place + other ≡ 8 + (place + other) = omega arith in
+    let both : map rule_facts (take place before ++ after) ≡ take place (map rule_facts before) ++ map rule_facts after =
+    map-append rule_facts (take place before) after ∙ ap (λ (rs : List RuleFacts). rs ++ map rule_facts after) (sym (take-map rule_facts place before)) in
+    sym (take-map rule_facts (8 + place + other) all) ∙ ap (take (8 + place + other)) is ∙ ap (λ (n : ℕ). take n (idle_rules ++ map rule_facts (take place before ++ after))) sum
+    ∙ take-append-add idle_rules (map rule_facts (take place before ++ after)) (place + other)
+    ∙ ap (λ (rs : List RuleFacts). idle_rules ++ take (place + other) rs) both
+    ∙ ap (λ (rs : List RuleFacts). idle_rules ++ rs) (front_of_both (map rule_facts before) (map rule_facts after) place other (omega (arith, same, within)))
+
+-- they are so many
+pub earlier_within : (all before after : List Rule) (place other : ℕ) → map rule_facts all ≡ idle_rules ++ map rule_facts (take place before ++ after)
+    → place ≤ length before → other ≤ length after → 8 + place + other ≤ length all
+unfolding idle_rules idle_of
+earlier_within all before after place other is within beyond =
+    let one = length-map all rule_facts in
+    let two = length-map (take place before ++ after) rule_facts in
+    let three : length (map rule_facts all) ≡ 8 + length (map rule_facts (take place before ++ after)) =
+    ap length is ∙ length-append idle_rules (map rule_facts (take place before ++ after)) in
+    let four = length-append (take place before) after in
+    let five : length (take place before) ≡ place = length-take-le place before within in
+    omega (arith, one, two, three, four, five, beyond)
 
 pub no_pair : (sides : SidesFacts) (left place : ℕ) (all : List Difference) → AddsDifferences (IsDifferenceOf sides left) (IsAtRow sides place 0) all all
 no_pair sides left place all = adds_none (λ d. d.pair) (IsDifferenceOf sides left) (IsAtRow sides place 0) all (λ pair at. omega (arith, at.1))
@@ -114,12 +146,13 @@ either_way : (before after : PolicyFacts) (interface : ℕ) (pair : Pair) → Is
     ⊎ (GoByBoth before after interface Outbound × IsAtSides (sides_at before after interface Outbound) pair)
 either_way before after interface pair (at, tuple, differ) = by pair.direction refl
   where
+    there : (way : Direction) → pair.direction ≡ way → DifferAt before after interface way pair tuple
+    there way is = subst (λ (n : ℕ). DifferAt before after n way pair tuple) at (subst (λ (w : Direction). DifferAt before after pair.interface w pair tuple) is differ)
+
     by : (way : Direction) → pair.direction ≡ way → IsAtSides (sides_at before after interface Inbound) pair
         ⊎ (GoByBoth before after interface Outbound × IsAtSides (sides_at before after interface Outbound) pair)
     by Inbound is = inl (at, is, (tuple, (there Inbound is).1))
     by Outbound is = let it = there Outbound is in inr (it.0, (at, is, (tuple, it.1)))
-    there : (way : Direction) → pair.direction ≡ way → DifferAt before after interface way pair tuple
-    there way is = subst (λ (n : ℕ). DifferAt before after n way pair tuple) at (subst (λ (w : Direction). DifferAt before after pair.interface w pair tuple) is differ)
 
 -- what is told of one direction is told of the policies
 one_way : (before after : PolicyFacts) (interface : ℕ) (direction : Direction) (left : ℕ) (old new : List Difference) (sides : SidesFacts)

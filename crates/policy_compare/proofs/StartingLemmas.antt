@@ -162,12 +162,14 @@ passes_at of number family source dest proto fields is starts =
     no_tcp (Ports from to) suits starts number has = let udp = eqb-true proto 17 suits in omega (arith, number, udp)
     no_tcp (Tcp from to flags) suits starts number has = omega (arith, has.0)
     no_tcp (Icmp kind code) suits starts number has = icmp_no_tcp family (sym (eqb-true proto (icmp_of family) suits) ∙ sym number)
+
     no_udp : (fields : Fields) → fields_suit family proto fields ≡ true → start_fields family fields ≡ true → 17 ≡ proto
         → HasFields (idle_rule of 17 (1, 0)) fields → ⊥
     no_udp Absent suits starts number has = let f : ⊥ = cc in f
     no_udp (Ports from to) suits starts number has = omega (arith, has.0)
     no_udp (Tcp from to flags) suits starts number has = let tcp = eqb-true proto 6 suits in omega (arith, number, tcp)
     no_udp (Icmp kind code) suits starts number has = icmp_no_udp family (sym (eqb-true proto (icmp_of family) suits) ∙ sym number)
+
     no_lower : (fields : Fields) → fields_suit family proto fields ≡ true → start_fields family fields ≡ true → of ≡ family → icmp_of of ≡ proto
         → HasFields (idle_rule of (icmp_of of) (0, request_type of - 1)) fields → ⊥
     no_lower Absent suits starts same number has = let f : ⊥ = cc in f
@@ -177,6 +179,7 @@ passes_at of number family source dest proto fields is starts =
         let request : kind ≡ request_type of = eqb-true kind (request_type family) starts ∙ ap request_type (sym same) in
         let some = request_some of in
         omega (arith, request, some, has.0)
+
     no_higher : (fields : Fields) → fields_suit family proto fields ≡ true → start_fields family fields ≡ true → of ≡ family → icmp_of of ≡ proto
         → HasFields (idle_rule of (icmp_of of) (request_type of + 1, 65535)) fields → ⊥
     no_higher Absent suits starts same number has = let f : ⊥ = cc in f
