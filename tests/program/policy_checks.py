@@ -1,4 +1,6 @@
 """What the word `check` tells of policies."""
+import random
+import re
 from program.inputs import WRONG_LINES
 from support.captures import CAPTURE, MOST_BYTES, NAMES
 from support.cases import TOP, Case, each, names_in, wanted
@@ -43,8 +45,84 @@ CHECKS = [
     ("help of check", ["check", "--help"], b"", None, "", 0),
 ]
 
+# Rules of TCP for one of so many source ports, and then for one of so many destination ports, so that they cross; and rules of the
+# two halves of all sources. Behind them is a rule for all of TCP.
+HALVES = ["in permit ipv4 0.0.0.0/1 any tcp", "in permit ipv4 128.0.0.0/1 any tcp"]
+
+
+def crossing(count):
+    return [f"in permit ipv4 any any tcp {way} {2 * port + 1}" for way in ("sport", "dport") for port in range(count)]
+
+
+def never(number, takers):
+    return f"remark: interface 1: in rule {number} never decides, since {takers}"
+
+
+def line_of(rules, number):
+    return f" | line {number + 1} {rules[number - 1]}"
+
+
+def together(rules, takers, line=""):
+    """What is told where the last of the rules never decides: the rules that take all its packets, and the line of one."""
+    return f"{never(len(rules), takers)}{line_of(rules, len(rules))}{line}\n"
+
+
+ALL = "in deny ipv4 any any tcp"
+QUARTERS = [f"in permit ipv4 {first}.0.0.0/2 any tcp" for first in (0, 64, 128, 192)]
+PORTS = [f"in permit ipv4 any any tcp dport {low}-{high}" for low, high in ((0, 1023), (1024, 49151), (49152, 65535))]
+UDP = "in deny ipv4 any any udp dport"
+FRAGMENTS = ["in permit ipv4 any any tcp dport 80", "in deny ipv4 10.0.0.0/8 any tcp flags 01/00"]
+NO_FLAGS = "remark: interface 1: in rule 2 matches no flags, since its value has bits outside its mask"
+NOT_KNOWN = ("remark: interface 1: it isn't known whether in rule %d ever decides, since there are too many cases to try; ask about one of "
+             "its packets")
+
+TWO_OF_MANY = [HALVES[0], *crossing(150), HALVES[1], ALL]
+BEHIND_MANY = [*crossing(50), *HALVES, ALL]
+THREE = [PORTS[0], f"{UDP} 53", PORTS[1], f"{UDP} 123", PORTS[2], ALL]
+ROW_AND_ONE = [f"{UDP} 53", *QUARTERS[:3], f"{UDP} 123", QUARTERS[3], ALL]
+TOO_MANY = [*crossing(300), *HALVES, ALL]
+
+# Rules of a direction, and the remarks on them. Rule N stands in line N + 1.
+CHECKS += [(f"check of {name}", ["check", "-"], "\n".join(["interface 1", *rules, ""]).encode(),
+            f"{remarks}policy: rules {len(rules)} sections 2\n".encode(), "", 0) for name, rules, remarks in (
+    # later fragments have no flags and no ports, and rule 2 matches nothing else
+    ("a rule that doesn't cover the other", FRAGMENTS,
+     f"{NO_FLAGS}{line_of(FRAGMENTS, 2)}\n" + together(FRAGMENTS, "rule 1 takes all its packets", line_of(FRAGMENTS, 1))),
+    ("two rules", [*HALVES, ALL], together([*HALVES, ALL], "rules 1 and 2 take all its packets")),
+    ("two of many rules", TWO_OF_MANY, together(TWO_OF_MANY, "rules 1 and 302 take all its packets")),
+    ("two rules behind many", BEHIND_MANY, together(BEHIND_MANY, "rules 101 and 102 take all its packets")),
+    ("three rules", THREE, together(THREE, "rules 1, 3 and 5 take all its packets")),
+    ("rules in a row", [*QUARTERS, ALL], together([*QUARTERS, ALL], "rules 1 to 4 take all its packets")),
+    ("rules in a row and one more", ROW_AND_ONE, together(ROW_AND_ONE, "rules 2 to 4 and 6 take all its packets")),
+    # the ports make 90,000 cells, and most of 300 rules are looked at for each
+    ("too many cases", TOO_MANY, f"{NOT_KNOWN % len(TOO_MANY)}{line_of(TOO_MANY, len(TOO_MANY))}\n"),
+)]
+
+# A small world: eighths of all sources, and classes of destination ports or none in a later fragment.
+CLASSES = [(0, 1023), (1024, 49151), (49152, 65535)]
+
+
+def rule_of_world(source):
+    """A line, and the packets that its rule matches, as pairs of an eighth and a class."""
+    length = source.randrange(4)
+    first, low = source.randrange(2 ** length) * 2 ** (3 - length), source.randrange(3)
+    high = source.randrange(low, 3)
+    line = f"in permit ipv4 {first * 32}.0.0.0/{length} any tcp dport {CLASSES[low][0]}-{CLASSES[high][1]}"
+    eighths = range(first, first + 2 ** (3 - length))
+    return line, {(eighth, it) for eighth in eighths for it in (None, *range(low, high + 1))}
+
+
 # How many remarks there are on a policy of an example, where there are some.
 REMARKS = {}
+
+
+NEVER = re.compile(r"^remark: interface 1: in rule (\d+) never decides, since rules? (.*?) takes? all its packets \|", re.M)
+
+
+def numbers_in(text):
+    """The numbers that a text names, as `1 to 3, 5 and 302`."""
+    runs = [it.split(" to ") for it in text.replace(" and ", ", ").split(", ")]
+    return [number for run in runs for number in range(int(run[0]), int(run[-1]) + 1)]
 
 
 class PolicyChecks(Case):
@@ -62,6 +140,25 @@ class PolicyChecks(Case):
                       "unexplained": "is of no form" in first},
                      {"status": 1, "number": "line 2", "rest": f"{EXPANDED % 2 if is_taken else ''}no policy: wrong lines 1\n",
                       "unexplained": False})
+
+    @each((f"world {seed}", seed) for seed in range(40))
+    def small_worlds(self, seed):
+        """Beside a look at each packet: just the rules that match nothing that is new are told, the rules that are named match all that
+        they match, and without one of those some is left. A rule that takes all alone is the first that does."""
+        source = random.Random(seed)
+        lines, packets = zip(*(rule_of_world(source) for _ in range(12)))
+        got = self.program.run(["check", "-"], ("interface 1\n" + "".join(f"{it}\n" for it in lines)).encode())
+        told = {int(number): numbers_in(takers) for number, takers in NEVER.findall(got["stdout"].decode())}
+        wrong = []
+        for place, own in enumerate(packets):
+            named = told.pop(place + 1, [])
+            alone = [k + 1 for k in range(place) if own <= packets[k]][:1]
+            takes = [packets[k - 1] for k in named if k <= place]
+            left_out = [own <= set().union(*takes[:k], *takes[k + 1:]) for k in range(len(takes))]
+            is_right = len(takes) == len(named) and own <= set().union(*takes) and not any(left_out) and named == sorted(named)
+            if bool(named) != (own <= set().union(*packets[:place])) or (alone and named != alone) or (named and not is_right):
+                wrong.append((place + 1, named))
+        self.compare({"status": got["status"], "wrong": wrong, "more": told}, {"status": 0, "wrong": [], "more": {}})
 
     @each((f"policy of {it}", it) for it in names_in("examples", ".policy"))
     def examples(self, name):

@@ -7,4 +7,5 @@ pub mod RemarkLemmas
 pub mod ShadowLemmas
 pub mod SortedLemmas
 pub mod TextKindLemmas
+pub mod ToldLemmas
 pub mod WalkLemmas

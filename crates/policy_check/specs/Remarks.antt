@@ -1,16 +1,17 @@
 -- What is right in a policy, but unlikely to be meant.
-use Rattle.std.specs.Prelude.{◌≡◌, ◌≢◌, ◌≤◌, ◌<◌, ◌⊎◌, ℕ, ◌+◌, ◌-◌, ◌%◌, ◌^◌, bit_and, List, [], All, slice_get, Some, None}
+use Rattle.std.specs.Prelude.{◌≡◌, ◌≢◌, ◌≤◌, ◌<◌, ◌⊎◌, ℕ, ◌+◌, ◌-◌, ◌%◌, ◌^◌, bit_and, Bool, IsTrue, List, [], All, Contains, length, slice_get, Option, Some, None}
 use Rattle.packet_view.specs.Tuples.{TupleFacts}
 use Rattle.packet_view.specs.declared.tuple.Direction.{Direction}
 use Rattle.packet_view.specs.declared.tuple.Family.{Family}
 use Rattle.packet_view.specs.declared.tuple.Family.TheVariants.{V4}
-use Rattle.acl_policy.specs.Matching.{HoldsPrefix, Matches}
+use Rattle.acl_policy.specs.Matching.{Decides, HoldsPrefix, Matches}
 use Rattle.acl_policy.specs.Policies.{PolicyFacts, SectionFacts, rules_of}
 use Rattle.acl_policy.specs.Rules.{RuleFacts}
 use Rattle.acl_policy.specs.Widths.{width}
-use Rattle.rule_cover.specs.Covers.{AreTaken}
+use Rattle.acl_policy.specs.declared.rule.Action.{Action}
+use Rattle.rule_cover.specs.Covers.{AreTaken, IsNeeded, IsPacket}
 use Rattle.policy_check.specs.declared.remark_kinds.Remark.{Remark}
-use Rattle.policy_check.specs.declared.remark_kinds.Remark.TheVariants.{NoMac, NoRule, Shadowed, ShadowedTogether, SourceBits, DestBits, Mask, UnmatchedFlags}
+use Rattle.policy_check.specs.declared.remark_kinds.Remark.TheVariants.{NoMac, NoRule, Shadowed, ShadowedTogether, NotKnown, SourceBits, DestBits, Mask, UnmatchedFlags}
 
 -- Each packet that the later rule matches is matched by the earlier one.
 abbrev pub TakesAll : RuleFacts → RuleFacts → Type 0
@@ -74,14 +75,23 @@ pub record IsShadowed (rules : List RuleFacts) (place first : ℕ) : Type 0 wher
   pub covers : Covers earlier later
   pub none : NoneCovers rules first later
 
--- The rule at a place, counted from 0, is never the first that matches: those from one place to another before it take all its
--- packets.
-pub record IsShadowedTogether (rules : List RuleFacts) (place low high : ℕ) : Type 0 where
-  pub order : low ≤ high
-  pub before : high < place
+-- No rule before the one at a place covers it.
+abbrev pub IsCoveredByNone : List RuleFacts → ℕ → Type 0
+IsCoveredByNone rules place = (later : RuleFacts) → slice_get rules place ≡ Some later → NoneCovers rules place later
+
+-- The rule at a place, counted from 0, is never the first that matches: rules at places before it take all its packets together,
+-- and none of them can be left out where they are told to be the least.
+pub record IsShadowedTogether (rules : List RuleFacts) (place : ℕ) (takers : List ℕ) (least : Bool) : Type 0 where
+  pub before : All (λ k. k < place) takers
   pub later : RuleFacts
   pub is : slice_get rules place ≡ Some later
-  pub taken : AreTaken later later rules low high
+  pub alone : NoneCovers rules place later
+  pub taken : AreTaken later later rules (Contains takers)
+  pub needed : IsTrue least → All (IsNeeded later rules takers) takers
+
+-- A packet is decided by the rule at a place.
+abbrev pub CanDecide : List RuleFacts → ℕ → Type 0
+CanDecide rules place = (tuple : TupleFacts) × (action : Action) × IsPacket tuple × Decides rules tuple place action
 
 -- What is said of the rule at a place of a section; rules are told by their numbers from 1.
 abbrev pub IsRuleRemark : SectionFacts → Direction → ℕ → Remark → Type 0
@@ -90,9 +100,11 @@ IsRuleRemark section direction place (NoMac interface) = ⊥
 IsRuleRemark section direction place (Shadowed interface way number earlier) =
     (interface ≡ section.interface) × (way ≡ direction) × (number ≡ place + 1)
     × ((first : ℕ) × (earlier ≡ first + 1) × IsShadowed (rules_of direction section) place first)
-IsRuleRemark section direction place (ShadowedTogether interface way number first last) =
+IsRuleRemark section direction place (ShadowedTogether interface way number takers) =
     (interface ≡ section.interface) × (way ≡ direction) × (number ≡ place + 1)
-    × ((low high : ℕ) × (first ≡ low + 1) × (last ≡ high + 1) × IsShadowedTogether (rules_of direction section) place low high)
+    × IsShadowedTogether (rules_of direction section) place takers.places.items takers.are_least
+IsRuleRemark section direction place (NotKnown interface way number) =
+    (interface ≡ section.interface) × (way ≡ direction) × (number ≡ place + 1) × IsCoveredByNone (rules_of direction section) place
 IsRuleRemark section direction place (SourceBits interface way number) =
     (interface ≡ section.interface) × (way ≡ direction) × (number ≡ place + 1)
     × ((rule : RuleFacts) × (slice_get (rules_of direction section) place ≡ Some rule) × HasBits rule.family rule.source)
@@ -105,6 +117,32 @@ IsRuleRemark section direction place (Mask interface way number bits) =
 IsRuleRemark section direction place (UnmatchedFlags interface way number) =
     (interface ≡ section.interface) × (way ≡ direction) × (number ≡ place + 1)
     × ((rule : RuleFacts) × (slice_get (rules_of direction section) place ≡ Some rule) × MatchesNoFlags rule)
+
+-- Whether the rule ever decides is told: that it doesn't, or that it isn't known.
+abbrev pub IsOfDeciding : SectionFacts → Direction → ℕ → Remark → Type 0
+IsOfDeciding section direction place (Shadowed interface way number earlier) =
+    (interface ≡ section.interface) × (way ≡ direction) × (number ≡ place + 1)
+IsOfDeciding section direction place (ShadowedTogether interface way number takers) =
+    (interface ≡ section.interface) × (way ≡ direction) × (number ≡ place + 1)
+IsOfDeciding section direction place (NotKnown interface way number) =
+    (interface ≡ section.interface) × (way ≡ direction) × (number ≡ place + 1)
+IsOfDeciding section direction place remark = ⊥
+
+-- A packet is decided by the rule at a place, or a remark tells that none is, or that this isn't known.
+abbrev pub IsDecidingTold : SectionFacts → Direction → ℕ → List Remark → Type 0
+IsDecidingTold section direction place remarks = CanDecide (rules_of direction section) place
+    ⊎ ((remark : Remark) × Contains remarks remark × IsOfDeciding section direction place remark)
+
+-- So it is of each rule of a direction, a section, a policy.
+abbrev pub AreRulesTold : SectionFacts → Direction → List Remark → Type 0
+AreRulesTold section direction remarks =
+    (place : ℕ) → place < length (rules_of direction section) → IsDecidingTold section direction place remarks
+
+abbrev pub IsSectionTold : SectionFacts → List Remark → Type 0
+IsSectionTold section remarks = (direction : Direction) → AreRulesTold section direction remarks
+
+abbrev pub IsPolicyTold : PolicyFacts → List Remark → Type 0
+IsPolicyTold policy remarks = (k : ℕ) (section : SectionFacts) → slice_get policy.sections k ≡ Some section → IsSectionTold section remarks
 
 -- A section with rules for outbound packets and no own address, so that none of them is looked at.
 abbrev pub LacksMac : SectionFacts → Type 0

@@ -1,21 +1,21 @@
 //! The remarks on a policy.
 ghost use Rattle.std.specs.Prelude.{◌≡◌, ◌≤◌, ◌<◌, ◌++◌, All, IfOk, IfSome, IsTrue, None, OnOk, Some, false, length, map, option_to_list, slice_get};
 ghost use Rattle.acl_policy.specs.Policies.{policy_facts, rules_of, section_facts, section_of};
-ghost use Rattle.acl_policy.specs.Rules.{RuleFacts, rule_facts};
+ghost use Rattle.acl_policy.specs.Rules.{rule_facts};
 ghost use Rattle.acl_policy.specs.Widths.{width};
-ghost use Rattle.policy_check.specs.Remarks.{HasBits, HasMaskAsDest, HasNoRule, IsRemark, IsRuleRemark, IsSectionRemark, IsShadowed, LacksMac, MatchesNoFlags, NoneCovers, ReadsAsMask};
+ghost use Rattle.policy_check.specs.Remarks.{AreRulesTold, HasBits, HasMaskAsDest, HasNoRule, IsCoveredByNone, IsDecidingTold, IsOfDeciding, IsPolicyTold, IsRemark, IsRuleRemark, IsSectionRemark, IsSectionTold, IsShadowed, LacksMac, MatchesNoFlags, ReadsAsMask};
 ghost use Rattle.policy_check.specs.declared.remark_kinds.Remark.TheVariants.{NoMac};
 ghost use Rattle.policy_check.specs.inner.Added.{Adds};
 
-use crate::remark_kinds::{Remark, Unruled};
+use crate::remark_kinds::{Remark, Takers, Unruled};
 use crate::shadowing_rules::takes_all;
 use acl_policy::{Policy, Rule, Section, width_of};
 use packet_view::{Direction, Family};
-use rule_cover::{Cover, uncovered};
+use rule_cover::{Cover, least_takers, uncovered};
 use std::alloc::{AllocError, Global};
 
-/// How many tests of a rule are spent on the question whether a rule never decides.
-const MOST_TESTS: u64 = 65_536;
+/// How many tests of a rule are spent on the question whether a rule never decides, and on which rules take its packets.
+const MOST_TESTS: u64 = 6_553_600;
 
 // Whether a prefix has bits behind its length, on which there is a remark.
 fn has_bits(family: Family, prefix: (u128, u8)) -> bool
@@ -52,8 +52,7 @@ fn rule_for_remarks(section: &Section, direction: Direction, place: usize) -> Ru
 fn taker(rules: &[Rule], place: usize) -> Option<usize>
     requires { place < length rules.now }
     ensures first { IfSome result (IsShadowed (map rule_facts rules.now) place) }
-    ensures none { result ≡ None → (later : RuleFacts) → slice_get (map rule_facts rules.now) place ≡ Some later
-        → NoneCovers (map rule_facts rules.now) place later }
+    ensures none { result ≡ None → IsCoveredByNone (map rule_facts rules.now) place }
 {
     for i in 0..place {
         if takes_all(&rules[i], &rules[place]) {
@@ -66,7 +65,9 @@ fn taker(rules: &[Rule], place: usize) -> Option<usize>
 // The remark on a rule of a policy that it never decides, since one before it takes all its packets.
 fn shadow_of_one(section: &Section, direction: Direction, place: usize) -> Option<Remark>
     requires { place < length (rules_of direction (section_facts section.now)) }
-    ensures { IfSome result (IsRuleRemark (section_facts section.now) direction place) }
+    ensures remark { IfSome result (IsRuleRemark (section_facts section.now) direction place) }
+    ensures told { IfSome result (IsOfDeciding (section_facts section.now) direction place) }
+    ensures none { result ≡ None → IsCoveredByNone (rules_of direction (section_facts section.now)) place }
 {
     let first = taker(rules_for_remarks(section, direction), place)?;
     Some(Remark::Shadowed(
@@ -77,38 +78,36 @@ fn shadow_of_one(section: &Section, direction: Direction, place: usize) -> Optio
     ))
 }
 
-// The remark on a rule of a policy that it never decides, since some before it take all its packets together.
+// The remark on a rule of a policy that it never decides, since some before it take all its packets together, or that this isn't
+// known.
 fn shadow_of_several(
     alloc: Global,
     section: &Section,
     direction: Direction,
     place: usize,
 ) -> Result<Option<Remark>, AllocError>
-    requires { place < length (rules_of direction (section_facts section.now)) }
-    ensures { IfOk result (λ remark. IfSome remark (IsRuleRemark (section_facts section.now) direction place)) }
+    requires place { place < length (rules_of direction (section_facts section.now)) }
+    requires none { IsCoveredByNone (rules_of direction (section_facts section.now)) place }
+    ensures remark { IfOk result (λ remark. IfSome remark (IsRuleRemark (section_facts section.now) direction place)) }
+    ensures told { IfOk result (λ remark. IsDecidingTold (section_facts section.now) direction place (option_to_list remark)) }
 {
     let rule = rule_for_remarks(section, direction, place);
-    let rules = rules_for_remarks(section, direction);
-    let cover = uncovered(alloc, &rule, &rule, &rules[..place], MOST_TESTS)?;
-    let Cover::Taken(first, last) = cover else {
-        return Ok(None);
-    };
-    if last >= place {
-        return Ok(None);
+    let earlier = &rules_for_remarks(section, direction)[..place];
+    let number = place as u64 + 1;
+    let mut tests = MOST_TESTS;
+    match uncovered(alloc, &mut tests, &rule, &rule, earlier)? {
+        Cover::Left(_) => Ok(None),
+        Cover::Unknown => Ok(Some(Remark::NotKnown(section.interface, direction, number))),
+        Cover::Taken(marks) => {
+            let places = least_takers(alloc, &mut tests, &rule, earlier, &marks)?;
+            let are_least = tests > 0;
+            let takers = Takers { places, are_least };
+            Ok(Some(Remark::ShadowedTogether(section.interface, direction, number, takers)))
+        }
     }
-    if first > last {
-        return Ok(None);
-    }
-    Ok(Some(Remark::ShadowedTogether(
-        section.interface,
-        direction,
-        place as u64 + 1,
-        first as u64 + 1,
-        last as u64 + 1,
-    )))
 }
 
-// The remark on a rule of a policy that it never decides.
+// The remark on a rule of a policy that it never decides, or that this isn't known.
 fn shadow(
     alloc: Global,
     section: &Section,
@@ -116,7 +115,8 @@ fn shadow(
     place: usize,
 ) -> Result<Option<Remark>, AllocError>
     requires { place < length (rules_of direction (section_facts section.now)) }
-    ensures { IfOk result (λ remark. IfSome remark (IsRuleRemark (section_facts section.now) direction place)) }
+    ensures remark { IfOk result (λ remark. IfSome remark (IsRuleRemark (section_facts section.now) direction place)) }
+    ensures told { IfOk result (λ remark. IsDecidingTold (section_facts section.now) direction place (option_to_list remark)) }
 {
     match shadow_of_one(section, direction, place) {
         Some(remark) => Ok(Some(remark)),
@@ -223,7 +223,8 @@ fn add_rules(
     section: &Section,
     direction: Direction,
 ) -> Result<(), AllocError>
-    ensures { OnOk result (Adds (IsSectionRemark (section_facts section.now)) all.old.items all.new.items) }
+    ensures adds { OnOk result (Adds (IsSectionRemark (section_facts section.now)) all.old.items all.new.items) }
+    ensures told { OnOk result (AreRulesTold (section_facts section.now) direction all.new.items) }
 {
     for place in 0..rules_for_remarks(section, direction).len() {
         add(all, source_bits(section, direction, place))?;
@@ -251,7 +252,8 @@ pub fn no_mac(section: &Section) -> Option<Remark>
 
 // Adds what is said of a section.
 fn add_section(alloc: Global, all: &mut Vec<Remark>, section: &Section) -> Result<(), AllocError>
-    ensures { OnOk result (Adds (IsSectionRemark (section_facts section.now)) all.old.items all.new.items) }
+    ensures adds { OnOk result (Adds (IsSectionRemark (section_facts section.now)) all.old.items all.new.items) }
+    ensures told { OnOk result (IsSectionTold (section_facts section.now) all.new.items) }
 {
     add(all, no_mac(section))?;
     add_rules(alloc, all, section, Direction::Inbound)?;
@@ -290,10 +292,11 @@ fn has_no_rule(policy: &Policy) -> bool
     true
 }
 
-/// What is right in a policy, but unlikely to be meant. Each remark is true. A rule that never decides isn't found where that
-/// takes more than 65,536 tests of a rule. An `Err` says that memory ran out.
+/// What is right in a policy, but unlikely to be meant. Each remark is true. Where more than 6,553,600 tests of a rule were needed
+/// the remark on a rule is that it isn't known whether it ever decides. An `Err` says that memory ran out.
 pub fn remarks_on(alloc: Global, policy: &Policy) -> Result<Vec<Remark>, AllocError>
-    ensures { IfOk result (λ all. All (IsRemark (policy_facts policy.now)) all.items) }
+    ensures remarks { IfOk result (λ all. All (IsRemark (policy_facts policy.now)) all.items) }
+    ensures told { IfOk result (λ all. IsPolicyTold (policy_facts policy.now) all.items) }
 {
     let mut all = Vec::new(alloc);
     if has_no_rule(policy) {

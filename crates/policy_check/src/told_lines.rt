@@ -81,7 +81,8 @@ fn rule_of_remark(remark: &Remark) -> Option<RuleName>
     match *remark {
         Remark::NoRule | Remark::NoMac(_) => None,
         Remark::Shadowed(interface, direction, number, _)
-        | Remark::ShadowedTogether(interface, direction, number, _, _)
+        | Remark::ShadowedTogether(interface, direction, number, _)
+        | Remark::NotKnown(interface, direction, number)
         | Remark::SourceBits(interface, direction, number)
         | Remark::DestBits(interface, direction, number)
         | Remark::Mask(interface, direction, number, _)
@@ -99,6 +100,12 @@ fn rule_that_takes_all(remark: &Remark) -> Option<RuleName>
     match *remark {
         Remark::Shadowed(interface, direction, _, other) => {
             remarked_rule(interface, direction, other)
+        }
+        Remark::ShadowedTogether(interface, direction, _, ref takers) => {
+            match takers.places.as_slice() {
+                [place] => remarked_rule(interface, direction, (*place as u64).saturating_add(1)),
+                _ => None,
+            }
         }
         _ => None,
     }
@@ -172,19 +179,6 @@ fn push_told_complaints(
         out,
         format!(in alloc; "no policy: wrong lines {lines}\n")?.as_str(),
     )
-}
-
-/// The line that tells the first complaint of the check of a policy's text, without its end. None: the text is a policy. An
-/// `Err` says that memory ran out.
-pub fn told_first(alloc: Global, text: &[u8]) -> Result<Option<Vec<u8>>, AllocError> {
-    let checked = check_policy(alloc, text)?;
-    let Some(first) = checked.complaints.first() else {
-        return Ok(None);
-    };
-    let mut out = Vec::new(alloc);
-    push_told_complaint(alloc, &mut out, first)?;
-    out.pop();
-    Ok(Some(out))
 }
 
 /// Tells line by line what a check of a policy's text found: what is wrong, or else what is remarked. An `Err` says

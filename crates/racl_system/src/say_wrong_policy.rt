@@ -3,7 +3,7 @@ ghost use Rattle.std.specs.Prelude.{◌≡◌, IfOk};
 ghost use Rattle.racl_report.specs.Statuses.{status_of, status_of_fault};
 
 use crate::say_and_answer_status::{say_ending, say_fault};
-use policy_check::told_first;
+use policy_check::tell;
 use racl_io::{Fault, Totals};
 use racl_report::{Ending, ending, shown_name};
 use std::alloc::Global;
@@ -36,14 +36,17 @@ fn is_wrong_policy_said(
     if !is_of_policy(fault) {
         return Ok(false);
     }
-    let Ok(Some(told)) = told_first(alloc, policy.text) else {
+    let Ok(told) = tell(alloc, policy.text) else {
         return Ok(false);
     };
-    let Ok(told) = str::from_utf8(told.as_slice()) else {
+    let Ok(lines) = str::from_utf8(told.text.as_slice()) else {
+        return Ok(false);
+    };
+    let Some(line) = lines.lines().next() else {
         return Ok(false);
     };
     let shown = shown_name(policy.name);
-    rt.eprintln(format_args!("racl: {shown}: {told}; see racl check"))?;
+    rt.eprintln(format_args!("racl: {shown}: {line}; see racl check"))?;
     Ok(true)
 }
 

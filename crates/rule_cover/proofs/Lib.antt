@@ -6,3 +6,4 @@ pub mod PieceLemmas
 pub mod RangeLemmas
 pub mod RegionLemmas
 pub mod SameRuleLemmas
+pub mod TakerLemmas

@@ -1,14 +1,14 @@
 -- How a search goes on from piece to piece.
-use Rattle.std.proofs.Common.{◌≡◌, ◌≤◌, ◌⊎◌, ◌↔◌, ℕ, ◌+◌, List, [], ◌∷◌, ◌++◌, Some, length, arith, refl, sym, subst, inl, inr}
+use Rattle.std.proofs.Common.{◌≡◌, ◌<◌, ◌⊎◌, ◌↔◌, ℕ, zero, suc, ◌+◌, Bool, true, List, [], ◌∷◌, ◌++◌, Some, length, set, arith, refl, sym, subst, ◌∙◌, inl, inr}
 use Rattle.std.specs.Prelude.{All, option_to_list, slice_get}
 use Rattle.std.proofs.lemmas.Bool.{cases_lt}
-use Rattle.std.proofs.lemmas.List.{append-nil}
+use Rattle.std.proofs.lemmas.List.{append-nil, length-set}
 use Rattle.std.proofs.lemmas.List.Elements.{All-append, All-cons, All-nil, All-pop, All-push, All-weaker}
 use Rattle.std.proofs.lemmas.Option.{slice_get_within}
 use Rattle.packet_view.specs.Tuples.{TupleFacts}
 use Rattle.acl_policy.specs.Matching.{Matches}
 use Rattle.acl_policy.specs.Rules.{RuleFacts}
-use Rattle.rule_cover.specs.Covers.{IsLeft, IsPacket, IsTaken}
+use Rattle.rule_cover.specs.Covers.{AreTaken, IsLeft, IsMarked, IsPacket, IsTaken}
 use Rattle.rule_cover.specs.declared.packet_set.Meeting.{Meeting}
 use Rattle.rule_cover.specs.declared.packet_set.Parting.{Parting}
 use Rattle.rule_cover.specs.declared.packet_set.Parting.TheVariants.{Apart, Whole, Cut}
@@ -102,24 +102,28 @@ whole_piece a b rules piece whole = record {
   beside = λ k rule low high. absurd (omega (arith, whole.start));
 }
 
-pub search_begins : (a b : RuleFacts) (rules : List RuleFacts) (pieces : List PacketSet) (first last : ℕ) → AreFirst a b pieces → IsSearch a b rules pieces first last
-search_begins a b rules pieces first last are = record {
+pub search_begins : (a b : RuleFacts) (rules : List RuleFacts) (pieces : List PacketSet) (marks : List Bool) → AreFirst a b pieces → length marks ≡ length rules
+    → IsSearch a b rules pieces marks
+search_begins a b rules pieces marks are size = record {
+  size = size;
   each = All-weaker (IsWhole a b) (IsPiece a b rules) (whole_piece a b rules) pieces are.each;
   every = λ tuple packet left right. inr (are.every tuple packet left right);
 }
 
 -- one piece is taken out
-pub record IsOpen (a b : RuleFacts) (rules : List RuleFacts) (pieces : List PacketSet) (piece : PacketSet) (first last : ℕ) : Type 0 where
+pub record IsOpen (a b : RuleFacts) (rules : List RuleFacts) (pieces : List PacketSet) (piece : PacketSet) (marks : List Bool) : Type 0 where
+  pub size : length marks ≡ length rules
   pub each : All (IsPiece a b rules) pieces
   pub here : IsPiece a b rules piece
   pub every : (tuple : TupleFacts) → IsPacket tuple → Matches a tuple → Matches b tuple
-      → IsTaken rules first last tuple ⊎ (IsInSome pieces tuple ⊎ IsInRegion piece.region tuple)
+      → IsTaken rules (IsMarked marks) tuple ⊎ (IsInSome pieces tuple ⊎ IsInRegion piece.region tuple)
 
-pub opened : (a b : RuleFacts) (rules : List RuleFacts) (old new : List PacketSet) (piece : PacketSet) (first last : ℕ) → IsSearch a b rules old first last
-    → old ≡ new ++ option_to_list (Some piece) → IsOpen a b rules new piece first last
-opened a b rules old new piece first last search same =
+pub opened : (a b : RuleFacts) (rules : List RuleFacts) (old new : List PacketSet) (piece : PacketSet) (marks : List Bool) → IsSearch a b rules old marks
+    → old ≡ new ++ option_to_list (Some piece) → IsOpen a b rules new piece marks
+opened a b rules old new piece marks search same =
     let parts = All-pop (IsPiece a b rules) old new (Some piece) same search.each in
     record {
+      size = search.size;
       each = parts.0;
       here = parts.1;
       every = λ tuple packet left right. elim (search.every tuple packet left right) [
@@ -132,9 +136,10 @@ opened a b rules old new piece first last search same =
     }
 
 -- the piece has no packet
-pub piece_empty : (a b : RuleFacts) (rules : List RuleFacts) (pieces : List PacketSet) (piece : PacketSet) (first last : ℕ) → IsOpen a b rules pieces piece first last
-    → ((tuple : TupleFacts) → IsPacket tuple → IsInRegion piece.region tuple → ⊥) → IsSearch a b rules pieces first last
-piece_empty a b rules pieces piece first last search none = record {
+pub piece_empty : (a b : RuleFacts) (rules : List RuleFacts) (pieces : List PacketSet) (piece : PacketSet) (marks : List Bool) → IsOpen a b rules pieces piece marks
+    → ((tuple : TupleFacts) → IsPacket tuple → IsInRegion piece.region tuple → ⊥) → IsSearch a b rules pieces marks
+piece_empty a b rules pieces piece marks search none = record {
+  size = search.size;
   each = search.each;
   every = λ tuple packet left right. elim (search.every tuple packet left right) [
     | inl taken ↦ inl taken
@@ -142,17 +147,31 @@ piece_empty a b rules pieces piece first last search none = record {
   ];
 }
 
--- a rule takes the piece
-pub piece_taken : (a b : RuleFacts) (rules : List RuleFacts) (pieces : List PacketSet) (piece : PacketSet) (first last place low high : ℕ) (rule : RuleFacts)
-    → IsOpen a b rules pieces piece first last → slice_get rules place ≡ Some rule → TakesRegion piece.region rule
-    → low ≤ first → low ≤ place → last ≤ high → place ≤ high → IsSearch a b rules pieces low high
-piece_taken a b rules pieces piece first last place low high rule search at takes lower here upper there = record {
+-- marks stay
+marked_more : (marks : List Bool) (place k : ℕ) → IsMarked marks k → IsMarked (set marks place true) k
+marked_more [] place k is = is
+marked_more (x ∷ xs) zero zero is = refl
+marked_more (x ∷ xs) zero (suc k) is = is
+marked_more (x ∷ xs) (suc place) zero is = is
+marked_more (x ∷ xs) (suc place) (suc k) is = marked_more xs place k is
+
+marked_here : (marks : List Bool) (place : ℕ) → place < length marks → IsMarked (set marks place true) place
+marked_here [] place within = absurd (omega (arith, within))
+marked_here (x ∷ xs) zero within = refl
+marked_here (x ∷ xs) (suc place) within = marked_here xs place (omega (arith, within))
+
+-- a rule takes the piece, and is marked
+pub piece_taken : (a b : RuleFacts) (rules : List RuleFacts) (pieces : List PacketSet) (piece : PacketSet) (marks : List Bool) (place : ℕ) (rule : RuleFacts)
+    → IsOpen a b rules pieces piece marks → slice_get rules place ≡ Some rule → TakesRegion piece.region rule
+    → IsSearch a b rules pieces (set marks place true)
+piece_taken a b rules pieces piece marks place rule search at takes = record {
+  size = length-set marks place true ∙ search.size;
   each = search.each;
   every = λ tuple packet left right. elim (search.every tuple packet left right) [
-    | inl taken ↦ inl (taken.0, taken.1, omega (arith, taken.2), omega (arith, taken.3), taken.4, taken.5)
+    | inl taken ↦ inl (taken.0, taken.1, marked_more marks place taken.0 taken.2, taken.3, taken.4)
     | inr some ↦ elim some [
       | inl before ↦ inr before
-      | inr it ↦ inl (place, rule, here, there, at, takes tuple packet it)
+      | inr it ↦ inl (place, rule, marked_here marks place (omega (arith, search.size, slice_get_within rules place rule at)), at, takes tuple packet it)
     ]
   ];
 }
@@ -197,16 +216,17 @@ outside_piece a b rules piece place rule outside inside here beside at cut = rec
   beside = beside_next rules outside 0 place rule (beside_more rules piece.region outside piece.place place here.beside beside cut.out) at cut.apart;
 }
 
-pub piece_cut : (a b : RuleFacts) (rules : List RuleFacts) (pieces mid new : List PacketSet) (piece : PacketSet) (first last place : ℕ) (rule : RuleFacts) (outside inside : Region)
-    → IsOpen a b rules pieces piece first last → AreBeside rules piece.region piece.place place → slice_get rules place ≡ Some rule
+pub piece_cut : (a b : RuleFacts) (rules : List RuleFacts) (pieces mid new : List PacketSet) (piece : PacketSet) (marks : List Bool) (place : ℕ) (rule : RuleFacts) (outside inside : Region)
+    → IsOpen a b rules pieces piece marks → AreBeside rules piece.region piece.place place → slice_get rules place ≡ Some rule
     → IsCutBy piece.region rule outside inside → mid ≡ pieces ++ record { region = inside; place = place } ∷ []
-    → new ≡ mid ++ record { region = outside; place = place + 1 } ∷ [] → IsSearch a b rules new first last
-piece_cut a b rules pieces mid new piece first last place rule outside inside search beside at cut one two =
+    → new ≡ mid ++ record { region = outside; place = place + 1 } ∷ [] → IsSearch a b rules new marks
+piece_cut a b rules pieces mid new piece marks place rule outside inside search beside at cut one two =
     let P = IsPiece a b rules in
     let inner = inside_piece a b rules piece place rule outside inside search.here beside at cut in
     let outer = outside_piece a b rules piece place rule outside inside search.here beside at cut in
     let middle : All P mid = subst (All P) (sym one) (All-push P pieces _ search.each inner) in
     record {
+      size = search.size;
       each = subst (All P) (sym two) (All-push P mid _ middle outer);
       every = λ tuple packet left right. elim (search.every tuple packet left right) [
         | inl taken ↦ inl taken
@@ -221,6 +241,15 @@ piece_cut a b rules pieces mid new piece first last place rule outside inside se
             ]
       ];
     }
+
+-- no piece is left
+pub search_ends : (a b : RuleFacts) (rules : List RuleFacts) (pieces : List PacketSet) (marks : List Bool) → IsSearch a b rules pieces marks → pieces ≡ []
+    → AreTaken a b rules (IsMarked marks)
+search_ends a b rules pieces marks search none tuple packet left right =
+    elim (search.every tuple packet left right) [
+      | inl taken ↦ taken
+      | inr some ↦ absurd (subst (λ (ps : List PacketSet). IsInSome ps tuple) none some)
+    ]
 
 -- no rule is left for the piece
 pub piece_free : (a b : RuleFacts) (rules : List RuleFacts) (piece : PacketSet) (place : ℕ) → IsPiece a b rules piece

@@ -44,7 +44,7 @@ abbrev pub IsMarked : List Bool → ℕ → Type 0
 IsMarked marks k = slice_get marks k ≡ Some true
 
 pub record IsTakenByMarked (one two : RuleFacts) (rules : List RuleFacts) (marks : List Bool) : Type 0 where
-  pub marks : length marks ≡ length rules
+  pub size : length marks ≡ length rules
   pub taken : AreTaken one two rules (IsMarked marks)
 
 abbrev pub IsCover : RuleFacts → RuleFacts → List RuleFacts → Cover → Type 0

@@ -2,7 +2,7 @@
 #![tactic(auto)]
 
 mod flag_cuts;
-mod least_takers;
+mod leaving_out;
 mod numbers_of_rule;
 mod packet_in_region;
 mod packet_set;
@@ -13,6 +13,6 @@ mod region_of_rule;
 mod same_rules;
 mod uncovered_packets;
 
-pub use least_takers::least_takers;
+pub use leaving_out::least_takers;
 pub use same_rules::{same_rule, same_rules_match_the_same_packets};
 pub use uncovered_packets::{Cover, uncovered};

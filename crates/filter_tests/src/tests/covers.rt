@@ -6,8 +6,6 @@ use packet_view::{Family, Fields, Tuple};
 use rule_cover::{Cover, uncovered};
 use std::test::Fail;
 
-const MOST: u64 = 10_000;
-
 // A rule for every packet from 10.0.0.0 with so many bits, or from 10.0.0.128, for tests of covers.
 fn from_prefix(upper: bool, length: u8) -> Rule {
     Rule {
@@ -136,7 +134,8 @@ fn small_world(rt: HostRuntime) -> Result<(), Fail> {
             for k in 0..9usize {
                 let others = &rules[k..k + 2];
                 let left = leaves(one, two, others);
-                match uncovered(rt.alloc(), one, two, others, MOST)? {
+                let mut tests: u64 = 10_000;
+                match uncovered(rt.alloc(), &mut tests, one, two, others)? {
                     Cover::Left(tuple) => {
                         assert!(rt; left && is_match(one, &tuple) && is_match(two, &tuple));
                         assert!(rt; !is_match(&others[0], &tuple) && !is_match(&others[1], &tuple));
@@ -151,22 +150,27 @@ fn small_world(rt: HostRuntime) -> Result<(), Fail> {
 }
 
 /// Halves of a network take it together, and each flag with and without; without one of them a packet is left. Later fragments
-/// have no ports and no flags, so that one rule of TCP takes those of all others.
+/// have no ports and no flags, so that one rule of TCP takes those of all others. One test is too few for two rules.
 #[test]
 fn rules_together(rt: HostRuntime) -> Result<(), Fail> {
+    let mut tests: u64 = 10_000;
     let whole = from_prefix(false, 24);
     let halves = [
         from_prefix(true, 25),
         of_protocol(17, (53, 53), (0, 0)),
         from_prefix(false, 25),
     ];
-    assert!(rt; uncovered(rt.alloc(), &whole, &whole, &halves, MOST)? == Cover::Taken(0, 2));
-    let upper = uncovered(rt.alloc(), &whole, &whole, &halves[1..], MOST)?;
+    let taken = uncovered(rt.alloc(), &mut tests, &whole, &whole, &halves)?;
+    assert!(rt;
+        matches!(&taken, Cover::Taken(marks) if marks.as_slice() == &[true, false, true][..])
+    );
+    let upper = uncovered(rt.alloc(), &mut tests, &whole, &whole, &halves[1..])?;
     assert!(rt; upper == Cover::Left(segment(128, 0, 0)));
     let tcp = of_protocol(6, EVERY, (0, 0));
     let flags = [of_protocol(6, EVERY, (2, 2)), of_protocol(6, EVERY, (0, 2))];
-    assert!(rt; uncovered(rt.alloc(), &tcp, &tcp, &flags, MOST)? == Cover::Taken(0, 1));
-    let opening = uncovered(rt.alloc(), &tcp, &tcp, &flags[1..], MOST)?;
+    let taken = uncovered(rt.alloc(), &mut tests, &tcp, &tcp, &flags)?;
+    assert!(rt; matches!(&taken, Cover::Taken(marks) if marks.as_slice() == &[true, true][..]));
+    let opening = uncovered(rt.alloc(), &mut tests, &tcp, &tcp, &flags[1..])?;
     assert!(rt;
         matches!(
             &opening,
@@ -180,8 +184,11 @@ fn rules_together(rt: HostRuntime) -> Result<(), Fail> {
             })
         )
     );
-    let none = uncovered(rt.alloc(), &tcp, &of_protocol(17, EVERY, (0, 0)), &[], MOST)?;
-    assert!(rt; none == Cover::Taken(0, 0));
-    assert!(rt; uncovered(rt.alloc(), &tcp, &tcp, &flags, 1)? == Cover::Unknown);
+    let udp = of_protocol(17, EVERY, (0, 0));
+    let none = uncovered(rt.alloc(), &mut tests, &tcp, &udp, &[])?;
+    assert!(rt; matches!(&none, Cover::Taken(marks) if marks.is_empty()));
+    let mut one: u64 = 1;
+    let unknown = uncovered(rt.alloc(), &mut one, &tcp, &tcp, &flags)?;
+    assert!(rt; unknown == Cover::Unknown && one == 0);
     Ok(())
 }

@@ -81,7 +81,7 @@ pub record AreFirst (a b : RuleFacts) (pieces : List PacketSet) : Type 0 where
 
 -- Each packet of both rules is matched by a marked rule, or is in a piece.
 pub record IsSearch (a b : RuleFacts) (rules : List RuleFacts) (pieces : List PacketSet) (marks : List Bool) : Type 0 where
-  pub marks : length marks ≡ length rules
+  pub size : length marks ≡ length rules
   pub each : All (IsPiece a b rules) pieces
   pub every : (tuple : TupleFacts) → IsPacket tuple → Matches a tuple → Matches b tuple
       → IsTaken rules (IsMarked marks) tuple ⊎ IsInSome pieces tuple

@@ -1,5 +1,5 @@
 -- How the rules that take all packets of another are left out one after the other.
-use Rattle.std.specs.Prelude.{◌≡◌, ◌≢◌, ◌≤◌, ◌<◌, ℕ, ◌+◌, Bool, true, false, List, All, Contains, length, map, take, slice_get, Option, Some}
+use Rattle.std.specs.Prelude.{◌≡◌, ◌≢◌, ◌≤◌, ◌<◌, ℕ, ◌+◌, Bool, true, false, List, All, Contains, length, map, take, slice_get, Some}
 use Rattle.acl_policy.specs.Rules.{RuleFacts}
 use Rattle.rule_cover.specs.Covers.{AreTaken, IsMarked, IsNeeded}
 

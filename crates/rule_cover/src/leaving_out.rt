@@ -81,8 +81,8 @@ fn is_last_needed(
     Ok(true)
 }
 
-/// Of marked rules that take all packets of another the places of some that do, none of which can be left out where a test is
-/// left; they are counted from 0, and stand in their order. An `Err` says that memory ran out.
+/// Of marked rules that take all packets of another the places of some that do, counted from 0; where a test is left, none of
+/// them can be left out. An `Err` says that memory ran out.
 pub fn least_takers(
     alloc: Global,
     tests: &mut u64,
