@@ -90,7 +90,7 @@ fn difference_at(
     }
     let one = rule_at(sides.before, places.0);
     let two = rule_at(sides.after, places.1);
-    match found_of_pair(alloc, tests, one, two, earlier)? {
+    match found_of_pair(alloc, tests, (one, two), earlier)? {
         Finding::Packet(tuple) => Ok(Some(Difference {
             pair,
             packet: Some(at_interface(pair.interface, &tuple)),

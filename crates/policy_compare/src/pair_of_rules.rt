@@ -20,16 +20,15 @@ const TESTS_OF_A_PAIR: u64 = 65_536;
 fn free_of_both(
     alloc: Global,
     tests: &mut u64,
-    one: Option<Rule>,
-    two: Option<Rule>,
+    rules: (Option<Rule>, Option<Rule>),
     earlier: &[Rule],
 ) -> Result<Finding, AllocError>
-    requires { action_of (option_map rule_facts one) ≢ action_of (option_map rule_facts two) }
-    ensures found { IfOk result (IsFinding (IsFree (option_map rule_facts one) (option_map rule_facts two) (map rule_facts earlier.now))) }
+    requires { action_of (option_map rule_facts rules.0) ≢ action_of (option_map rule_facts rules.1) }
+    ensures found { IfOk result (IsFinding (IsFree (option_map rule_facts rules.0) (option_map rule_facts rules.1) (map rule_facts earlier.now))) }
     ensures fewer { tests.new ≤ tests.old }
     ensures unknown { result ≡ Ok Unknown → tests.new ≡ 0 }
 {
-    match (one, two) {
+    match rules {
         (Some(one), Some(two)) => Ok(finding_of(uncovered(alloc, tests, &one, &two, earlier)?)),
         (Some(one), None) => Ok(finding_of(uncovered(alloc, tests, &one, &one, earlier)?)),
         (None, Some(two)) => Ok(finding_of(uncovered(alloc, tests, &two, &two, earlier)?)),
@@ -38,15 +37,15 @@ fn free_of_both(
 }
 
 // The rules, where there are both and both let packets through.
-fn both_pass(one: Option<Rule>, two: Option<Rule>) -> Option<(Rule, Rule)>
-    ensures one { IfSome result (λ both. (one ≡ Some both.0) × (both.0.action ≢ Deny)) }
-    ensures two { IfSome result (λ both. (two ≡ Some both.1) × (both.1.action ≢ Deny)) }
-    ensures none { result ≡ None → (action_of (option_map rule_facts one) ≡ Deny) ⊎ (action_of (option_map rule_facts two) ≡ Deny) }
+fn both_pass(rules: (Option<Rule>, Option<Rule>)) -> Option<(Rule, Rule)>
+    ensures one { IfSome result (λ both. (rules.0 ≡ Some both.0) × (both.0.action ≢ Deny)) }
+    ensures two { IfSome result (λ both. (rules.1 ≡ Some both.1) × (both.1.action ≢ Deny)) }
+    ensures none { result ≡ None → (action_of (option_map rule_facts rules.0) ≡ Deny) ⊎ (action_of (option_map rule_facts rules.1) ≡ Deny) }
 {
-    let Some(first) = one else {
+    let Some(first) = rules.0 else {
         return None;
     };
-    let Some(second) = two else {
+    let Some(second) = rules.1 else {
         return None;
     };
     if first.action == Action::Deny || second.action == Action::Deny {
@@ -61,20 +60,19 @@ fn both_pass(one: Option<Rule>, two: Option<Rule>) -> Option<(Rule, Rule)>
 fn apart_by(
     alloc: Global,
     tests: &mut u64,
-    one: Option<Rule>,
-    two: Option<Rule>,
+    rules: (Option<Rule>, Option<Rule>),
     earlier: &[Rule],
 ) -> Result<Finding, AllocError>
-    requires apart { action_of (option_map rule_facts one) ≢ action_of (option_map rule_facts two) }
+    requires apart { action_of (option_map rule_facts rules.0) ≢ action_of (option_map rule_facts rules.1) }
     requires idle { 8 ≤ length earlier.now }
     ensures found { (rest : List RuleFacts) → map rule_facts earlier.now ≡ idle_rules ++ rest
-        → IfOk result (IsFinding (IsFreeApart (option_map rule_facts one) (option_map rule_facts two) rest)) }
+        → IfOk result (IsFinding (IsFreeApart (option_map rule_facts rules.0) (option_map rule_facts rules.1) rest)) }
     ensures fewer { tests.new ≤ tests.old }
     ensures unknown { result ≡ Ok Unknown → tests.new ≡ 0 }
 {
-    match both_pass(one, two) {
+    match both_pass(rules) {
         Some((one, two)) => left_of_starting(alloc, tests, &one, &two, earlier),
-        None => free_of_both(alloc, tests, one, two, &earlier[IDLE_RULES..]),
+        None => free_of_both(alloc, tests, rules, &earlier[IDLE_RULES..]),
     }
 }
 
@@ -82,20 +80,19 @@ fn apart_by(
 pub fn found_of_pair(
     alloc: Global,
     tests: &mut u64,
-    one: Option<Rule>,
-    two: Option<Rule>,
+    rules: (Option<Rule>, Option<Rule>),
     earlier: &[Rule],
 ) -> Result<Finding, AllocError>
-    requires apart { action_of (option_map rule_facts one) ≢ action_of (option_map rule_facts two) }
+    requires apart { action_of (option_map rule_facts rules.0) ≢ action_of (option_map rule_facts rules.1) }
     requires idle { 8 ≤ length earlier.now }
     ensures found { (rest : List RuleFacts) → map rule_facts earlier.now ≡ idle_rules ++ rest
-        → IfOk result (IsFinding (IsFreeApart (option_map rule_facts one) (option_map rule_facts two) rest)) }
+        → IfOk result (IsFinding (IsFreeApart (option_map rule_facts rules.0) (option_map rule_facts rules.1) rest)) }
     ensures fewer { tests.new ≤ tests.old }
     ensures unknown { result ≡ Ok Unknown → tests.new ≡ 0 }
 {
     let mut own = TESTS_OF_A_PAIR;
-    match apart_by(alloc, &mut own, one, two, earlier)? {
-        Finding::Unknown => apart_by(alloc, tests, one, two, earlier),
+    match apart_by(alloc, &mut own, rules, earlier)? {
+        Finding::Unknown => apart_by(alloc, tests, rules, earlier),
         known => Ok(known),
     }
 }
