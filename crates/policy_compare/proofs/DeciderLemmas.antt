@@ -2,33 +2,32 @@
 use Rattle.std.proofs.Common.{◌≡◌, ◌<◌, ◌⊎◌, ℕ, zero, suc, ◌+◌, List, [], ◌∷◌, ◌++◌, Option, Some, None, length, map, take, refl, sym, subst, ap, ◌∙◌, inl, inr, arith}
 use Rattle.std.specs.Prelude.{option_map, slice_get}
 use Rattle.std.proofs.lemmas.Bool.{cases_eq}
-use Rattle.std.proofs.lemmas.List.{map-append, take-map}
 use Rattle.std.proofs.lemmas.Option.{slice_get_cases, slice_get_past, slice_get_within}
 use Rattle.packet_view.specs.declared.tuple.Direction.{Direction}
 use Rattle.packet_view.specs.Tuples.{TupleFacts}
 use Rattle.acl_policy.specs.declared.rule.Action.{Action}
-use Rattle.acl_policy.specs.declared.rule.Rule.{Rule}
 use Rattle.acl_policy.specs.Matching.{DecidesByDefault, Matches}
-use Rattle.acl_policy.specs.Rules.{RuleFacts, rule_facts}
-use Rattle.policy_compare.specs.Comparisons.{AreApart, IsDecider, action_by, decider_at}
+use Rattle.acl_policy.specs.Rules.{RuleFacts}
+use Rattle.policy_compare.specs.Comparisons.{IsDecider, decider_at}
 use Rattle.policy_compare.specs.declared.difference.Pair.{Pair}
-use Rattle.policy_compare.specs.inner.Found.{IsAtRow, IsAtSides, IsBeforeRow, IsFree, IsPairOf, MatchesIf, SidesFacts, pair_at}
+use Rattle.policy_compare.specs.inner.Findings.{MatchesIf}
+use Rattle.policy_compare.specs.inner.Found.{IsAtRow, IsAtSides, IsBeforeRow, IsPairOf, SidesFacts, pair_at}
 
 -- ---- none of several lists matches
 
-none_of_both : (xs ys : List RuleFacts) (tuple : TupleFacts) → DecidesByDefault xs tuple → DecidesByDefault ys tuple
+pub none_of_both : (xs ys : List RuleFacts) (tuple : TupleFacts) → DecidesByDefault xs tuple → DecidesByDefault ys tuple
     → (k : ℕ) (other : RuleFacts) → slice_get (xs ++ ys) k ≡ Some other → Matches other tuple → ⊥
 none_of_both [] ys tuple one two k other read m = two k other read m
 none_of_both (x ∷ xs) ys tuple one two zero other read m = one zero other read m
 none_of_both (x ∷ xs) ys tuple one two (suc k) other read m = none_of_both xs ys tuple (λ i. one (suc i)) two k other read m
 
-none_of_left : (xs ys : List RuleFacts) (tuple : TupleFacts) → DecidesByDefault (xs ++ ys) tuple
+pub none_of_left : (xs ys : List RuleFacts) (tuple : TupleFacts) → DecidesByDefault (xs ++ ys) tuple
     → (k : ℕ) (other : RuleFacts) → slice_get xs k ≡ Some other → Matches other tuple → ⊥
 none_of_left [] ys tuple all k other read m = let f : ⊥ = cc in f
 none_of_left (x ∷ xs) ys tuple all zero other read m = all zero other read m
 none_of_left (x ∷ xs) ys tuple all (suc k) other read m = none_of_left xs ys tuple (λ i. all (suc i)) k other read m
 
-none_of_right : (xs ys : List RuleFacts) (tuple : TupleFacts) → DecidesByDefault (xs ++ ys) tuple → DecidesByDefault ys tuple
+pub none_of_right : (xs ys : List RuleFacts) (tuple : TupleFacts) → DecidesByDefault (xs ++ ys) tuple → DecidesByDefault ys tuple
 none_of_right [] ys tuple all = all
 none_of_right (x ∷ xs) ys tuple all = none_of_right xs ys tuple (λ i. all (suc i))
 
@@ -62,7 +61,7 @@ inside rules i k other none read =
       | inr past ↦ omega (arith, past.0, there)
     ]
 
-decides : (rules : List RuleFacts) (i : ℕ) (tuple : TupleFacts) (there : Option RuleFacts) → slice_get rules i ≡ there → MatchesIf there tuple
+pub decides : (rules : List RuleFacts) (i : ℕ) (tuple : TupleFacts) (there : Option RuleFacts) → slice_get rules i ≡ there → MatchesIf there tuple
     → DecidesByDefault (take i rules) tuple → IsDecider rules tuple (option_map (λ rule. (i + 1, rule.action)) there)
 decides rules i tuple None read m none = λ k other at n. from_front rules i tuple none k other (inside rules i k other read at) at n
 decides rules i tuple (Some rule) read m none = (i, refl, (rule, read, m, refl, λ k other below at n. from_front rules i tuple none k other below at n))
@@ -94,33 +93,6 @@ place_of rules tuple (Some (number, action)) (place, same, (rule, at, m, act, no
 
 -- ---- pairs
 
--- a packet that is left for two places is decided by what stands there
-pub apart_of_free : (sides : SidesFacts) (i j : ℕ) (earlier : List RuleFacts) (tuple : TupleFacts)
-    → (action_by (decider_at sides.before i) ≡ action_by (decider_at sides.after j) → ⊥) → earlier ≡ take i sides.before ++ take j sides.after
-    → IsFree (slice_get sides.before i) (slice_get sides.after j) earlier tuple → AreApart sides.before sides.after (pair_at sides i j) tuple
-apart_of_free sides i j earlier tuple apart is free =
-    let none = subst (λ (rules : List RuleFacts). DecidesByDefault rules tuple) is free.none in
-    record {
-      packet = free.packet;
-      by_before = decides sides.before i tuple (slice_get sides.before i) refl free.by_one (none_of_left (take i sides.before) (take j sides.after) tuple none);
-      by_after = decides sides.after j tuple (slice_get sides.after j) refl free.by_two (none_of_right (take i sides.before) (take j sides.after) tuple none);
-      apart = apart;
-    }
-
--- and the other way round
-pub free_of_apart : (sides : SidesFacts) (i j : ℕ) (earlier : List RuleFacts) (tuple : TupleFacts) → earlier ≡ take i sides.before ++ take j sides.after
-    → AreApart sides.before sides.after (pair_at sides i j) tuple → IsFree (slice_get sides.before i) (slice_get sides.after j) earlier tuple
-free_of_apart sides i j earlier tuple is apart =
-    let one = decided sides.before i tuple (slice_get sides.before i) refl apart.by_before in
-    let two = decided sides.after j tuple (slice_get sides.after j) refl apart.by_after in
-    record {
-      packet = apart.packet;
-      by_one = one.0;
-      by_two = two.0;
-      none = subst (λ (rules : List RuleFacts). DecidesByDefault rules tuple) (sym is)
-          (none_of_both (take i sides.before) (take j sides.after) tuple one.1 two.1);
-    }
-
 same_pair : (pair : Pair) (interface : ℕ) (direction : Direction) (before after : Option (ℕ × Action)) → pair.interface ≡ interface
     → pair.direction ≡ direction → pair.before ≡ before → pair.after ≡ after
     → pair ≡ record { interface = interface; direction = direction; before = before; after = after }
@@ -138,56 +110,6 @@ at_places sides pair (interface, direction, (tuple, apart)) =
     let whole : pair ≡ pair_at sides i j =
     same_pair pair sides.interface sides.direction (decider_at sides.before i) (decider_at sides.after j) interface direction first second in
     (i, one.1, (j, two.1, whole, (tuple, apart)))
-
--- the earlier rules as values
-pub earlier_facts : (all before after : List Rule) (i j : ℕ) → all ≡ take i before ++ take j after
-    → map rule_facts all ≡ take i (map rule_facts before) ++ take j (map rule_facts after)
-earlier_facts all before after i j is =
-    let one = take-map rule_facts i before in
-    let two = take-map rule_facts j after in
-    ap (map rule_facts) is ∙ map-append rule_facts (take i before) (take j after) ∙ ap (λ (rs : List RuleFacts). rs ++ map rule_facts (take j after)) (sym one)
-    ∙ ap (λ (rs : List RuleFacts). take i (map rule_facts before) ++ rs) (sym two)
-
--- A packet at another interface is decided in the same way.
-elsewhere : (before after : List RuleFacts) (pair : Pair) (tuple : TupleFacts) (interface : ℕ) → AreApart before after pair tuple
-    → AreApart before after pair (record tuple { interface = interface })
-elsewhere before after pair tuple interface apart = record {
-  packet = record {
-    source = apart.packet.source;
-    dest = apart.packet.dest;
-    proto = apart.packet.proto;
-    suits = apart.packet.suits;
-    small = apart.packet.small;
-  };
-  by_before = at before pair.before apart.by_before;
-  by_after = at after pair.after apart.by_after;
-  apart = apart.apart;
-}
-  where
-    at : (rules : List RuleFacts) (decider : Option (ℕ × Action)) → IsDecider rules tuple decider → IsDecider rules (record tuple { interface = interface }) decider
-    at rules None is = is
-    at rules (Some decider) is = is
-
--- A packet that is left, at its interface, is decided by a pair; and where all are taken, none is.
-pub told_of_left : (sides : SidesFacts) (i j : ℕ) (one two : Option RuleFacts) (earlier : List RuleFacts) (pair : Pair) (tuple there : TupleFacts)
-    → one ≡ slice_get sides.before i → two ≡ slice_get sides.after j → earlier ≡ take i sides.before ++ take j sides.after → pair ≡ pair_at sides i j
-    → (action_by pair.before ≡ action_by pair.after → ⊥) → there ≡ record tuple { interface = sides.interface } → IsFree one two earlier tuple
-    → AreApart sides.before sides.after pair there
-told_of_left sides i j one two earlier pair tuple there first second is pairs apart moved free =
-    let free' = subst (λ (o : Option RuleFacts). IsFree (slice_get sides.before i) o earlier tuple) second
-    (subst (λ (o : Option RuleFacts). IsFree o two earlier tuple) first free) in
-    let unequal = λ (same : action_by (decider_at sides.before i) ≡ action_by (decider_at sides.after j)).
-    apart (subst (λ (p : Pair). action_by p.before ≡ action_by p.after) (sym pairs) same) in
-    let found = elsewhere sides.before sides.after (pair_at sides i j) tuple sides.interface (apart_of_free sides i j earlier tuple unequal is free') in
-    subst (λ (t : TupleFacts). AreApart sides.before sides.after pair t) (sym moved)
-    (subst (λ (p : Pair). AreApart sides.before sides.after p (record tuple { interface = sides.interface })) (sym pairs) found)
-
-pub none_of_taken : (sides : SidesFacts) (i j : ℕ) (one two : Option RuleFacts) (earlier : List RuleFacts) (tuple : TupleFacts)
-    → one ≡ slice_get sides.before i → two ≡ slice_get sides.after j → earlier ≡ take i sides.before ++ take j sides.after
-    → (IsFree one two earlier tuple → ⊥) → AreApart sides.before sides.after (pair_at sides i j) tuple → ⊥
-none_of_taken sides i j one two earlier tuple first second is none apart =
-    none (subst (λ (o : Option RuleFacts). IsFree o two earlier tuple) (sym first)
-    (subst (λ (o : Option RuleFacts). IsFree (slice_get sides.before i) o earlier tuple) (sym second) (free_of_apart sides i j earlier tuple is apart)))
 
 -- ---- rows
 

@@ -1,6 +1,8 @@
 pub mod AddingLemmas
-pub mod CoverLemmas
 pub mod DeciderLemmas
+pub mod FindingLemmas
 pub mod LimitLemmas
+pub mod PairLemmas
 pub mod ReportLemmas
 pub mod RowLemmas
+pub mod StartingLemmas

@@ -11,7 +11,8 @@ use Rattle.acl_policy.proofs.OptionLemmas.{same_some}
 use Rattle.policy_check.specs.Remarks.{TakesAll}
 use Rattle.policy_compare.specs.Comparisons.{AreApart}
 use Rattle.policy_compare.specs.declared.taking_rules.Limits.{Limits}
-use Rattle.policy_compare.specs.inner.Found.{MatchesIf, SidesFacts, pair_at}
+use Rattle.policy_compare.specs.inner.Findings.{MatchesIf}
+use Rattle.policy_compare.specs.inner.Found.{SidesFacts, pair_at}
 use Rattle.policy_compare.specs.inner.Limits.{AreLimits, AreLimitsOf, IsBehind, IsLimit}
 use Rattle.policy_compare.proofs.DeciderLemmas.{decided, from_front}
 

@@ -11,14 +11,14 @@ use Rattle.policy_compare.specs.declared.compared_texts.CompareFault.{CompareFau
 use Rattle.policy_compare.specs.declared.compared_texts.CompareFault.TheVariants.{Before, After, Run}
 use Rattle.policy_compare.specs.declared.difference.Comparison.{Comparison}
 
--- Both texts say policies, and what is told of these was written.
-pub record HasCompared (before after : List ℕ) (old new : Option (List ℕ)) (status : ℕ) : Type 0 where
+-- Both texts say policies, and what is told of these, where so many tests are left, was written.
+pub record HasCompared (before after : List ℕ) (left : ℕ) (old new : Option (List ℕ)) (status : ℕ) : Type 0 where
   pub one : PolicyFacts
   pub two : PolicyFacts
   pub by_before : IsPolicyText before one
   pub by_after : IsPolicyText after two
   pub told : Comparison
-  pub right : IsComparison one two told
+  pub right : IsComparison one two left told
   pub text : Appends old new (report_of told)
   pub status_is : status ≡ status_behind told
 

@@ -6,14 +6,16 @@ ghost use Rattle.policy_compare.specs.Comparisons;
 ghost use Rattle.policy_compare.specs.Comparisons.{AreApart};
 ghost use Rattle.policy_compare.specs.inner.Found.{AddsDifferences, IsAtRow, IsAtSides, IsDifferenceOf, pair_at, sides_facts};
 ghost use Rattle.policy_compare.specs.inner.Limits.{AreLimits, IsBehind};
+ghost use Rattle.policy_compare.specs.inner.Starting;
 
 use crate::decider::{action_by, decider_at, rule_at};
 use crate::difference::{Difference, Pair};
-use crate::pair_of_rules::cover_of_both;
+use crate::finding::Finding;
+use crate::pair_of_rules::found_of_pair;
+use crate::starting_packets::{IDLE_RULES, idle_rules};
 use crate::taking_rules::{Limits, Sides, limits_between};
 use acl_policy::Rule;
 use packet_view::Tuple;
-use rule_cover::Cover;
 use std::alloc::{AllocError, Global};
 
 // What decides the packets that the rules at these places match, and none before them.
@@ -28,7 +30,7 @@ fn pair_of(sides: &Sides<'_>, i: usize, j: usize) -> Pair
     }
 }
 
-// Whether a pair lets different things become of packets.
+// Whether the actions of a pair differ.
 fn is_apart(pair: &Pair) -> bool
     ensures yes { result ≡ true → Comparisons.action_by pair.now.before ≢ Comparisons.action_by pair.now.after }
     ensures no { result ≡ false → Comparisons.action_by pair.now.before ≡ Comparisons.action_by pair.now.after }
@@ -61,9 +63,10 @@ fn is_behind(limits: &Limits, places: (usize, usize)) -> bool
     limits.columns[places.1] < places.0
 }
 
-// What is told of the rules at these places; `earlier` are those before the one and before the other.
+// What is told of the rules at these places; `earlier` are `idle_rules`, and those before the one and before the other.
 fn difference_at(
     alloc: Global,
+    tests: &mut u64,
     sides: &Sides<'_>,
     limits: &Limits,
     places: (usize, usize),
@@ -71,11 +74,12 @@ fn difference_at(
 ) -> Result<Option<Difference>, AllocError>
     requires limits { AreLimits (sides_facts sides.now) limits.now }
     requires within { (places.0 ≤ length sides.now.before.now) × (places.1 ≤ length sides.now.after.now) }
-    requires earlier { earlier.now ≡ take places.0 sides.now.before.now ++ take places.1 sides.now.after.now }
-    ensures some { IfOk result (λ found. IfSome found (IsDifferenceOf (sides_facts sides.now))) }
+    requires earlier { map rule_facts earlier.now ≡ Starting.idle_rules ++ (take places.0 (sides_facts sides.now).before ++ take places.1 (sides_facts sides.now).after) }
+    ensures some { IfOk result (λ found. IfSome found (IsDifferenceOf (sides_facts sides.now) tests.new)) }
     ensures same { IfOk result (λ found. IfSome found (λ difference. difference.pair ≡ pair_at (sides_facts sides.now) places.0 places.1)) }
     ensures none { IfOk result (λ found. found ≡ None → (tuple : TupleFacts)
         → AreApart (sides_facts sides.now).before (sides_facts sides.now).after (pair_at (sides_facts sides.now) places.0 places.1) tuple → ⊥) }
+    ensures fewer { tests.new ≤ tests.old }
 {
     let pair = pair_of(sides, places.0, places.1);
     if !is_apart(&pair) {
@@ -86,13 +90,13 @@ fn difference_at(
     }
     let one = rule_at(sides.before, places.0);
     let two = rule_at(sides.after, places.1);
-    match cover_of_both(alloc, one, two, earlier)? {
-        Cover::Left(tuple) => Ok(Some(Difference {
+    match found_of_pair(alloc, tests, (one, two), earlier)? {
+        Finding::Packet(tuple) => Ok(Some(Difference {
             pair,
             packet: Some(at_interface(pair.interface, &tuple)),
         })),
-        Cover::Taken(..) => Ok(None),
-        Cover::Unknown => Ok(Some(Difference { pair, packet: None })),
+        Finding::Nothing => Ok(None),
+        Finding::Unknown => Ok(Some(Difference { pair, packet: None })),
     }
 }
 
@@ -105,7 +109,7 @@ fn add(all: &mut Vec<Difference>, found: Option<Difference>) -> Result<(), Alloc
     Ok(())
 }
 
-// The rules before a place of one list, and all of the other.
+// The idle rules, the rules before a place of one list, and all of the other.
 fn earlier_rules(
     alloc: Global,
     before: &[Rule],
@@ -113,9 +117,9 @@ fn earlier_rules(
     after: &[Rule],
 ) -> Result<Vec<Rule>, AllocError>
     requires { place ≤ length before.now }
-    ensures { IfOk result (λ all. all.items ≡ take place before.now ++ after.now) }
+    ensures { IfOk result (λ all. map rule_facts all.items ≡ Starting.idle_rules ++ map rule_facts (take place before.now ++ after.now)) }
 {
-    let mut all = Vec::new(alloc);
+    let mut all = idle_rules(alloc)?;
     all.extend_from_slice(&before[..place])?;
     all.extend_from_slice(after)?;
     Ok(all)
@@ -124,6 +128,7 @@ fn earlier_rules(
 // Adds what the rule at this place of the one list decides differently from each of the other.
 fn add_row(
     alloc: Global,
+    tests: &mut u64,
     all: &mut Vec<Difference>,
     sides: &Sides<'_>,
     limits: &Limits,
@@ -131,17 +136,19 @@ fn add_row(
 ) -> Result<(), AllocError>
     requires limits { AreLimits (sides_facts sides.now) limits.now }
     requires within { place ≤ length sides.now.before.now }
-    ensures { OnOk result (AddsDifferences (IsDifferenceOf (sides_facts sides.now))
+    ensures adds { OnOk result (AddsDifferences (IsDifferenceOf (sides_facts sides.now) tests.new)
         (IsAtRow (sides_facts sides.now) place (length sides.now.after.now + 1)) all.old.items all.new.items) }
+    ensures fewer { tests.new ≤ tests.old }
 {
     let earlier = earlier_rules(alloc, sides.before, place, sides.after)?;
     for other in 0..sides.after.len() + 1 {
         let found = difference_at(
             alloc,
+            tests,
             sides,
             limits,
             (place, other),
-            &earlier[..place + other],
+            &earlier[..IDLE_RULES + place + other],
         )?;
         add(all, found)?;
     }
@@ -151,14 +158,16 @@ fn add_row(
 /// Adds what the rules decide differently.
 pub fn add_sides(
     alloc: Global,
+    tests: &mut u64,
     all: &mut Vec<Difference>,
     sides: &Sides<'_>,
 ) -> Result<(), AllocError>
-    ensures { OnOk result (AddsDifferences (IsDifferenceOf (sides_facts sides.now)) (IsAtSides (sides_facts sides.now)) all.old.items all.new.items) }
+    ensures adds { OnOk result (AddsDifferences (IsDifferenceOf (sides_facts sides.now) tests.new) (IsAtSides (sides_facts sides.now)) all.old.items all.new.items) }
+    ensures fewer { tests.new ≤ tests.old }
 {
     let limits = limits_between(alloc, sides)?;
     for place in 0..sides.before.len() + 1 {
-        add_row(alloc, all, sides, &limits, place)?;
+        add_row(alloc, tests, all, sides, &limits, place)?;
     }
     Ok(())
 }

@@ -21,15 +21,19 @@ pub enum CompareFault {
     Run(Fault),
 }
 
+/// How many tests of a rule the pairs share that need many.
+pub const MOST_TESTS: u64 = 6_553_600;
+
 /// Writes what two policies decide differently, and answers the exit status. Nothing is written before all is found.
 pub fn compare_texts<W: Sink>(
     alloc: Global,
+    tests: &mut u64,
     before: &[u8],
     after: &[u8],
     writer: &mut W,
 ) -> Result<u8, CompareFault>
     requires { W.failures writer.old < 2 ^ 64 - 1 }
-    ensures ok { IfOk result (HasCompared before.now after.now (W.bytes writer.old) (W.bytes writer.new)) }
+    ensures ok { IfOk result (HasCompared before.now after.now tests.new (W.bytes writer.old) (W.bytes writer.new)) }
     ensures fault { IfErr result (IsCompareFault before.now after.now) }
     ensures write { (result ≡ Err (told.Run Fault.Write)) ↔ (W.failures writer.new ≡ W.failures writer.old + 1) }
     ensures unwritten { IfErr result (λ fault. fault ≢ told.Run Fault.Write → writer.new ≡ writer.old) }
@@ -42,7 +46,7 @@ pub fn compare_texts<W: Sink>(
         Ok(policy) => policy,
         Err(cause) => return Err(CompareFault::After(cause)),
     };
-    let Ok(told) = compare_policies(alloc, &old, &new) else {
+    let Ok(told) = compare_policies(alloc, tests, &old, &new) else {
         return Err(CompareFault::Run(Fault::Memory));
     };
     let Ok(mut piece) = Piece::new(alloc) else {

@@ -8,8 +8,8 @@ use acl_policy::Policy;
 use packet_view::Mac;
 use std::alloc::{AllocError, Global};
 
-// The own address of an interface.
-fn own_at(policy: &Policy, interface: u8) -> Option<Mac>
+/// The own address of an interface.
+pub fn own_at(policy: &Policy, interface: u8) -> Option<Mac>
     ensures { result ≡ (section_of interface (policy_facts policy.now)).own }
 {
     match policy.section(interface) {

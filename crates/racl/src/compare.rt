@@ -1,6 +1,6 @@
 //! Two policies beside one another.
 
-use policy_compare::{CompareFault, compare_texts};
+use policy_compare::{CompareFault, MOST_TESTS, compare_texts};
 use racl_io::{Device, Fault};
 use racl_options::CompareFiles;
 use racl_system::{NamedPolicy, Output, live_policy_text, say_policy_fault, say_read_twice};
@@ -28,7 +28,8 @@ pub fn status_of_compare(
         Err(error) => return Err(error),
     };
     let mut writer = Device::new(Output::new(rt.stdout()));
-    match compare_texts(alloc, &before, &after, &mut writer) {
+    let mut tests = MOST_TESTS;
+    match compare_texts(alloc, &mut tests, &before, &after, &mut writer) {
         Ok(status) => Ok(status),
         Err(CompareFault::Before(cause)) => {
             let policy = NamedPolicy {

@@ -1,36 +1,13 @@
 -- What is found pair after pair.
-use Rattle.std.specs.Prelude.{◌≡◌, ◌<◌, ℕ, ◌+◌, List, ◌++◌, length, map, Option, Some, None, All, Contains, IfSome}
+use Rattle.std.specs.Prelude.{◌≡◌, ◌<◌, ℕ, ◌+◌, List, ◌++◌, length, map, All, Contains}
 use Rattle.packet_view.specs.declared.tuple.Direction.{Direction}
 use Rattle.packet_view.specs.Tuples.{TupleFacts, tuple_facts}
-use Rattle.acl_policy.specs.Matching.{DecidesByDefault, Matches}
 use Rattle.acl_policy.specs.Policies.{PolicyFacts}
 use Rattle.acl_policy.specs.Rules.{RuleFacts, rule_facts}
-use Rattle.rule_cover.specs.Covers.{IsPacket}
-use Rattle.rule_cover.specs.declared.uncovered_packets.Cover.{Cover}
-use Rattle.rule_cover.specs.declared.uncovered_packets.Cover.TheVariants.{Left, Taken, Unknown}
-use Rattle.policy_compare.specs.Comparisons.{AreApart, DifferBy, OwnDiffer, decider_at, rules_at}
+use Rattle.policy_compare.specs.Comparisons.{AreApart, DifferBy, IsExample, OwnDiffer, decider_at, rules_at}
 use Rattle.policy_compare.specs.declared.taking_rules.Sides.{Sides}
 use Rattle.policy_compare.specs.declared.difference.Difference.{Difference}
 use Rattle.policy_compare.specs.declared.difference.Pair.{Pair}
-
--- ---- one pair
-
--- the rule matches the packet, where there is one
-abbrev pub MatchesIf : Option RuleFacts → TupleFacts → Type 0
-MatchesIf None tuple = Unit {0}
-MatchesIf (Some rule) tuple = Matches rule tuple
-
--- Both match the packet, and no earlier rule does.
-pub record IsFree (one two : Option RuleFacts) (earlier : List RuleFacts) (tuple : TupleFacts) : Type 0 where
-  pub packet : IsPacket tuple
-  pub by_one : MatchesIf one tuple
-  pub by_two : MatchesIf two tuple
-  pub none : DecidesByDefault earlier tuple
-
-abbrev pub IsCoverOfBoth : Option RuleFacts → Option RuleFacts → List RuleFacts → Cover → Type 0
-IsCoverOfBoth one two earlier (Left tuple) = IsFree one two earlier (tuple_facts tuple)
-IsCoverOfBoth one two earlier (Taken first last) = (tuple : TupleFacts) → IsFree one two earlier tuple → ⊥
-IsCoverOfBoth one two earlier Unknown = Unit {0}
 
 -- ---- all pairs of an interface and a direction
 
@@ -67,11 +44,10 @@ pair_at sides i j = record {
   after = decider_at sides.after j;
 }
 
-abbrev pub IsDifferenceOf : SidesFacts → Difference → Type 0
-IsDifferenceOf sides difference =
+abbrev pub IsDifferenceOf : SidesFacts → ℕ → Difference → Type 0
+IsDifferenceOf sides left difference =
     (difference.pair.interface ≡ sides.interface) × (difference.pair.direction ≡ sides.direction)
-    × IfSome difference.packet (λ tuple. (tuple.interface ≡ sides.interface)
-    × AreApart sides.before sides.after difference.pair (tuple_facts tuple))
+    × IsExample left (λ tuple. (tuple.interface ≡ sides.interface) × AreApart sides.before sides.after difference.pair (tuple_facts tuple)) difference.packet
 
 -- a pair that lets different things become of a packet
 abbrev pub IsPairOf : SidesFacts → Pair → Type 0

@@ -2,7 +2,7 @@
 use super::racl_test_refused;
 use acl_policy::{Action, read_policy};
 use packet_view::{Direction, Family, Fields, Tuple};
-use policy_compare::{Difference, Pair, compare_policies, compare_texts};
+use policy_compare::{Difference, MOST_TESTS, Pair, compare_policies, compare_texts};
 use racl_io::Device;
 use std::test::Fail;
 
@@ -19,7 +19,8 @@ fn a_denied_packet_and_a_new_rule(rt: HostRuntime) -> Result<(), Fail> {
     ) else {
         return racl_test_refused();
     };
-    let told = compare_policies(rt.alloc(), &before, &after)?;
+    let mut tests = MOST_TESTS;
+    let told = compare_policies(rt.alloc(), &mut tests, &before, &after)?;
     let denied = Difference {
         pair: Pair {
             interface: 0,
@@ -37,7 +38,7 @@ fn a_denied_packet_and_a_new_rule(rt: HostRuntime) -> Result<(), Fail> {
         }),
     };
     assert!(rt; told.differences.len() == 2 && told.differences[0] == denied);
-    assert!(rt; told.interfaces.is_empty());
+    assert!(rt; told.interfaces.is_empty() && tests == MOST_TESTS);
     Ok(())
 }
 
@@ -45,7 +46,8 @@ fn a_denied_packet_and_a_new_rule(rt: HostRuntime) -> Result<(), Fail> {
 #[test]
 fn the_report_on_two_policies(rt: HostRuntime) -> Result<(), Fail> {
     let mut writer = Device::new(Vec::new(rt.alloc()));
-    assert!(rt; compare_texts(rt.alloc(), BEFORE, AFTER, &mut writer) == Ok(5));
+    let mut tests = MOST_TESTS;
+    assert!(rt; compare_texts(rt.alloc(), &mut tests, BEFORE, AFTER, &mut writer) == Ok(5));
     let wanted = b"\
 in udp 10.0.0.1 0 0.0.0.0 53: pass rule 1 reflect -> drop rule 1
 in 47 :: ::: drop default -> pass rule 2

@@ -5,4 +5,5 @@ use Rattle.policy_compare.proofs.compared_policies.differences_of.Goals as goal
 
 pub loop-number-preserved : goal.loop-number-preserved
 loop-number-preserved c =
-    interface_more (policy_facts c.args.before.now) (policy_facts c.args.after.now) c.loop-number.number _ _ _ refl c.loop-number.invariant c.in_ok-add_interface.ensures
+    interface_more (policy_facts c.args.before.now) (policy_facts c.args.after.now) c.loop-number.tests c.add_interface.new.tests c.loop-number.number _ _ _
+    c.in_ok-add_interface.ensures.fewer refl c.loop-number.invariant c.in_ok-add_interface.ensures.adds

@@ -7,5 +7,5 @@ use Rattle.policy_compare.proofs.compared_policies.differences_of.Given as goal
 -- The interfaces so far were added.
 abbrev pub invariant-loop-number : goal.invariant-loop-number
 invariant-loop-number l =
-    AddsDifferences (IsDifference (policy_facts l.before) (policy_facts l.after)) (IsBeforeInterface (policy_facts l.before) (policy_facts l.after) l.number)
+    AddsDifferences (IsDifference (policy_facts l.before) (policy_facts l.after) l.tests) (IsBeforeInterface (policy_facts l.before) (policy_facts l.after) l.number)
     [] l.all.items
