@@ -1,6 +1,6 @@
 -- Lists of pairs in the order of their keys: those with the same pairs are the same.
-use Rattle.std.proofs.Common.{◌≡◌, ◌∙◌, ℕ, suc, zero, Bool, true, false, List, [], ◌∷◌, ap, arith, filter, inl, inr, length, refl, subst, sym}
-use Rattle.std.specs.Prelude.{◌⊎◌, ◌<◌, Contains, slice_index_or}
+use Rattle.std.proofs.Common.{◌≡◌, ◌∙◌, ℕ, suc, zero, Bool, true, false, List, [], ◌∷◌, ap, ap₂, arith, filter, inl, inr, length, refl, subst, sym, true≢false}
+use Rattle.std.specs.Prelude.{◌⊎◌, ◌<◌, Contains, if◌then◌else◌, slice_index_or}
 use Rattle.std.specs.Cmp.{IsTotalOrder}
 use Rattle.std.specs.Cmp.Lexicographic.{nat_list_cmp_total, slice_cmp}
 use Rattle.std.specs.List.{AllByRecursion}
@@ -67,65 +67,69 @@ tail_within x y p xs ys same above all inside =
     | inr later ↦ later
     ]
 
+-- the first pairs are the same where each is in the other list
+heads_are : (x y : Pair) (xs ys : List Pair) → AllByRecursion (λ other. IsBelow x.0 other) (keys_in xs) → AllByRecursion (λ other. IsBelow y.0 other) (keys_in ys)
+    → (y ≡ x) ⊎ Contains ys x → (x ≡ y) ⊎ Contains xs y → x ≡ y
+heads_are x y xs ys first second (inl same) other = sym same
+heads_are x y xs ys first second (inr later) (inl same) = same
+heads_are x y xs ys first second (inr later) (inr behind) = absurd (not_both x.0 y.0 (below_all x.0 xs y first behind) (below_all y.0 ys x second later))
+
 pub same_pairs : (xs ys : List Pair) → AreSorted xs → AreSorted ys → ((p : Pair) → Contains xs p → Contains ys p) → ((p : Pair) → Contains ys p → Contains xs p) → xs ≡ ys
 unfolding IsStrictlySortedBy
 same_pairs [] [] first second to from = refl
 same_pairs [] (y ∷ ys) first second to from = absurd (none_inside y (from y (at_head y ys)))
 same_pairs (x ∷ xs) [] first second to from = absurd (none_inside x (to x (at_head x xs)))
-same_pairs (x ∷ xs) (y ∷ ys) first second to from = λ i. heads i ∷ tails i
-  where
-    second_first : Contains ys x → x ≡ y
-    second_first later =
-        elim (head_or_behind x y xs (from y (at_head y ys))) [
-          inl same ↦ same
-        | inr other ↦ absurd (not_both x.0 y.0 (below_all x.0 xs y first.0 other) (below_all y.0 ys x second.0 later))
-        ]
-
-    heads : x ≡ y
-    heads = elim (head_or_behind y x ys (to x (at_head x xs))) [ inl same ↦ sym same | inr later ↦ second_first later ]
-
-    tails : xs ≡ ys
-    tails = same_pairs xs ys first.1 second.1
-        (λ p inside. tail_within x y p xs ys heads first.0 (to p (behind_head x p xs inside)) inside)
-        (λ p inside. tail_within y x p ys xs (sym heads) second.0 (from p (behind_head y p ys inside)) inside)
+same_pairs (x ∷ xs) (y ∷ ys) first second to from =
+    let heads : x ≡ y = heads_are x y xs ys first.0 second.0 (head_or_behind y x ys (to x (at_head x xs))) (head_or_behind x y xs (from y (at_head y ys))) in
+    ap₂ (λ p (pairs : List Pair). p ∷ pairs) heads
+    (same_pairs xs ys first.1 second.1 (λ p inside. tail_within x y p xs ys heads first.0 (to p (behind_head x p xs inside)) inside)
+    (λ p inside. tail_within y x p ys xs (sym heads) second.0 (from p (behind_head y p ys inside)) inside))
 
 -- ---- pairs that pass a test
 
+of_first : (test : Pair → Bool) (q p : Pair) (pairs rest : List Pair) (passes : Bool) → test q ≡ passes → (Contains rest p → Contains pairs p × (test p ≡ true))
+    → Contains (if passes then q ∷ rest else rest) p → Contains (q ∷ pairs) p × (test p ≡ true)
+of_first test q p pairs rest false is behind has = let later = behind has in (behind_head q p pairs later.0, later.1)
+of_first test q p pairs rest true is behind has = go (head_or_behind q p rest has)
+  where
+    go : (q ≡ p) ⊎ Contains rest p → Contains (q ∷ pairs) p × (test p ≡ true)
+    go (inl same) = (subst (Contains (q ∷ pairs)) same (at_head q pairs), ap test (sym same) ∙ is)
+    go (inr more) = let later = behind more in (behind_head q p pairs later.0, later.1)
+
 pub of_filter : (test : Pair → Bool) (pairs : List Pair) (p : Pair) → Contains (filter test pairs) p → Contains pairs p × (test p ≡ true)
 of_filter test [] p inside = absurd (none_inside p inside)
-of_filter test (q ∷ pairs) p inside = go (test q) refl inside
-  where
-    go : (passes : Bool) → test q ≡ passes → Contains (if passes then q ∷ filter test pairs else filter test pairs) p → Contains (q ∷ pairs) p × (test p ≡ true)
-    go true is has = elim (head_or_behind q p (filter test pairs) has) [
-      inl same ↦ (subst (Contains (q ∷ pairs)) same (at_head q pairs), ap test (sym same) ∙ is)
-    | inr later ↦ let rest = of_filter test pairs p later in (behind_head q p pairs rest.0, rest.1)
-    ]
-    go false is has = let rest = of_filter test pairs p has in (behind_head q p pairs rest.0, rest.1)
+of_filter test (q ∷ pairs) p inside = of_first test q p pairs (filter test pairs) (test q) refl (of_filter test pairs p) inside
+
+in_first : (test : Pair → Bool) (q p : Pair) (pairs rest : List Pair) (passes : Bool) → test q ≡ passes → test p ≡ true → (Contains pairs p → Contains rest p)
+    → (q ≡ p) ⊎ Contains pairs p → Contains (if passes then q ∷ rest else rest) p
+in_first test q p pairs rest true is passing behind (inl same) = subst (Contains (q ∷ rest)) same (at_head q rest)
+in_first test q p pairs rest true is passing behind (inr later) = behind_head q p rest (behind later)
+in_first test q p pairs rest false is passing behind (inl same) = absurd (true≢false (sym passing ∙ ap test (sym same) ∙ is))
+in_first test q p pairs rest false is passing behind (inr later) = behind later
 
 pub in_filter : (test : Pair → Bool) (pairs : List Pair) (p : Pair) → Contains pairs p → test p ≡ true → Contains (filter test pairs) p
 in_filter test [] p inside passing = absurd (none_inside p inside)
-in_filter test (q ∷ pairs) p inside passing = go (test q) refl (head_or_behind q p pairs inside)
-  where
-    go : (passes : Bool) → test q ≡ passes → (q ≡ p) ⊎ Contains pairs p → Contains (if passes then q ∷ filter test pairs else filter test pairs) p
-    go true is (inl same) = subst (Contains (q ∷ filter test pairs)) same (at_head q (filter test pairs))
-    go true is (inr later) = behind_head q p (filter test pairs) (in_filter test pairs p later passing)
-    go false is (inl same) = let no : false ≡ true = sym is ∙ (ap test same ∙ passing) in cc
-    go false is (inr later) = in_filter test pairs p later passing
+in_filter test (q ∷ pairs) p inside passing =
+    in_first test q p pairs (filter test pairs) (test q) refl passing (λ later. in_filter test pairs p later passing) (head_or_behind q p pairs inside)
+
+-- the keys of a list whose first pair may pass are above a key
+below_first : (key : List ℕ) (q : Pair) (rest : List Pair) (passes : Bool) → IsBelow key q.0 → AllByRecursion (λ other. IsBelow key other) (keys_in rest)
+    → AllByRecursion (λ other. IsBelow key other) (keys_in (if passes then q ∷ rest else rest))
+below_first key q rest true first others = (first, others)
+below_first key q rest false first others = others
 
 below_filter : (test : Pair → Bool) (key : List ℕ) (pairs : List Pair) → AllByRecursion (λ other. IsBelow key other) (keys_in pairs)
     → AllByRecursion (λ other. IsBelow key other) (keys_in (filter test pairs))
 below_filter test key [] all = tt
-below_filter test key (q ∷ pairs) all = go (test q)
-  where
-    go : (passes : Bool) → AllByRecursion (λ other. IsBelow key other) (keys_in (if passes then q ∷ filter test pairs else filter test pairs))
-    go true = (all.0, below_filter test key pairs all.1)
-    go false = below_filter test key pairs all.1
+below_filter test key (q ∷ pairs) all = below_first key q (filter test pairs) (test q) all.0 (below_filter test key pairs all.1)
+
+sorted_first : (q : Pair) (rest : List Pair) (passes : Bool) → AllByRecursion (λ other. IsBelow q.0 other) (keys_in rest) → AreSorted rest
+    → AreSorted (if passes then q ∷ rest else rest)
+unfolding IsStrictlySortedBy
+sorted_first q rest true above sorted = (above, sorted)
+sorted_first q rest false above sorted = sorted
 
 pub sorted_filter : (test : Pair → Bool) (pairs : List Pair) → AreSorted pairs → AreSorted (filter test pairs)
 unfolding IsStrictlySortedBy
 sorted_filter test [] sorted = tt
-sorted_filter test (q ∷ pairs) sorted = go (test q)
-  where
-    go : (passes : Bool) → AreSorted (if passes then q ∷ filter test pairs else filter test pairs)
-    go true = (below_filter test q.0 pairs sorted.0, sorted_filter test pairs sorted.1)
-    go false = sorted_filter test pairs sorted.1
+sorted_filter test (q ∷ pairs) sorted = sorted_first q (filter test pairs) (test q) (below_filter test q.0 pairs sorted.0) (sorted_filter test pairs sorted.1)

@@ -119,8 +119,8 @@ until_latest [] = All-nil (λ (p : PacketFacts). p.moment ≤ 0)
 until_latest (packet ∷ packets) =
     let later = latest_second packets in
     All-cons (λ (p : PacketFacts). p.moment ≤ max packet.moment later) packet packets (omega arith)
-    (All-weaker (λ (p : PacketFacts). p.moment ≤ later) (λ (p : PacketFacts). p.moment ≤ max packet.moment later) packets
-    (λ p below. omega arith) (until_latest packets))
+    (All-weaker (λ (p : PacketFacts). p.moment ≤ later) (λ (p : PacketFacts). p.moment ≤ max packet.moment later)
+    (λ p below. omega arith) packets (until_latest packets))
 
 -- ---- One listing
 
@@ -133,8 +133,8 @@ one_answer NoRoom b m one two e first second = full e.recycling.removed first se
     full None first second = first.1 ∙ sym second.1
     full (Some gone) first second = first.1 ∙ sym second.1
 one_answer NewKey b m one two e (inl first) (inl second) = first.1 ∙ sym second.1
-one_answer NewKey b m one two e (inl first) (inr (refused, same)) = let (log2, left, is, rest) = refused in let no = sym first.0 ∙ is in cc
-one_answer NewKey b m one two e (inr (refused, same)) (inl second) = let (log2, left, is, rest) = refused in let no = sym second.0 ∙ is in cc
+one_answer NewKey b m one two e (inl first) (inr (refused, same)) = let (log2, left, is, small, few) = refused in let no = sym first.0 ∙ is in cc
+one_answer NewKey b m one two e (inr (refused, same)) (inl second) = let (log2, left, is, small, few) = refused in let no = sym second.0 ∙ is in cc
 one_answer NewKey b m one two e (inr first) (inr second) = first.1 ∙ sym second.1
 one_answer OldKey b m one two e first second = first.1 ∙ sym second.1
 
