@@ -4,7 +4,6 @@ use Rattle.std.specs.Prelude.{option_map, slice_get}
 use Rattle.packet_view.specs.Tuples.{TupleFacts}
 use Rattle.acl_policy.specs.declared.rule.Action.{Action}
 use Rattle.acl_policy.specs.declared.rule.Action.TheVariants.{Deny, Permit, Reflect}
-use Rattle.acl_policy.specs.Matching.{DecidesByDefault}
 use Rattle.acl_policy.specs.Rules.{RuleFacts}
 use Rattle.policy_compare.specs.Comparisons.{AreApart, IsDecider, action_by, decider_at, may_start, outcome}
 use Rattle.policy_compare.specs.declared.difference.Pair.{Pair}

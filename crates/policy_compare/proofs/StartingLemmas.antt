@@ -1,6 +1,6 @@
 -- Which packets may start a session, and the rules that take from TCP, UDP and ICMP what starts none.
-use Rattle.std.proofs.Common.{◌≡◌, ◌≤◌, ◌<◌, ◌⊎◌, ◌↔◌, ℕ, zero, suc, ◌+◌, ◌-◌, ◌/◌, ◌^◌, Bool, true, false, eqb, List, [], ◌∷◌, ◌++◌, Option, Some, None, refl, sym, subst, ap, ◌∙◌, inl, inr, arith, if◌then◌else◌}
-use Rattle.std.specs.Prelude.{bit_and, option_map, slice_get, unwrap_or}
+use Rattle.std.proofs.Common.{◌≡◌, ◌≤◌, ◌<◌, ◌⊎◌, ℕ, zero, suc, ◌+◌, ◌-◌, ◌^◌, Bool, true, false, eqb, List, [], ◌∷◌, Option, Some, None, refl, sym, subst, ap, ◌∙◌, inl, inr, arith, if◌then◌else◌}
+use Rattle.std.specs.Prelude.{option_map, slice_get, unwrap_or}
 use Rattle.std.specs.Int.Bits.{and_zero_r}
 use Rattle.std.proofs.lemmas.Bool.{cases_lt, eq-eqb, eqb-true}
 use native.Mathlib.Nat.{div-eq_of_lt}
@@ -12,7 +12,7 @@ use Rattle.packet_view.specs.declared.tuple.Fields.TheVariants.{Absent, Icmp, Po
 use Rattle.packet_view.specs.Tuples.{TupleFacts}
 use Rattle.session_state.specs.Flows.{echo_flow, flow_by_order, flow_with, oriented, receiver_of, reply_type, request_type, sender_of, stands_first}
 use Rattle.session_state.specs.declared.flow.Flow.{Flow}
-use Rattle.acl_policy.specs.Matching.{DecidesByDefault, HasFields, HoldsPrefix, IsIn, Matches}
+use Rattle.acl_policy.specs.Matching.{DecidesByDefault, HasFields, HoldsPrefix, Matches}
 use Rattle.acl_policy.specs.Rules.{RuleFacts}
 use Rattle.acl_policy.proofs.OptionLemmas.{same_some}
 use Rattle.rule_cover.specs.Covers.{AreSmall, IsPacket}

@@ -1,4 +1,3 @@
-use Rattle.std.proofs.Common.{rules, sym, ◌∙◌, ◌≡◌}
 use Rattle.acl_policy.specs.Rules.{rule_facts}
 use Rattle.policy_compare.proofs.StartingLemmas.{any_protocol, other_protocol, same_protocol}
 use Rattle.policy_compare.proofs.starting_packets.narrowed.Goals as goal
