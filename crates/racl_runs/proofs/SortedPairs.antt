@@ -61,10 +61,10 @@ below_all key (q ∷ pairs) p all inside =
 tail_within : (x y p : Pair) (xs ys : List Pair) → x ≡ y → AllByRecursion (λ other. IsBelow x.0 other) (keys_in xs) → Contains (y ∷ ys) p → Contains xs p → Contains ys p
 tail_within x y p xs ys same above all inside =
     elim (head_or_behind y p ys all) [
-      inl first ↦
+      | inl first ↦
           let low = below_all x.0 xs p above inside in
           let here : IsBelow x.0 x.0 = subst (λ (r : Pair). IsBelow x.0 r.0) (sym (same ∙ first)) low in absurd (not_both x.0 x.0 here here)
-    | inr later ↦ later
+      | inr later ↦ later
     ]
 
 -- the first pairs are the same where each is in the other list

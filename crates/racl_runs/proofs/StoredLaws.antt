@@ -74,8 +74,8 @@ not_true false is = refl
 live_only : (times : Timeouts) (moment : ℕ) (pairs : List (List ℕ × ℕ)) → AreLiveOf times moment pairs (live_pairs times moment pairs)
 live_only times moment pairs key value = (
   (λ inside.
-  let (kept, passing) = of_filter (λ pair. not (is_expired_at times moment pair.1)) pairs (key, value) inside in
-  (kept, not_true (is_expired_at times moment value) passing)),
+      let (kept, passing) = of_filter (λ pair. not (is_expired_at times moment pair.1)) pairs (key, value) inside in
+      (kept, not_true (is_expired_at times moment value) passing)),
   λ (kept, live). in_filter (λ pair. not (is_expired_at times moment pair.1)) pairs (key, value) kept (ap not live),
 )
 

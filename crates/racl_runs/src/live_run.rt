@@ -276,7 +276,12 @@ pub fn tell_capture<
     };
     let ToldCapture { judges, totals } = told;
     let Dated { inner, latest, .. } = judges;
-    let ShardJudge { inner, seen, own, .. } = inner;
+    let ShardJudge {
+        inner,
+        seen,
+        own,
+        ..
+    } = inner;
     let Ok((counts, callers)) = inner.end(alloc) else {
         return Err(Fault::Memory);
     };
