@@ -38,7 +38,7 @@ front_of_reader remaining reader device after old read least at_end made none ha
     (subst (λ d. HasRead (remaining d.inner) after [] read least at_end) made (subst (λ o. HasRead (remaining device.inner) after o read least at_end) none has))
 
 -- a front that has no more bytes than an input may have is all
-all_of_front : (all read : List ℕ) → read ≡ take (most_bytes + 1) all → length read ≤ most_bytes → read ≡ all
+pub all_of_front : (all read : List ℕ) → read ≡ take (most_bytes + 1) all → length read ≤ most_bytes → read ≡ all
 all_of_front all read front few =
     let count : length read ≡ length (take (most_bytes + 1) all) = ap length front in
     let short : length all ≤ most_bytes + 1 = omega (arith, few, count, length-take (most_bytes + 1) all) in

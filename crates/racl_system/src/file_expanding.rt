@@ -1,7 +1,8 @@
 //! The plain policy of one in a file, which may include others.
-ghost use Rattle.std.specs.Prelude.{map};
+ghost use Rattle.std.specs.Prelude.{◌≡◌, ◌⊎◌, [], OnOk, false, map, true};
 ghost use Rattle.policy_expand.specs.Inclusions.{file_facts};
-ghost use Rattle.racl_system.specs.Expands.{AreRead};
+ghost use Rattle.racl_system.specs.Expands.{AreRead, IsTextOf};
+ghost use Rattle.racl_system.specs.PolicyTexts.{IsEnded};
 
 use crate::named_reader::{bytes_of, opened_reader};
 use crate::say_and_answer_status::say_fault;
@@ -26,6 +27,28 @@ enum Next {
     Failed(u8),
 }
 
+// Whether a text has no line, or a line feed ends the last one.
+fn is_ended(text: &[u8]) -> bool
+    ensures yes { result ≡ true → (text.now ≡ []) ⊎ IsEnded text.now }
+    ensures no { result ≡ false → IsEnded text.now → ⊥ }
+{
+    match text.split_last() {
+        Some((last, _)) => *last == b'\n',
+        None => true,
+    }
+}
+
+// Ends the last line of a file's text by a line feed, where none does.
+fn end_last_line(text: &mut Vec<u8>) -> Result<(), AllocError>
+    ensures { OnOk result (IsTextOf text.old.items text.new.items) }
+{
+    if is_ended(text) {
+        return Ok(());
+    }
+    text.push(b'\n')?;
+    Ok(())
+}
+
 // Reads the file of this name, which is told by another where it can't be opened. The status where it couldn't be read.
 fn add_file<S: SystemFiles + Eprint>(
     system: &S,
@@ -44,7 +67,7 @@ fn add_file<S: SystemFiles + Eprint>(
             return Ok(Some(4));
         }
     };
-    let text = match bytes_of(alloc, reader) {
+    let mut text = match bytes_of(alloc, reader) {
         Ok(text) => text,
         Err(fault) => return Ok(Some(say_fault(system, fault)?)),
     };
@@ -52,6 +75,9 @@ fn add_file<S: SystemFiles + Eprint>(
         return Ok(Some(say_fault(system, Fault::TooLarge)?));
     }
     let Ok(name) = String::from_str(alloc, name) else {
+        return Ok(Some(say_fault(system, Fault::Memory)?));
+    };
+    let Ok(()) = end_last_line(&mut text) else {
         return Ok(Some(say_fault(system, Fault::Memory)?));
     };
     match files.push(PolicyFile { name, text }) {
