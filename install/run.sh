@@ -31,7 +31,7 @@ run() {
 # word to name, it reads through a pipe that a signal closes: it then ends as at the end of its captures, with its totals. A second
 # signal kills it, and so does a first one where there is no pipe. What it says of a pipe names the FIFO.
 run_child() {
-    find=$1 program=$2 room= pipes= names= feeders= input= before= teller= child= signals=0 killed=
+    find=$1 program=$2 room= pipes= links=0 names= feeders= input= before= teller= child= signals=0 killed=
     shift 2
     trap clear_up EXIT
     for kind in $SIGNALS; do trap "stop_child $kind" "$kind"; done
@@ -72,8 +72,8 @@ make_room() {
     [ -n "$room" ] || room=$(mktemp -d)
 }
 
-# Whether this word says standard input, or names a FIFO, of which it then is to name the pipe, the same for each of its names. A word
-# in front of it may name an option whose file is written.
+# Whether this word says standard input, or names a FIFO, of which it then is to name the pipe, by a link of its own. A word in front
+# of it may name an option whose file is written.
 find_stream() {
     case $word in
         --interface=*=*) front=--interface=${word#--interface=} file=${word#--interface=*=} ;;
@@ -87,15 +87,16 @@ find_stream() {
     if [ "$file" = - ]; then
         input=$readable
     elif [ -p "$file" ] && make_room; then
-        pipe=$room/$(stat -Lc %d.%i -- "$file")
-        if mkdir "$pipe" 2>/dev/null; then
-            mkfifo "$pipe/${file##*/}" || return
-            names="${names}s|$pipe/|$(printf %s "${file%"${file##*/}"}" | sed 's/[\\&|]/\\&/g')|g;"
-            cat "$file" >"$pipe/${file##*/}" </dev/null &
+        pipe=$room/$(stat -Lc %d.%i -- "$file") links=$((links + 1))
+        link=$room/$links/${file##*/}
+        if [ ! -p "$pipe" ]; then
+            mkfifo "$pipe" || return
+            cat "$file" >"$pipe" </dev/null &
             feeders="$feeders $!" pipes=yes
         fi
-        set -- "$pipe"/*
-        word=$front$1
+        mkdir "$room/$links" && ln "$pipe" "$link" || return
+        names="${names}s|$room/$links/|$(printf %s "${file%"${file##*/}"}" | sed 's/[\\&|]/\\&/g')|g;"
+        word=$front$link
     fi
 }
 

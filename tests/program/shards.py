@@ -164,7 +164,7 @@ class Shards(Case):
         self.refused(b"a value is required for '--shard <K/N>'", "--shard")
         for words in ["--live", "p", "c"], ["--expect=e", "p", "c"], [], ["--interface", "1=c", "p"]:
             self.refused(MISFIT, "--shard", "1/2", *words)
-        self.refused(MISFIT, self.hold("p", b""), self.hold("c", b""), "--live", "--shard=1/2")
+        self.refused(MISFIT, "p", "c", "--live", "--shard=1/2")
 
     def refused(self, said, *words):
         ran = self.program.run([*words])

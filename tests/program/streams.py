@@ -106,9 +106,7 @@ class Streams(Case):
         os.symlink("one", f"{self.folder}/linked")
         for words, name, other in TWICE:
             got = self.program.run(words, cwd=self.folder)
-            # (the launcher's one pipe for a FIFO is told by the name that stood first)
-            told = other if self.program.is_launcher() and not got["stderr"].startswith(f"racl: {name}:".encode()) else name
-            self.compare(got, wanted(stderr=f"racl: {told}: the same file as {other}, which is read\n", status=2), *words)
+            self.compare(got, wanted(stderr=f"racl: {name}: the same file as {other}, which is read\n", status=2), *words)
 
     def test_fault_that_cant_be_printed(self):
         self.hold("short", b"x")

@@ -82,7 +82,11 @@ WRONG_COMMANDS = [
 ]
 
 # Words that may be mistyped commands and name no file, and the command that is close to each.
-MISTYPED = [(["chek"], "check"), (["chek", "policy"], "check"), (["expnd", "rules"], "expand"), (["compar", "one", "two"], "compare"), (["one"], None)]
+MISTYPED = [(["chek"], "check"), (["chek", "policy"], "check"), (["expnd", "rules"], "expand"), (["compar", "one", "two"], "compare"), (["hlep", "one"], "help"),
+            (["as", "one"], "ask"), (["one"], None)]
+
+# Words that are two letters and more off each command, the first of which names no file.
+MISSING = [["p", "c"], ["a", "c"], ["policy", "capture"], ["cek", "c"], ["checksum", "c"], ["diffs.txt", "c"], ["compresed", "c"], ["task s", "c"], ["CHECK", "c"]]
 
 
 def unknown(word, close):
@@ -128,6 +132,23 @@ class Words(Case):
     @each((f"words {words}", words, close) for words, close in MISTYPED)
     def mistyped(self, words, close):
         self.compare(self.program.run(words), unknown(words[0], close))
+
+    @each((f"files {words}", words) for words in MISSING)
+    def missing_files(self, words):
+        self.compare(self.program.run(words), wanted(stderr=f"racl: {words[0]}: No such file or directory (os error 2)\n", status=4))
+
+    def test_letters(self):
+        """A word one letter off a command is told as such: with a letter left out, another one, one too many, or two that change places; with two more letters it names a file."""
+        for name in (*COMMANDS, "help"):
+            parts = [(name[:it], name[it:]) for it in range(len(name) + 1)]
+            near = {a + b[1:] for a, b in parts} | {f"{a}z{b[1:]}" for a, b in parts} | {f"{a}z{b}" for a, b in parts} | {a + b[1::-1] + b[2:] for a, b in parts}
+            for word in sorted(near - {name}):
+                got = self.program.run([word, "one"], cwd=self.folder)
+                said = got["stderr"].startswith(f"error: unrecognized subcommand '{word}'\n".encode())
+                self.compare({"status": got["status"], "said": said}, {"status": 2, "said": True}, word)
+            for a, b in parts:
+                got = self.program.run([f"{a}zz{b}", "one"], cwd=self.folder)
+                self.compare(got, wanted(stderr=f"racl: {a}zz{b}: No such file or directory (os error 2)\n", status=4), a)
 
     def test_files_with_names_like_commands(self):
         """A word that names a file is the policy, and a command's name is one only where it stands first."""

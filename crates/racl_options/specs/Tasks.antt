@@ -1,15 +1,16 @@
 -- What the words ask for that begin with the name of a command, the first behind the program's (this project's profile).
 use Rattle.std.specs.Prelude.{◌≡◌, ◌⊎◌, ◌+◌, ◌&&◌, ◌||◌, ℕ, Bool, true, false, List, [], ◌∷◌, map}
-use Rattle.std.specs.Prelude.{Option, None, Some, codes, if◌then◌else◌, is_some, nat_lt, option_and_then, option_map, slice_get}
-use Rattle.std.specs.List.{fold}
+use Rattle.std.specs.Prelude.{Option, None, Some, codes, if◌then◌else◌, is_some, length, nat_eq, nat_lt, option_and_then, option_map, slice_get}
+use Rattle.std.specs.List.{fold, starts_with}
 use Rattle.std.specs.Option.{option_map_or}
-use Rattle.std.specs.Str.{bytes_eq}
+use Rattle.std.specs.Str.{bytes_eq, chars}
 use Rattle.clap.specs.Lexer.{usize_max}
 use Rattle.clap.specs.Words.{App, HasKind, Rule, Text, fault_of, kind_of, new_app, new_rule, subcommand_of, with_rule, with_subcommand}
 use Rattle.clap.specs.declared.builder.action.ArgAction.TheVariants.{Append, Set, SetTrue}
 use Rattle.clap.specs.declared.error.Error.{Error}
 use Rattle.clap.specs.declared.error.kind.ErrorKind.{ErrorKind}
 use Rattle.clap.specs.declared.error.kind.ErrorKind.TheVariants.{DisplayVersion, ValueValidation}
+use Rattle.strsim.specs.Edits.{osa_table}
 use Rattle.racl_options.specs.Behind.{text_behind}
 use Rattle.racl_options.specs.CommandLine.{Values, long_rule, racl, values_of}
 use Rattle.racl_options.specs.Origins.{is_standard}
@@ -80,6 +81,28 @@ is_command word = bytes_eq word (codes "check") || (bytes_eq word (codes "expand
 -- the first word after the program's is one
 abbrev pub begins_with_command : List Text → Bool
 begins_with_command words = option_map_or is_command (slice_get words 1) false
+
+-- ---- mistyped words
+
+-- from one word to the other it is one letter at most: one that is left out, one too many, another one, or two neighbours that
+-- change places (the distance of optimal string alignment)
+abbrev pub is_a_letter_off : Text → Text → Bool
+is_a_letter_off word name = nat_lt ((osa_table (chars word) (chars name)).last_row (length (chars name))) 2
+
+-- so of a command's name
+abbrev pub is_close : Text → Bool
+is_close word = is_a_letter_off word (codes "check") || (is_a_letter_off word (codes "expand") || (is_a_letter_off word (codes "ask")
+    || (is_a_letter_off word (codes "diff") || (is_a_letter_off word (codes "compare") || (is_a_letter_off word (codes "import")
+    || (is_a_letter_off word (codes "version") || is_a_letter_off word (codes "help")))))))
+
+-- the word is a command's name, or one of options
+abbrev pub is_understood : Text → Bool
+is_understood word = is_command word || starts_with nat_eq word (codes "-")
+
+-- the first word after the program's, where it may be a command that was mistyped: it isn't understood, and stands there alone or is close to one
+abbrev pub doubtful_word : List Text → Option Text
+doubtful_word words = option_and_then
+    (λ word. if is_understood word then None else if nat_eq (length words) 2 || is_close word then Some word else None) (slice_get words 1)
 
 -- ---- what is asked for, as values
 

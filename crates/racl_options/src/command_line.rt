@@ -173,7 +173,7 @@ fn command_with_reports<'a>(alloc: Global) -> Result<Command<'a>, AllocError>
         .arg(flag(
             alloc,
             "sessions",
-            "Behind these, the sessions that the tables hold after the run",
+            "At the end, the sessions that the tables hold after the run",
         ))
 }
 
@@ -224,7 +224,7 @@ fn command_with_selections<'a>(alloc: Global) -> Result<Command<'a>, AllocError>
             alloc,
             "only",
             "pass|drop",
-            "The lines of packets alone that pass, or are dropped",
+            "Only the lines of packets that pass, or that are dropped",
         ))
 }
 

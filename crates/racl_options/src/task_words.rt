@@ -17,7 +17,7 @@ use crate::tasks::{AskedPackets, CompareFiles, DiffFiles, Task};
 use clap::error::ErrorKind;
 use clap::{ArgMatches, Error};
 use std::alloc::{AllocError, Global};
-use strsim::jaro;
+use strsim::osa_distance;
 
 static HELP_WORDS: [&str; 2] = ["racl", "--help"];
 
@@ -232,15 +232,15 @@ pub fn known_command<'a>(alloc: Global, words: &'a [&'a str]) -> Result<(), Erro
 }
 
 /// The first word after the program's, where it may be a command that was mistyped: it is none and no option, and stands there
-/// alone or is close to one.
+/// alone or is a letter off one.
 pub fn doubtful_word<'a>(alloc: Global, words: &'a [&'a str]) -> Result<Option<&'a str>, AllocError>
-    ensures { IfOk result (λ word. IfSome word (λ w. (slice_get (texts words.entry.now) 1 ≡ Some w.now) × (tasks.is_command w.now ≡ false))) }
+    ensures { IfOk result (λ word. option_map (λ w. w.now) word ≡ tasks.doubtful_word (texts words.entry.now)) }
 {
     if words.len() < 2 {
         return Ok(None);
     }
     let word = words[1];
-    if is_command(word) || word.starts_with('-') {
+    if is_understood(word) {
         return Ok(None);
     }
     if words.len() == 2 || is_close(alloc, word)? {
@@ -249,17 +249,31 @@ pub fn doubtful_word<'a>(alloc: Global, words: &'a [&'a str]) -> Result<Option<&
     Ok(None)
 }
 
-/// The names of the commands.
-static COMMANDS: [&str; 8] = [
-    "check", "expand", "ask", "diff", "compare", "import", "version", "help",
-];
+// Whether a word is a command's name, or one of options.
+fn is_understood(word: &str) -> bool
+    ensures { result ≡ tasks.is_understood word.now }
+{
+    is_command(word) || word.as_bytes().starts_with(b"-")
+}
 
-// Whether a word is as close to a command's name as those are that `clap` names.
-fn is_close(alloc: Global, word: &str) -> Result<bool, AllocError> {
-    for name in &COMMANDS {
-        if jaro(alloc, word, name)? > 0.7 {
-            return Ok(true);
-        }
-    }
-    Ok(false)
+// Whether a word is a letter at most off a command's name.
+fn is_close(alloc: Global, word: &str) -> Result<bool, AllocError>
+    ensures { IfOk result (λ close. close ≡ tasks.is_close word.now) }
+{
+    Ok(
+        is_a_letter_off(alloc, word, "check")?
+            || (is_a_letter_off(alloc, word, "expand")?
+                || (is_a_letter_off(alloc, word, "ask")?
+                    || (is_a_letter_off(alloc, word, "diff")?
+                        || (is_a_letter_off(alloc, word, "compare")?
+                            || (is_a_letter_off(alloc, word, "import")?
+                                || (is_a_letter_off(alloc, word, "version")?
+                                    || is_a_letter_off(alloc, word, "help")?)))))),
+    )
+}
+
+fn is_a_letter_off(alloc: Global, word: &str, name: &str) -> Result<bool, AllocError>
+    ensures { IfOk result (λ close. close ≡ tasks.is_a_letter_off word.now name.now) }
+{
+    Ok(osa_distance(alloc, word, name)? < 2)
 }
