@@ -1,13 +1,12 @@
 -- A run over a capture whose verdicts are compared with expected ones.
 use Rattle.std.proofs.KnownBytes.{Appends-trans}
-use Rattle.std.proofs.Common.{◌≡◌, ◌∙◌, ◌≤◌, ◌++◌, ℕ, Bool, List, Option, Result, Ok, Err, ap, ap₂, arith, inl, inr, length, refl, subst, sym}
+use Rattle.std.proofs.Common.{◌≡◌, ◌∙◌, ◌++◌, ℕ, Bool, List, Option, Result, Ok, Err, ap, ap₂, arith, inl, inr, length, refl, subst, sym}
 use Rattle.std.specs.Prelude.{◌⊎◌}
 use Rattle.std.proofs.lemmas.List.{length-map}
 use Rattle.std.specs.Io.KnownBytes.{Appends}
 use Rattle.packet_view.specs.Captures.{PacketFacts, packet_at, packets_at}
 use Rattle.packet_view.specs.declared.capture.Order.{Order}
-use Rattle.acl_policy.specs.Policies.{IsPolicyText, PolicyFacts, policy_facts}
-use Rattle.flow_filter.specs.declared.interface_filters.InterfaceFilters.{InterfaceFilters}
+use Rattle.acl_policy.specs.Policies.{IsPolicyText, PolicyFacts}
 use Rattle.session_state.specs.declared.verdict.Verdict.{Verdict}
 use Rattle.racl_options.specs.declared.settings.Options.{Options}
 use Rattle.racl_io.specs.declared.fault.Fault.{Fault}
@@ -21,11 +20,9 @@ use Rattle.capture_stream.specs.Lives.{HasJudgedAll, HasToldSome, HaveFailed, Is
 use Rattle.compared_verdicts.specs.Meeting.{are_met, end_of, met_told, told_of, unmet_wording}
 use Rattle.compared_verdicts.specs.declared.expectation.Expectation.{Expectation}
 use Rattle.compared_verdicts.proofs.MeetingLemmas.{lines_told}
-use Rattle.racl_runs.specs.Crews.{AreSaidSoFar, Orders, cuts_four, orders_for, size_of}
 use Rattle.racl_runs.specs.ExpectingRuns.{ComparesAll, EndsExpecting, HasComparedAll, HasCutEnd, HasJudgedCapture, manner_by, output}
 use Rattle.racl_runs.specs.inner.Heads.{HasReadHeader}
 use Rattle.racl_runs.specs.declared.expecting_run.Compared.{Compared}
-use Rattle.racl_runs.specs.declared.sized_tables_and_workers.SizedTables.{SizedTables}
 use Rattle.racl_runs.specs.LiveRuns.{ByLoneWorker}
 use Rattle.racl_runs.proofs.LiveLemmas.{head_in, whole_capture}
 

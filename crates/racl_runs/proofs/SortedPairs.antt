@@ -1,7 +1,6 @@
 -- Lists of pairs in the order of their keys: those with the same pairs are the same.
-use Rattle.std.proofs.Common.{◌≡◌, ◌∙◌, ℕ, suc, zero, Bool, true, false, List, [], ◌∷◌, ap, ap₂, arith, filter, inl, inr, length, refl, subst, sym, true≢false}
-use Rattle.std.specs.Prelude.{◌⊎◌, ◌<◌, Contains, if◌then◌else◌, slice_index_or}
-use Rattle.std.specs.Cmp.{IsTotalOrder}
+use Rattle.std.proofs.Common.{◌≡◌, ◌∙◌, ℕ, suc, zero, Bool, true, false, List, [], ◌∷◌, ap, ap₂, arith, filter, inl, inr, refl, subst, sym, true≢false}
+use Rattle.std.specs.Prelude.{◌⊎◌, Contains, if◌then◌else◌}
 use Rattle.std.specs.Cmp.Lexicographic.{nat_list_cmp_total, slice_cmp}
 use Rattle.std.specs.List.{AllByRecursion}
 use Rattle.std.specs.List.Sorted.{IsStrictlySortedBy}

@@ -5,7 +5,6 @@ use Rattle.packet_view.specs.Captures.{IsCaptureAt, PacketFacts, end_of}
 use Rattle.packet_view.specs.declared.capture.Order.{Order}
 use Rattle.acl_policy.specs.Policies.{IsPolicyText, PolicyFacts}
 use Rattle.session_state.specs.declared.verdict.Verdict.{Verdict}
-use Rattle.flow_dealing.specs.WorkerRecords.{HavePages}
 use Rattle.racl_options.specs.declared.settings.Options.{Options}
 use Rattle.racl_io.specs.declared.fault.Fault.{Fault}
 use Rattle.racl_io.specs.declared.fault.Fault.TheVariants.{Write}
@@ -18,7 +17,6 @@ use Rattle.capture_stream.specs.Savings.{Manner, Outputs, manner_of, outputs}
 use Rattle.compared_verdicts.specs.Meeting.{are_met, told_of, unmet_wording}
 use Rattle.compared_verdicts.specs.declared.expectation.Expectation.{Expectation}
 use Rattle.racl_runs.specs.LiveRuns.{ByLoneWorker, HasHead, IsEarlyFault}
-use Rattle.racl_runs.specs.Runs.{AgeInTime, ByOneThread, ByWorkers}
 use Rattle.racl_runs.specs.declared.expecting_run.Compared.{Compared}
 
 -- what isn't as expected is told of each packet, and nothing is saved

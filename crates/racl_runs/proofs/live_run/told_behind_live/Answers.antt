@@ -1,4 +1,4 @@
-use Rattle.std.proofs.Common.{◌∙◌, Bool, ap, subst}
+use Rattle.std.proofs.Common.{◌∙◌, Bool, subst}
 use Rattle.std.proofs.lemmas.Result.{IfOk-weaker}
 use Rattle.racl_runs.specs.Crews.{size_of, views_with}
 use Rattle.racl_runs.specs.Runs.{AreToldOf, layout_for}

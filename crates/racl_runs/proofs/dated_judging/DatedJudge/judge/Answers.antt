@@ -1,5 +1,4 @@
-use Rattle.std.proofs.Common.{◌≡◌, ◌∙◌, ◌++◌, ap, max, refl, sym}
-use Rattle.std.specs.Prelude.{◌+◌}
+use Rattle.std.proofs.Common.{◌∙◌}
 use Rattle.packet_view.specs.CheckedCaptures.{remaining}
 use Rattle.racl_views.specs.Hits.{latest_second}
 use Rattle.racl_views.proofs.CountLemmas.{latest_both}
