@@ -68,7 +68,8 @@ install-libraries:
 	[ -n "$(DESTDIR)" ] || ldconfig 2>/dev/null || true
 
 uninstall:
-	rm -f $(TO)/bin/racl $(TO)/bin/racl-page $(TO)/bin/racl-import $(SHARE)/man/man1/racl.1 $(SHARE)/man/man1/racl-*.1 $(SHARE)/bash-completion/completions/racl $(SHARE)/zsh/site-functions/_racl
+	rm -f $(TO)/bin/racl $(TO)/bin/racl-page $(TO)/bin/racl-import $(SHARE)/bash-completion/completions/racl $(SHARE)/zsh/site-functions/_racl
+	rm -f $(SHARE)/man/man1/racl.1 $(SHARE)/man/man1/racl-import.1 $(SHARE)/man/man1/racl-page.1
 	rm -f $(TO)/include/racl.h $(TO)/include/bihash.h $(TO)/lib/libracl.* $(TO)/lib/libbihash.*
 	rm -f $(TO)/lib/pkgconfig/racl.pc $(TO)/lib/pkgconfig/bihash.pc
 	rm -rf $(TO)/libexec/racl $(DOC)
