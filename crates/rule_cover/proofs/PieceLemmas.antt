@@ -1,5 +1,6 @@
 -- How a search goes on from piece to piece.
-use Rattle.std.proofs.Common.{◌≡◌, ◌<◌, ◌⊎◌, ◌↔◌, ℕ, zero, suc, ◌+◌, Bool, true, List, [], ◌∷◌, ◌++◌, Some, length, set, arith, refl, sym, subst, ◌∙◌, inl, inr}
+use Rattle.std.proofs.Common.{◌≡◌, ◌<◌, ◌⊎◌, ◌↔◌, ℕ, zero, suc, ◌+◌, Bool, false, true, List, [], ◌∷◌, ◌++◌, Option, None, Some, length, set, arith, refl, sym, subst, ◌∙◌, inl, inr}
+use Rattle.std.specs.Option.{is_some}
 use Rattle.std.specs.Prelude.{All, option_to_list, slice_get}
 use Rattle.std.proofs.lemmas.Bool.{cases_lt}
 use Rattle.std.proofs.lemmas.List.{append-nil, length-set}
@@ -32,6 +33,10 @@ in_cases : (xs ys : List PacketSet) (tuple : TupleFacts) → IsInSome (xs ++ ys)
 in_cases [] ys tuple is = inr is
 in_cases (x ∷ xs) ys tuple (inl here) = inl (inl here)
 in_cases (x ∷ xs) ys tuple (inr there) = elim (in_cases xs ys tuple there) [ inl left ↦ inl (inr left) | inr right ↦ inr right ]
+
+pub none_of : {X : Type 0} (o : Option X) → is_some o ≡ false → o ≡ None
+none_of None same = refl
+none_of (Some x) same = let f : ⊥ = cc in absurd f
 
 -- no packet shows this
 pub adds_none : (a b : RuleFacts) (shown : Shown) (old : List PacketSet)

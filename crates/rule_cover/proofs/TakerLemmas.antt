@@ -135,8 +135,8 @@ pub marked_pushed : (marks : List Bool) (old new : List ℕ) (place : ℕ) → p
 marked_pushed marks old new place within each every same = (
   subst (All (λ k. k < length marks)) (sym same) (All-push (λ k. k < length marks) old place each within),
   below_more (λ (k : ℕ). IsMarked marks k → Contains new k) place
-  (λ k less marked. subst (λ (xs : List ℕ). Contains xs k) (sym same) (Contains-append_left old (place ∷ []) k (every k less marked)))
-  (λ marked. subst (λ (xs : List ℕ). Contains xs place) (sym same) (Contains-push old place)),
+      (λ k less marked. subst (λ (xs : List ℕ). Contains xs k) (sym same) (Contains-append_left old (place ∷ []) k (every k less marked)))
+      (λ marked. subst (λ (xs : List ℕ). Contains xs place) (sym same) (Contains-push old place)),
 )
 
 -- a rule that is needed among some is needed among fewer
@@ -207,7 +207,7 @@ left_out rule rules tests fewer old places place tried others marks new same som
     let front : take tried new ≡ take tried old = stay.front ∙ sym (ap (take tried) same ∙ take-append-le tried places (place ∷ []) (omega arith)) in
     let counts = sym (length-take tried new) ∙ ap length stay.front ∙ length-take tried places in
     let back : (k : ℕ) → Contains new k → Contains old k =
-        λ k in_it. subst (λ (xs : List ℕ). Contains xs k) (sym same) (Contains-append_left places (place ∷ []) k (stay.only k in_it)) in (
+    λ k in_it. subst (λ (xs : List ℕ). Contains xs k) (sym same) (Contains-append_left places (place ∷ []) k (stay.only k in_it)) in (
       omega (arith, stay.fewer, sizes),
       record {
         within = all_of (λ k. k < length rules) new (λ k in_it. All-contains (λ k. k < length rules) places k parts.0 (stay.only k in_it));

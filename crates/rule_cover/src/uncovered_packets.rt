@@ -41,10 +41,11 @@ fn add_shown(
     if is_apart(&first, &second) {
         return Ok(());
     }
-    left.push(PacketSet {
-        region: both(&first, &second),
-        place: 0,
-    })?;
+    let region = both(&first, &second);
+    if packet_in(&region).is_none() {
+        return Ok(());
+    }
+    left.push(PacketSet { region, place: 0 })?;
     Ok(())
 }
 

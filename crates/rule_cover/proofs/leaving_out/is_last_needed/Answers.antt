@@ -34,7 +34,7 @@ returns-clause-tried c =
     let at = subst (λ (ps : List ℕ). AreAt all ps others) c.deref.ensures.value c.in_ok-others.ensures in
     let cover = subst (λ (rs : List Rule). IsCover rule rule (map rule_facts rs) c.in_ok-marks.field-0) c.deref-2.ensures.value c.in_ok-marks.ensures.cover in
     let needed = is_needed rule all places place others c.in_ok-marks.field-0 tests at cover c.in_default-2.not-Taken
-        (λ same. c.in_ok-marks.ensures.unknown (ap (λ (x : Cover). Ok x) same)) in
+    (λ same. c.in_ok-marks.ensures.unknown (ap (λ (x : Cover). Ok x) same)) in
     subst (λ (ps : List ℕ). (length ps ≡ length c.args.places.now.items) × AreTried rule all tests ps (c.args.tried + 1)) (sym c.in_ok-insert.ensures.items)
     (put_first rule all c.args.tests.now tests c.args.places.now.items places place c.args.tried c.in-Some.ensures.items c.requires.some c.uncovered.ensures.fewer
     c.requires.tried needed)

@@ -17,10 +17,12 @@ loop-place-preserved c =
           subst so (sym w.places-is)
           (marked_pushed marks c.loop-place.places.items w.push.new.self.items place (omega arith) c.loop-place.invariant.0 c.loop-place.invariant.1 items)
       | else-marks-place w ↦
-          subst so (sym w.places-is)
-          (c.loop-place.invariant.0, marked_passed marks c.loop-place.places.items place
-          (λ marked. let yes : get_or marks place false ≡ true = get_or_from_slice_get marks place true false marked in let f : ⊥ = cc (yes, w.if-marks-place.false) in f)
-          c.loop-place.invariant.1)
+          subst so (sym w.places-is) (
+            c.loop-place.invariant.0,
+            marked_passed marks c.loop-place.places.items place
+                (λ marked. let yes : get_or marks place false ≡ true = get_or_from_slice_get marks place true false marked in let f : ⊥ = cc (yes, w.if-marks-place.false) in f)
+                c.loop-place.invariant.1,
+          )
     ]
 
 pub returns-clause-every : goal.returns-clause-every

@@ -24,9 +24,9 @@ loop-i-preserved c =
           (subst (AreMarkedIn _ first marks) (sym w.in_ok-push.ensures.items) pushed))
       | else-i-first+else-marks-i w ↦
           let not : IsMarked marks i → ⊥ =
-              λ marked. let yes : get_or marks i false ≡ true = get_or_from_slice_get marks i true false marked in let f : ⊥ = cc (yes, w.if-marks-i.false) in f in
+          λ marked. let yes : get_or marks i false ≡ true = get_or_from_slice_get marks i true false marked in let f : ⊥ = cc (yes, w.if-marks-i.false) in f in
           let without = stay_without (take i places) first marks stay (get_or places i 0) c.loop-i.invariant (omega (arith, size, w.if-i-first.false))
-              (λ marked. not (subst (IsMarked marks) size marked)) in
+          (λ marked. not (subst (IsMarked marks) size marked)) in
           subst (λ (v : Vec ℕ Global). AreMarkedIn (take (i + 1) places) first marks v.items) (sym w.stay-is)
           (subst (λ (xs : List ℕ). AreMarkedIn xs first marks stay) (sym more) without)
     ]

@@ -38,7 +38,9 @@ pieces-preserved c =
     let two = rule_facts c.args.two.now in
     let all = map rule_facts c.args.rules.now in
     let taken = opened one two all c.pieces.left.items c.pop.new.self.items c.in-Some.piece c.pieces.marks.items c.pieces.invariant.0 c.in-Some.ensures.items in
-    let cut = met_cut all c.in-Some.piece c.in-Some-first_meeting.met c.in-Cut.outside c.in-Cut.inside c.in-Some-first_meeting.ensures.meets c.in-Cut.is in
-    (piece_cut one two all c.pop.new.self.items c.push.new.self.items c.push-in-Cut.new.self.items c.in-Some.piece c.pieces.marks.items c.in-Some-first_meeting.met.place
-    cut.0 c.in-Cut.outside c.in-Cut.inside taken c.in-Some-first_meeting.ensures.meets.beside cut.1 cut.2
-    c.in_ok-push-in-Cut.ensures.items c.in_ok-push-in-Cut-2.ensures.items, omega (arith, c.pieces.invariant.1, c.in-Some-first_meeting.ensures.fewer))
+    let cut = met_cut all c.in-Some.piece c.in-Some-first_meeting.met c.in-Cut.outside c.in-Cut.inside c.in-Some-first_meeting.ensures.meets c.in-Cut.is in (
+      piece_cut one two all c.pop.new.self.items c.push.new.self.items c.push-in-Cut.new.self.items c.in-Some.piece c.pieces.marks.items c.in-Some-first_meeting.met.place
+          cut.0 c.in-Cut.outside c.in-Cut.inside taken c.in-Some-first_meeting.ensures.meets.beside cut.1 cut.2
+          c.in_ok-push-in-Cut.ensures.items c.in_ok-push-in-Cut-2.ensures.items,
+      omega (arith, c.pieces.invariant.1, c.in-Some-first_meeting.ensures.fewer),
+    )
