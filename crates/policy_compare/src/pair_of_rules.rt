@@ -1,5 +1,5 @@
-//! The packets that a rule of one list and a rule of another match, or all packets where there is no such rule, and none before;
-//! of these, such as the two let different things become of.
+//! Packets that a rule of one list and a rule of another decide differently: both match them, or the one where there is no other,
+//! and no rule before either does.
 ghost use Rattle.std.specs.Prelude.{◌≡◌, ◌≢◌, ◌≤◌, ◌⊎◌, ◌++◌, List, IfOk, IfSome, None, Ok, Some, length, map, option_map};
 ghost use Rattle.acl_policy.specs.Rules.{RuleFacts, rule_facts};
 ghost use Rattle.acl_policy.specs.declared.rule.Action.TheVariants.{Deny};
@@ -13,7 +13,7 @@ use acl_policy::{Action, Rule};
 use rule_cover::uncovered;
 use std::alloc::{AllocError, Global};
 
-/// How many tests of a rule are spent on each pair, before those that all pairs share.
+// How many tests of a rule are spent on each pair, before those that all pairs share.
 const TESTS_OF_A_PAIR: u64 = 65_536;
 
 // A packet that both rules match, or the one where there is no other, and none of the earlier rules.
@@ -55,8 +55,7 @@ fn both_pass(rules: (Option<Rule>, Option<Rule>)) -> Option<(Rule, Rule)>
     }
 }
 
-// A packet of which both rules let different things become, and that none of the earlier rules matches: those behind
-// `idle_rules`.
+// A packet that the rules decide differently, and that no earlier rule matches. `idle_rules` stand before the earlier ones.
 fn apart_by(
     alloc: Global,
     tests: &mut u64,
@@ -76,7 +75,7 @@ fn apart_by(
     }
 }
 
-/// Such a packet, which is looked for in so many tests of a rule as each pair has, and then in those that are left.
+/// Such a packet. It is looked for in the tests of a rule that each pair has, and then in those that are left for all.
 pub fn found_of_pair(
     alloc: Global,
     tests: &mut u64,
