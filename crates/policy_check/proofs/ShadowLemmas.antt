@@ -1,7 +1,8 @@
 -- What one rule lets through is let through by another, and which flags none lets through.
-use Rattle.std.proofs.Common.{◌≡◌, ◌≢◌, ◌≤◌, ◌<◌, ℕ, zero, suc, ◌+◌, ◌-◌, ◌/◌, ◌^◌, Bool, List, [], ◌∷◌, Some, All, IsTrue, length, map, take, bit_and, refl, sym, subst, ap, ◌∙◌, arith}
+use Rattle.std.proofs.Common.{◌≡◌, ◌≢◌, ◌≤◌, ◌<◌, ℕ, zero, suc, ◌+◌, ◌-◌, ◌/◌, ◌^◌, Bool, List, [], ◌∷◌, Some, All, IsTrue, length, ltb, map, take, bit_and, refl, sym, subst, ap, ◌∙◌, arith}
 use Rattle.std.specs.Prelude.{Contains, slice_get}
 use Rattle.std.specs.Int.Bits.{and_self}
+use Rattle.std.proofs.lemmas.Bool.{ltb-true}
 use Rattle.std.proofs.lemmas.List.{length-take-le}
 use Rattle.std.proofs.lemmas.List.Elements.{All-contains, All-weaker}
 use Rattle.std.proofs.lemmas.Nat.{and_assoc, shr-shr}
@@ -56,6 +57,9 @@ pub decides_left : (rules : List Rule) (n : ℕ) (rule : RuleFacts) (tuple : Tup
     → IsLeft rule rule (map rule_facts (take n rules)) tuple → CanDecide (map rule_facts rules) n
 decides_left rules n rule tuple at left =
     (tuple, rule.action, left.packet, (rule, at, left.one, refl, λ k other less there. left.none k other (slice_get-below rules n k other less there)))
+
+pub some_left : (n : ℕ) → IsTrue (ltb 0 n) → n ≢ 0
+some_left n some = λ none. omega (arith, ltb-true 0 n some, none)
 
 -- what rules at the front take, and which of them are needed
 pub shadowed_together : (rules : List Rule) (n : ℕ) (rule : RuleFacts) (takers : List ℕ) (least : Bool) → n ≤ length rules

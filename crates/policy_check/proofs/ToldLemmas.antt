@@ -53,8 +53,8 @@ section_told policy index section old new at before (more, same, each) told = λ
 -- a policy without rules
 pub none_told : (policy : PolicyFacts) (remarks : List Remark) → All HasNoRule policy.sections → IsPolicyTold policy remarks
 none_told policy remarks none k section at direction place within =
-    absurd (no_place direction (All-contains HasNoRule policy.sections section none (k, slice_get_within policy.sections k section at, get_or_from_slice_get policy.sections k section section at)) within)
+    absurd (no_place section place direction (All-contains HasNoRule policy.sections section none (k, slice_get_within policy.sections k section at, get_or_from_slice_get policy.sections k section section at)) within)
   where
-    no_place : {section : SectionFacts} {place : ℕ} (direction : Direction) → HasNoRule section → place < length (rules_of direction section) → ⊥
-    no_place Inbound none within = omega (arith, ap length none.0, within)
-    no_place Outbound none within = omega (arith, ap length none.1, within)
+    no_place : (section : SectionFacts) (place : ℕ) (direction : Direction) → HasNoRule section → place < length (rules_of direction section) → ⊥
+    no_place section place Inbound none within = omega (arith, ap length none.0, within)
+    no_place section place Outbound none within = omega (arith, ap length none.1, within)

@@ -21,16 +21,16 @@ loop-place-preserved c =
     let third = Adds-rule section way place _ _ _ c.mask.result second c.mask.ensures c.in_ok-add-3.ensures in
     let fourth = Adds-rule section way place _ _ _ c.unmatched_flags.result third c.unmatched_flags.ensures c.in_ok-add-4.ensures in (
       Adds-rule section way place _ _ _ c.in_ok-remark.remark fourth c.in_ok-remark.ensures.remark c.in_ok-add-5.ensures,
-      below_more (λ (k : ℕ). IsDecidingTold section way k c.add-5.new.all.items) place
-      (λ k less.
-      let one = still_told section way k _ _ _ c.in_ok-add.ensures (c.loop-place.invariant.1 k less) in
-      let two = still_told section way k _ _ _ c.in_ok-add-2.ensures one in
-      let three = still_told section way k _ _ _ c.in_ok-add-3.ensures two in
-      still_told section way k _ _ _ c.in_ok-add-5.ensures (still_told section way k _ _ _ c.in_ok-add-4.ensures three))
-      (newly_told section way place _ _ _ c.in_ok-add-5.ensures c.in_ok-remark.ensures.told),
+      below_more (λ (k : ℕ). IsDecidingTold section way k c.add-in-loop-place-4.new.all.items) place
+          (λ k less.
+          let one = still_told section way k _ _ _ c.in_ok-add.ensures (c.loop-place.invariant.1 k less) in
+          let two = still_told section way k _ _ _ c.in_ok-add-2.ensures one in
+          let three = still_told section way k _ _ _ c.in_ok-add-3.ensures two in
+          still_told section way k _ _ _ c.in_ok-add-5.ensures (still_told section way k _ _ _ c.in_ok-add-4.ensures three))
+          (newly_told section way place _ _ _ c.in_ok-add-5.ensures c.in_ok-remark.ensures.told),
     )
 
 pub returns-clause-told : goal.returns-clause-told
 returns-clause-told c = λ place less.
     c.loop-place.invariant.1 place
-    (omega (arith, less, ap length c.rules_for_remarks.ensures, length-map c.rules_for_remarks.result.now rule_facts))
+    (omega (arith, less, ap length c.rules_for_remarks-place-end.ensures, length-map c.rules_for_remarks-place-end.result.now rule_facts))

@@ -5,7 +5,7 @@ use Rattle.std.proofs.lemmas.Option.{slice_get_within}
 use Rattle.acl_policy.specs.declared.policy.Section.{Section}
 use Rattle.acl_policy.specs.Policies.{policy_facts, section_facts}
 use Rattle.policy_check.proofs.RemarkLemmas.{more_of_policy, section_there}
-use Rattle.policy_check.proofs.ToldLemmas.{none_told, section_told}
+use Rattle.policy_check.proofs.ToldLemmas.{section_told}
 use Rattle.policy_check.proofs.remarks_on_policy.remarks_on.Goals as goal
 
 pub loop-section-preserved : goal.loop-section-preserved
