@@ -3,7 +3,7 @@ import ipaddress
 import random
 import re
 
-from program.policy_checks import ALL, HALVES, crossing
+from program.policy_checks import ALL, HALVES, TOO_MANY, of_ports
 from support.cases import Case, each, wanted
 
 OWN = "mac 02:00:00:00:00:01\n"
@@ -58,8 +58,8 @@ PAIRS = [
     ("reflected where IPv4 is dropped before", *(f"in deny ipv4 any any\nin {it} ipv6 any any\n" for it in ("permit", "permit+reflect")),
      ["in pass rule 2 -> pass rule 2 reflect"]),
     ("out of an interface without a mac line", "interface 7\nout permit ipv4 any any\n", "interface 7\nout deny ipv6 any any\n", []),
-    # the ports make 22,500 cells, more than a pair may be looked for by itself
-    ("many cases", "".join(f"{it}\n" for it in [*crossing(150), *HALVES, ALL]), "in permit ipv4 any any tcp\n", []),
+    # the ports make 3600 cells, and some 60 rules are looked at for each, more than the tests that a pair has of its own
+    ("many cases", "\n".join([*of_ports("sport", 60), *of_ports("dport", 60), *HALVES, ALL, ""]), "in permit ipv4 any any tcp\n", []),
     ("two rules of the one and two of the other", "in permit ipv4 10.0.0.0/8 any\nin permit+reflect ipv4 any any\n",
      "in deny ipv4 any 10.0.0.0/8\nin permit ipv4 any any\n",
      ["in pass rule 1 -> drop rule 1", "in pass rule 2 reflect -> drop rule 1", "in pass rule 2 reflect -> pass rule 2"]),
@@ -71,14 +71,14 @@ FAULTS = [
     ("a wrong line of each", b"maybe\n", b"\nmaybe\n", "racl: {old}: line 1: `maybe` begins no line: in, out, mac and interface do; see racl check\n"),
 ]
 
-# Two policies whose own addresses differ, or whose rules make too many cases, and the report. The ports make 90,000 cells.
+# Two policies whose own addresses differ, or whose rules make too many cases, and the report.
 REPORTS = [
     ("other mac lines", OWN + SSH, OWN.replace("1", "2") + SSH + "interface 9\n" + OWN,
      b"interface 0: the mac lines differ\ninterface 9: the mac lines differ\npairs that differ 0 unknown 0\n"),
     ("a mac line more", "out permit ipv4 any any\n", OWN + "out deny ipv4 any any\n", b"interface 0: the mac lines differ\npairs that differ 0 unknown 0\n"),
     ("another mac line, and other rules", OWN + "out permit ipv4 any any 47\n", OWN.replace("1", "2"),
      b"interface 0: the mac lines differ\nout 47 0.0.0.0 0.0.0.0: pass rule 1 -> drop default\npairs that differ 1 unknown 0\n"),
-    ("too many cases", "".join(f"{it}\n" for it in [*crossing(300), *HALVES, ALL]), "in permit ipv4 any any tcp\n",
+    ("too many cases", "\n".join([*TOO_MANY, ""]), "in permit ipv4 any any tcp\n",
      b"in unknown: drop rule 603 -> pass rule 1\npairs that differ 0 unknown 1\n"),
 ]
 
