@@ -87,11 +87,13 @@ class Files(Case):
 
     @each([(f"a line {it.decode()!r} in the policy's file", it) for it in (b"pcap", b"hex\r\nd4\n", b"hex 0\n", b"hex 255\nin deny\n")])
     def marked_policy(self, line):
-        want = wanted(stderr="racl: policy line 3 is wrong\n", status=1)
+        told = f"racl: {self.policy}: line 3: `{line.decode().split()[0]}` begins no line: in, out, mac and interface do; see racl check\n"
+        want = wanted(stderr=told, status=1)
         self.compare(self.run_on(NAMES + line, CAPTURE), want, "one capture")
         files = [self.hold("policy", NAMES + line), f"--interface=7={self.hold('capture', CAPTURE)}"]
         self.compare(self.program.run(files), want, "an interface")
-        self.compare(self.run_on(b"in deny\n" + NAMES + line, CAPTURE), wanted(stderr="racl: policy line 1 is wrong\n", status=1))
+        told = f"racl: {self.policy}: line 1 ends too early; see racl check\n"
+        self.compare(self.run_on(b"in deny\n" + NAMES + line, CAPTURE), wanted(stderr=told, status=1))
 
     def test_wrong_policies(self):
         """A wrong policy is told by its file, its line and the reason that a check has."""

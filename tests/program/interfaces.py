@@ -1,15 +1,17 @@
 """A policy and captures of interfaces in files, which get what an input with their digits gets."""
-from support.captures import CAPTURE, MOST_BYTES, MOST_KEPT, NAMES, OTHERS, PUT_TOGETHER, header, parts_of, record
+from support.captures import BY_NAME, CAPTURE, MOST_BYTES, MOST_KEPT, NAMES, OTHERS, PUT_TOGETHER, header, parts_of, record
 from support.cases import FEW_WORKERS, TOP, Case, bytes_of_file, each, names_in, wanted
 
 TWO = [(1, CAPTURE), (2, CAPTURE)]
 LONG = record(1, b"", MOST_KEPT + 1)
 
-# Captures by the numbers of their interfaces; and, where one of them is told as faulty, its place.
+# Captures by the numbers of their interfaces; and, where one of them is told as faulty, its place, and what it is said to be.
 CAPTURES = [
     ("an interface twice", [*TWO, (1, CAPTURE)]), ("a cut capture first", [(7, CAPTURE[:-1]), *TWO]),
     ("an empty capture", [(255, b""), *TWO], 0), ("many interfaces", [(it, CAPTURE) for it in range(255, -1, -1)]),
-    ("a wrong capture last", [*TWO, (0, CAPTURE[:4] + b"\3\0" + CAPTURE[6:])], 2),
+    ("a wrong capture last", [*TWO, (0, CAPTURE[:20] + bytes(4) + CAPTURE[24:])], 2,
+     f"of a loopback interface's packets without Ethernet headers {BY_NAME % 0}"),
+    ("another version last", [*TWO, (0, CAPTURE[:4] + b"\3\0" + CAPTURE[6:])], 2),
     ("a long record", [*TWO, (9, header() + LONG), (3, header() + LONG)], 2), ("of one interface", [(1, b"")], 0),
     ("many bytes", [(0, CAPTURE + record(1, bytes(200_000)) * 50), (1, CAPTURE)]),
 ]
@@ -55,12 +57,13 @@ class Interfaces(Case):
         return "".join(f"racl: {policy or self.policy}: interface {it} has no rule, so each of its packets of IP is dropped\n"
                        for it, _ in captures if it not in ruled(first)).encode()
 
-    def compare_both(self, first, captures, faulty=None):
+    def compare_both(self, first, captures, faulty=None, said=None):
         self.hold("policy", first)
         for number in FEW_WORKERS:
             want = self.program.run(["--workers", number], glued(first, captures))
             if faulty is not None:
-                want["stderr"] += (self.that_is(faulty, captures[faulty][0]) if captures[1:] else f"racl: that is {self.folder}/0\n").encode()
+                told = self.that_is(faulty, captures[faulty][0]) if captures[1:] else f"racl: that is {self.folder}/0\n"
+                want["stderr"] += (told + (f"racl: {self.folder}/{faulty} is {said}\n" if said else "")).encode()
             if want["status"] in (0, 3):
                 want["stderr"] += self.unruled(first, captures)
             words = ["--workers", number, *self.words_of(captures), self.policy]
@@ -125,5 +128,5 @@ class Interfaces(Case):
     def others(self, data, fault, said):
         """Captures that are refused for what they are."""
         words = self.words_of([(1, CAPTURE), (2, data), (3, CAPTURE)])
-        second = f"racl: {self.folder}/1 is {said}\n" if said else self.that_is(1, 2)
-        self.compare(self.program.run([*words, self.policy]), wanted(stderr=f"racl: {fault}\n{second}", status=1))
+        told = f"racl: {fault}\n{self.that_is(1, 2)}" + (f"racl: {self.folder}/1 is {said}\n" if said else "")
+        self.compare(self.program.run([*words, self.policy]), wanted(stderr=told, status=1))

@@ -95,7 +95,8 @@ class Streams(Case):
     def test_marker_line_at_the_end(self):
         self.hold("marked", NAMES + b"pcap\r")
         for words in (["marked", "capture"], ["--interface", "1=capture", "marked"], ["ask", "marked", EXAMPLE]):
-            self.compare(self.program.run(words, cwd=self.folder), wanted(stderr="racl: policy line 3 is wrong\n", status=1), *words)
+            told = "racl: marked: line 3: `pcap` begins no line: in, out, mac and interface do; see racl check\n"
+            self.compare(self.program.run(words, cwd=self.folder), wanted(stderr=told, status=1), *words)
 
     def test_expectations_that_end_in_a_carriage_return(self):
         self.hold("expected", b"packets 2\r")

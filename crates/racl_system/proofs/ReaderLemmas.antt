@@ -1,10 +1,9 @@
 -- What is read from a source, as far as an input goes.
-use Rattle.std.proofs.Common.{◌∙◌, ◌≡◌, ◌+◌, ◌<◌, ◌≤◌, ◌++◌, ◌⊎◌, inl, inr, ap, arith, refl, subst, sym, ℕ, Bool, true, false, List, [], Option, None, Some, length, take}
+use Rattle.std.proofs.Common.{◌∙◌, ◌≡◌, ◌+◌, ◌<◌, ◌≤◌, ◌++◌, ◌⊎◌, inl, inr, ap, arith, refl, subst, sym, ℕ, Bool, true, false, List, [], Option, None, Some, Err, length, take}
 use Rattle.std.specs.Prelude.{IfSome}
 use Rattle.std.proofs.lemmas.List.{append-nil, length-take, take_all, take_at}
 use Rattle.racl_io.specs.Inputs.{most_bytes}
-use Rattle.racl_io.specs.Transfers.{HasRead}
-use Rattle.racl_io.specs.declared.device.Device.{Device}
+use Rattle.racl_io.specs.Transfers.{HasRead, failures_after_reads}
 use Rattle.racl_io.specs.declared.fault.Fault.{Fault}
 use Rattle.racl_io.specs.declared.fault.Fault.TheVariants as fault
 use Rattle.racl_report.specs.Statuses.{status_of_fault}
@@ -29,13 +28,16 @@ read_front (Some all) (Some rest) read least false has =
     let same : all ≡ read ++ rest = has.consumed ∙ ap (λ (bytes : List ℕ). bytes ++ rest) (sym has.appended) in
     sym (ap (take least) same ∙ take_at read rest least count)
 
--- the same of a reader that was made a device, and a buffer that had nothing
-pub front_of_reader : {R : Type 0} (remaining : R → Option (List ℕ)) (reader : R) (device : Device R) (after : Option (List ℕ)) (old read : List ℕ) (least : ℕ) (at_end : Bool)
-    → device ≡ record { inner = reader; failures = 0 } → old ≡ [] → HasRead (remaining device.inner) after old read least at_end
-    → IfSome (remaining reader) (λ bytes. read ≡ take least bytes)
-front_of_reader remaining reader device after old read least at_end made none has =
-    read_front (remaining reader) after read least at_end
-    (subst (λ d. HasRead (remaining d.inner) after [] read least at_end) made (subst (λ o. HasRead (remaining device.inner) after o read least at_end) none has))
+-- the same of a buffer that had nothing
+pub front_of_source : (all after : Option (List ℕ)) (old read : List ℕ) (least : ℕ) (at_end : Bool) → old ≡ [] → HasRead all after old read least at_end
+    → IfSome all (λ bytes. read ≡ take least bytes)
+front_of_source all after old read least at_end none has = read_front all after read least at_end (subst (λ o. HasRead all after o read least at_end) none has)
+
+-- the status where a source failed once more
+pub status_of_failed : (X : Type 0) (before after : ℕ) (why : Fault) → after ≡ failures_after_reads {X = X} before (Err why) → after ≡ before + 1
+    → status_of_fault why ≡ 4
+status_of_failed X before after fault.Read failed more = refl
+status_of_failed X before after why failed more = let none : ⊥ = omega (arith, failed, more) in absurd none
 
 -- a front that has no more bytes than an input may have is all
 pub all_of_front : (all read : List ℕ) → read ≡ take (most_bytes + 1) all → length read ≤ most_bytes → read ≡ all

@@ -80,7 +80,7 @@ pub fn is_kind_said(rt: &impl Eprint, name: &str, front: &[u8], fault: Fault) ->
 }
 
 // Says that a capture in the file of this name, which begins with these bytes, has the fault: of which interface it is, where
-// there are several, or what the file is where it isn't read for what it is.
+// there are several, and what the file is where it isn't read for what it is.
 fn say_remark(
     rt: &impl Eprint,
     name: &str,
@@ -88,16 +88,14 @@ fn say_remark(
     front: &[u8],
     fault: Fault,
 ) -> io::Result<()> {
-    if is_kind_said(rt, name, front, fault)? {
-        return Ok(());
-    }
     let shown = shown_name(name);
-    match interface {
-        None => rt.eprintln(format_args!("racl: that is {shown}")),
-        Some(number) => rt.eprintln(format_args!(
-            "racl: that is {shown}, the capture of interface {number}"
-        )),
+    if let Some(number) = interface {
+        rt.eprintln(format_args!("racl: that is {shown}, the capture of interface {number}"))?;
     }
+    if !is_kind_said(rt, name, front, fault)? && interface.is_none() {
+        rt.eprintln(format_args!("racl: that is {shown}"))?;
+    }
+    Ok(())
 }
 
 // Says behind a report how many packets found no pages, where some did, and what helps. Where standard error fails, the

@@ -1,29 +1,31 @@
 //! The check of the policy in a file.
-ghost use Rattle.std.specs.Prelude.{◌-◌, ◌<◌, ◌^◌, IfOk};
+ghost use Rattle.std.specs.Prelude.{◌≡◌, ◌+◌, ◌-◌, ◌<◌, ◌^◌, IfOk};
 ghost use Rattle.racl_system.specs.CheckStatuses.{HasToldWith, IsCheckStatus};
 
-use crate::named_reader::{opened_or_told, text_of_file};
+use crate::named_reader::{opened_or_told, text_of_source};
 use crate::say_and_answer_status::say_fault;
 use crate::system_files::SystemFiles;
 use policy_check::tell;
-use racl_io::{Fault, Sink, write_all};
+use racl_io::{Device, Fault, Sink, Source, write_all};
 use std::alloc::Global;
 use std::io;
-use std::io::{Eprint, Read};
+use std::io::Eprint;
 
 // Checks the policy of a reader, and answers the status: 4 where the reader or the writer failed, and else only where
 // memory ran out, before anything was written.
-fn check_opened<R: Read + Drop, W: Sink>(
+fn check_opened<R: Source, W: Sink>(
     rt: &impl Eprint,
     alloc: Global,
-    reader: R,
+    reader: &mut R,
     writer: &mut W,
 ) -> io::Result<u8>
-    requires { W.failures writer.old < 2 ^ 64 - 1 }
-    ensures status { IfOk result (IsCheckStatus (R.remaining reader)) }
+    requires reader { R.failures reader.old < 2 ^ 64 - 1 }
+    requires writer { W.failures writer.old < 2 ^ 64 - 1 }
+    ensures status { IfOk result (IsCheckStatus (R.bytes reader.old)) }
+    ensures read { R.failures reader.new ≡ R.failures reader.old + 1 → IfOk result (λ status. status ≡ 4) }
     ensures told { IfOk result (HasToldWith W.failures writer.old writer.new) }
 {
-    let text = match text_of_file(alloc, reader) {
+    let text = match text_of_source(alloc, reader) {
         Ok(text) => text,
         Err(fault) => return say_fault(rt, fault),
     };
@@ -54,5 +56,5 @@ pub fn check_file<S: SystemFiles + Eprint, W: Sink>(
         Ok(None) => return Ok(4),
         Err(error) => return Err(error),
     };
-    check_opened(system, alloc, policy, writer)
+    check_opened(system, alloc, &mut Device::new(policy), writer)
 }

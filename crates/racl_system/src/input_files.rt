@@ -3,12 +3,13 @@ ghost use Rattle.std.specs.Prelude.{◌≡◌, ◌≤◌, ◌+◌, ◌⊎◌, �
 ghost use Rattle.racl_io.specs.Inputs.{most_bytes};
 ghost use Rattle.racl_io.specs.Joined.{joined_bytes, joined_left, text_of};
 ghost use Rattle.racl_io.specs.declared.fault.Fault.TheVariants.{Memory};
-ghost use Rattle.racl_system.specs.MarkedPolicies.{IsFileStatus, IsMarkedFault, IsUnheld, IsUnmarked};
+ghost use Rattle.racl_system.specs.MarkedPolicies.{IsFileStatus, IsMarkedFault, IsUnmarked};
 ghost use Rattle.racl_system.specs.PolicyTexts.{IsEnded, ended_lines};
 ghost use Rattle.racl_system.specs.Readers.{left_in};
 
 use crate::named_reader::{Reader, opened_or_told, text_of_file};
 use crate::say_and_answer_status::say_fault;
+use crate::say_wrong_policy::{NamedPolicy, say_policy_fault};
 use crate::system_files::SystemFiles;
 use acl_policy::read_policy;
 use racl_io::{Device, Fault, Joined, split_input};
@@ -44,29 +45,12 @@ fn marked_policy_fault(alloc: Global, text: &[u8]) -> Option<Fault>
     }
 }
 
-/// The text of a policy's file (`text_of_file`). TooLarge: it has more bytes than an input may. Another fault but Memory and Read: a
-/// marker line stands there.
-pub fn unmarked_text<R: Read + Drop>(alloc: Global, reader: R) -> Result<Vec<u8>, Fault>
-    ensures few { IfOk result (λ text. length text.items ≤ most_bytes + 1) }
-    ensures text { IfOk result (λ text. IfSome (R.remaining reader) (λ all. text.items ≡ ended_lines all)) }
-    ensures ended { IfOk result (λ text. IsEnded text.items) }
-    ensures unmarked { IfOk result (λ text. IsUnmarked text.items) }
-    ensures fault { IfErr result (IsUnheld (R.remaining reader)) }
-{
-    let text = match text_of_file(alloc, reader) {
-        Ok(text) => text,
-        Err(fault) => return Err(fault),
-    };
-    match marked_policy_fault(alloc, &text) {
-        None => Ok(text),
-        Some(fault) => Err(fault),
-    }
-}
-
-// Reads the text of a policy's file. Where it can't be had that is told, and the status is answered.
-fn text_or_told<S: Eprint, R: Read + Drop>(
+/// Reads the text of a policy's file of this name (`text_of_file`), in which a marker line is a wrong line. Where it can't be had
+/// or is wrong so, that is told, and the status is answered.
+pub fn text_or_told<S: Eprint, R: Read + Drop>(
     system: &S,
     alloc: Global,
+    name: &str,
     reader: R,
 ) -> io::Result<Result<Vec<u8>, u8>>
     ensures few { IfOk result (λ found. IfOk found (λ text. length text.items ≤ most_bytes + 1)) }
@@ -75,11 +59,20 @@ fn text_or_told<S: Eprint, R: Read + Drop>(
     ensures unmarked { IfOk result (λ found. IfOk found (λ text. IsUnmarked text.items)) }
     ensures status { IfOk result (λ found. IfErr found (IsFileStatus (R.remaining reader))) }
 {
-    let fault = match unmarked_text(alloc, reader) {
-        Ok(text) => return Ok(Ok(text)),
-        Err(fault) => fault,
+    let text = match text_of_file(alloc, reader) {
+        Ok(text) => text,
+        Err(fault) => {
+            return match say_fault(system, fault) {
+                Ok(status) => Ok(Err(status)),
+                Err(error) => Err(error),
+            };
+        }
     };
-    match say_fault(system, fault) {
+    let Some(fault) = marked_policy_fault(alloc, &text) else {
+        return Ok(Ok(text));
+    };
+    let policy = NamedPolicy { name, text: &text };
+    match say_policy_fault(system, alloc, policy, fault) {
         Ok(status) => Ok(Err(status)),
         Err(error) => Err(error),
     }
@@ -98,7 +91,7 @@ pub fn policy_text<S: SystemFiles + Eprint>(
     ensures status { IfOk result (λ found. IfErr found (IsFileStatus (S.named system.now name.now))) }
 {
     match opened_or_told(system, name) {
-        Ok(Some(policy)) => text_or_told(system, alloc, policy),
+        Ok(Some(policy)) => text_or_told(system, alloc, name, policy),
         Ok(None) => Ok(Err(4)),
         Err(error) => Err(error),
     }
@@ -139,7 +132,7 @@ pub fn opened_input<S: SystemFiles + Eprint>(
         Ok(None) => return Ok(Err(4)),
         Err(error) => return Err(error),
     };
-    match text_or_told(system, alloc, policy) {
+    match text_or_told(system, alloc, files.policy, policy) {
         Ok(Ok(text)) => Ok(Ok(Joined::new(bytes_behind(text), capture))),
         Ok(Err(status)) => Ok(Err(status)),
         Err(error) => Err(error),

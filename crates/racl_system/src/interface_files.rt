@@ -6,11 +6,11 @@ ghost use Rattle.racl_io.specs.Transfers.{HasReadWithin};
 ghost use Rattle.racl_io.specs.declared.fault.Fault.TheVariants.{Memory, Read as ReadFault, TooLarge};
 ghost use Rattle.racl_options.specs.Origins.{capture_facts};
 ghost use Rattle.racl_report.specs.InterfaceInputs.{AreAllBytes, bytes_in};
-ghost use Rattle.racl_system.specs.InterfaceFiles.{AreAllOf, AreUnread, IsInterfacesStatus, IsUnreadInput, given_by, given_in};
+ghost use Rattle.racl_system.specs.InterfaceFiles.{AreAllOf, AreUnread, IsInterfacesStatus, given_by, given_in};
 ghost use Rattle.racl_system.specs.PolicyTexts.{ended_lines};
 ghost use Rattle.racl_system.specs.Readers.{left_in};
 
-use crate::input_files::unmarked_text;
+use crate::input_files::text_or_told;
 use crate::interface_capture::InterfaceCapture;
 use crate::named_reader::{Reader, opened_or_told};
 use crate::progress::Watched;
@@ -104,27 +104,6 @@ fn read_interfaces<R: Read + Drop>(
     Ok(all)
 }
 
-// Reads a policy's text, and then the captures behind it.
-fn read_parts<R: Read + Drop>(
-    rt: &HostRuntime,
-    alloc: Global,
-    policy: R,
-    captures: Vec<InterfaceCapture<R>>,
-) -> Result<InterfaceInput, Fault>
-    ensures text { IfOk result (λ input. IfSome (R.remaining policy) (λ all. input.text.items ≡ ended_lines all)) }
-    ensures captures { IfOk result (λ input. AreAllOf (given_by R.remaining captures.items) input.captures.items) }
-    ensures fault { IfErr result (IsUnreadInput (R.remaining policy) (given_by R.remaining captures.items)) }
-{
-    let text = match unmarked_text(alloc, policy) {
-        Ok(text) => text,
-        Err(fault) => return Err(fault),
-    };
-    match read_interfaces(rt, alloc, text.len(), captures) {
-        Ok(captures) => Ok(InterfaceInput { text, captures }),
-        Err(fault) => Err(fault),
-    }
-}
-
 /// Opens the files of a policy and of interfaces' captures, and then reads them. Where they can't be had, or a marker line
 /// stands in the policy, that is told, and the status is answered: 1 where they are wrong so or have too many bytes, else 4.
 pub fn read_interface_input<S: SystemFiles + Eprint>(
@@ -150,8 +129,13 @@ pub fn read_interface_input<S: SystemFiles + Eprint>(
         Ok(None) => return Ok(Err(4)),
         Err(error) => return Err(error),
     };
-    let fault = match read_parts(rt, alloc, policy, captures) {
-        Ok(input) => return Ok(Ok(input)),
+    let text = match text_or_told(system, alloc, interfaces.policy, policy) {
+        Ok(Ok(text)) => text,
+        Ok(Err(status)) => return Ok(Err(status)),
+        Err(error) => return Err(error),
+    };
+    let fault = match read_interfaces(rt, alloc, text.len(), captures) {
+        Ok(captures) => return Ok(Ok(InterfaceInput { text, captures })),
         Err(fault) => fault,
     };
     match say_fault(system, fault) {

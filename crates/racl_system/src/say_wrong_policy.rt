@@ -2,10 +2,10 @@
 ghost use Rattle.std.specs.Prelude.{◌≡◌, IfOk};
 ghost use Rattle.racl_report.specs.Statuses.{status_of, status_of_fault};
 
-use crate::say_and_answer_status::{say_ending, say_fault};
+use crate::say_and_answer_status::say_ending;
 use policy_check::tell;
 use racl_io::{Fault, Totals};
-use racl_report::{Ending, ending, shown_name};
+use racl_report::{ending, shown_name, status};
 use std::alloc::Global;
 use std::io;
 use std::io::Eprint;
@@ -25,29 +25,21 @@ fn is_of_policy(fault: Fault) -> bool {
     )
 }
 
-// Says which line of a policy is wrong, and why, where that is the fault; whether it was said, which isn't so where memory runs
-// out for it.
-fn is_wrong_policy_said(
+// Says that a policy is wrong: in which line, and why, unless memory for the reason runs out; and what tells more.
+fn say_wrong_policy(
     rt: &impl Eprint,
     alloc: Global,
     policy: NamedPolicy<'_>,
     fault: Fault,
-) -> io::Result<bool> {
-    if !is_of_policy(fault) {
-        return Ok(false);
-    }
-    let Ok(told) = tell(alloc, policy.text) else {
-        return Ok(false);
-    };
-    let Ok(lines) = str::from_utf8(told.text.as_slice()) else {
-        return Ok(false);
-    };
-    let Some(line) = lines.lines().next() else {
-        return Ok(false);
-    };
+) -> io::Result<()> {
     let shown = shown_name(policy.name);
-    rt.eprintln(format_args!("racl: {shown}: {line}; see racl check"))?;
-    Ok(true)
+    if let Ok(told) = tell(alloc, policy.text)
+        && let Ok(lines) = str::from_utf8(told.text.as_slice())
+        && let Some(line) = lines.lines().next()
+    {
+        return rt.eprintln(format_args!("racl: {shown}: {line}; see racl check"));
+    }
+    rt.eprintln(format_args!("racl: {shown}: {fault}; see racl check"))
 }
 
 /// Says how a run on files ended, a wrong policy by its line; and answers the status. No clause says what standard error gets:
@@ -60,16 +52,13 @@ pub fn say_ended(
 ) -> io::Result<u8>
     ensures { IfOk result (λ status. status ≡ status_of outcome.now) }
 {
-    let Ending {
-        mut message,
-        status,
-    } = ending(outcome);
-    if let Err(fault) = outcome {
-        if is_wrong_policy_said(rt, alloc, policy, *fault)? {
-            message = None;
-        }
+    if let Err(fault) = outcome
+        && is_of_policy(*fault)
+    {
+        say_wrong_policy(rt, alloc, policy, *fault)?;
+        return Ok(status(outcome));
     }
-    say_ending(rt, &Ending { message, status })
+    say_ending(rt, &ending(outcome))
 }
 
 /// Says which fault a policy in a file has, and answers the status.
@@ -81,16 +70,5 @@ pub fn say_policy_fault(
 ) -> io::Result<u8>
     ensures { IfOk result (λ status. status ≡ status_of_fault fault) }
 {
-    if is_wrong_policy_said(system, alloc, policy, fault)? {
-        return Ok(ending(&Err(fault)).status);
-    }
-    let status = match say_fault(system, fault) {
-        Ok(status) => status,
-        Err(error) => return Err(error),
-    };
-    let shown = shown_name(policy.name);
-    match system.eprintln(format_args!("racl: that is {shown}")) {
-        Ok(()) => Ok(status),
-        Err(error) => Err(error),
-    }
+    say_ended(system, alloc, policy, &Err(fault))
 }

@@ -1,7 +1,7 @@
 use Rattle.std.proofs.Common.{◌<◌, ◌≤◌, arith, length}
 use Rattle.racl_io.specs.Inputs.{most_bytes}
 use Rattle.racl_system.proofs.ReaderLemmas.{text_of_front, unread_of_long}
-use Rattle.racl_system.proofs.named_reader.text_of_file.Goals as goal
+use Rattle.racl_system.proofs.named_reader.text_of_source.Goals as goal
 
 pub returns-then-len-gt-MOST_BYTES-clause-fault : goal.returns-then-len-gt-MOST_BYTES-clause-fault
 returns-then-len-gt-MOST_BYTES-clause-fault g c =
