@@ -51,63 +51,29 @@ def of_ports(way, count):
     return [f"in permit ipv4 any any tcp {way} {2 * port + 1}" for port in range(count)]
 
 
-def never(number, takers):
-    return f"remark: interface 1: in rule {number} never decides, since {takers}"
+def of_last(name, rules, told, why):
+    """The check of rules and of a last one for all of TCP, which stands in the line of its number, and what is told of it."""
+    last, number = "in deny ipv4 any any tcp", len(rules) + 1
+    remark = f"remark: interface 0: {told % number}, since {why} | line {number} {last}\npolicy: rules {number} sections 1\n"
+    return f"check of {name}", ["check", "-"], "\n".join([*rules, last, ""]).encode(), remark.encode(), "", 0
 
 
-def line_of(rules, number):
-    return f" | line {number + 1} {rules[number - 1]}"
-
-
-def together(rules, takers, line=""):
-    """What is told where the last of the rules never decides: the rules that take all its packets, and the line of one."""
-    return f"{never(len(rules), takers)}{line_of(rules, len(rules))}{line}\n"
-
-
-ALL = "in deny ipv4 any any tcp"
+NEVER, NOT_KNOWN = "in rule %d never decides", "it isn't known whether in rule %d ever decides"
 HALVES = ["in permit ipv4 0.0.0.0/1 any tcp", "in permit ipv4 128.0.0.0/1 any tcp"]
-QUARTERS = [f"in permit ipv4 {first}.0.0.0/2 any tcp" for first in (0, 64, 128, 192)]
-PORTS = [f"in permit ipv4 any any tcp dport {low}-{high}" for low, high in ((0, 1023), (1024, 49151), (49152, 65535))]
-UDP = "in deny ipv4 any any udp dport"
-FRAGMENTS = ["in permit ipv4 any any tcp dport 80", "in deny ipv4 10.0.0.0/8 any tcp flags 01/00"]
-NO_FLAGS = "remark: interface 1: in rule 2 matches no flags, since its value has bits outside its mask"
-NOT_KNOWN = ("remark: interface 1: it isn't known whether in rule %d ever decides, since there are too many cases to try; ask about one of "
-             "its packets")
+CHECKS += [
+    of_last("two of many rules", [HALVES[0], *of_ports("sport", 300), HALVES[1]], NEVER, "rules 1 and 302 take all its packets"),
+    of_last("two rules behind many", [*of_ports("sport", 20), *of_ports("dport", 20), *HALVES], NEVER, "rules 41 and 42 take all its packets")]
 
-TWO_OF_MANY = [HALVES[0], *of_ports("sport", 300), HALVES[1], ALL]
-BEHIND_MANY = [*of_ports("sport", 20), *of_ports("dport", 20), *HALVES, ALL]
-THREE = [PORTS[0], f"{UDP} 53", PORTS[1], f"{UDP} 123", PORTS[2], ALL]
-ROW_AND_ONE = [f"{UDP} 53", *QUARTERS[:3], f"{UDP} 123", QUARTERS[3], ALL]
-# The ports make 90,000 cells, and most of 300 rules are looked at for each.
-TOO_MANY = [*of_ports("sport", 300), *of_ports("dport", 300), *HALVES, ALL]
-# Each of 576 cells is a rule's, in no order: some 60,000 tests show that they take all, and some 30,000 that one is needed.
+# Of 576 cells each is one rule's, in no order: some 60,000 tests show that they take all, and some 30,000 that one is needed.
 PARTS = [f"{low}-{min(low + 2730, 65535)}" for low in range(0, 65536, 2731)]
 CELLS = [f"in permit ipv4 any any tcp sport {sport} dport {dport}" for sport in PARTS for dport in PARTS]
-TOO_MANY_NEEDED = [*random.Random(1).sample(CELLS, len(CELLS)), ALL]
 
-
-def of_rules(name, rules, remarks):
-    """The check of a direction's rules, of which rule N stands in line N + 1, and the remarks on them."""
-    return (f"check of {name}", ["check", "-"], "\n".join(["interface 1", *rules, ""]).encode(),
-            f"{remarks}policy: rules {len(rules)} sections 2\n".encode(), "", 0)
-
-
-CHECKS += [of_rules(name, rules, remarks) for name, rules, remarks in (
-    # later fragments have no flags and no ports, and rule 2 matches nothing else
-    ("a rule that doesn't cover the other", FRAGMENTS,
-     f"{NO_FLAGS}{line_of(FRAGMENTS, 2)}\n" + together(FRAGMENTS, "rule 1 takes all its packets", line_of(FRAGMENTS, 1))),
-    ("two rules", [*HALVES, ALL], together([*HALVES, ALL], "rules 1 and 2 take all its packets")),
-    ("two of many rules", TWO_OF_MANY, together(TWO_OF_MANY, "rules 1 and 302 take all its packets")),
-    ("two rules behind many", BEHIND_MANY, together(BEHIND_MANY, "rules 41 and 42 take all its packets")),
-    ("three rules", THREE, together(THREE, "rules 1, 3 and 5 take all its packets")),
-    ("rules in a row", [*QUARTERS, ALL], together([*QUARTERS, ALL], "rules 1 to 4 take all its packets")),
-    ("rules in a row and one more", ROW_AND_ONE, together(ROW_AND_ONE, "rules 2 to 4 and 6 take all its packets")),
-)]
-
-# Checks that take a second.
-LONG_CHECKS = [of_rules("too many cases", TOO_MANY, f"{NOT_KNOWN % len(TOO_MANY)}{line_of(TOO_MANY, len(TOO_MANY))}\n"),
-               of_rules("too many cases for the least rules", TOO_MANY_NEEDED,
-                        together(TOO_MANY_NEEDED, "rules 1 to 576 take all its packets, and fewer may"))]
+# Checks that take a second. The ports make 90,000 cells, and most of 300 rules are looked at for each.
+LONG_CHECKS = [
+    of_last("too many cases", [*of_ports("sport", 300), *of_ports("dport", 300), *HALVES], NOT_KNOWN,
+            "there are too many cases to try; ask about one of its packets"),
+    of_last("too many cases for the least rules", random.Random(1).sample(CELLS, len(CELLS)), NEVER,
+            "rules 1 to 576 take all its packets, and fewer may")]
 
 # A small world: eighths of all sources, and classes of destination ports or none in a later fragment.
 CLASSES = [(0, 1023), (1024, 49151), (49152, 65535)]
@@ -127,7 +93,7 @@ def rule_of_world(source):
 REMARKS = {}
 
 
-NEVER = re.compile(r"^remark: interface 1: in rule (\d+) never decides, since rules? (.*?) takes? all its packets \|", re.M)
+TAKERS = re.compile(r"^remark: interface 0: in rule (\d+) never decides, since rules? (.*?) takes? all its packets \|", re.M)
 
 
 def numbers_in(text):
@@ -158,8 +124,8 @@ class PolicyChecks(Case):
         they match, and without one of those some is left. A rule that takes all alone is the first that does."""
         source = random.Random(seed)
         lines, packets = zip(*(rule_of_world(source) for _ in range(12)))
-        got = self.program.run(["check", "-"], ("interface 1\n" + "".join(f"{it}\n" for it in lines)).encode())
-        told = {int(number): numbers_in(takers) for number, takers in NEVER.findall(got["stdout"].decode())}
+        got = self.program.run(["check", "-"], "".join(f"{it}\n" for it in lines).encode())
+        told = {int(number): numbers_in(takers) for number, takers in TAKERS.findall(got["stdout"].decode())}
         wrong = []
         for place, own in enumerate(packets):
             named = told.pop(place + 1, [])
