@@ -1,10 +1,10 @@
 //! What two policies decide differently.
 ghost use Rattle.std.specs.Prelude.{◌≡◌, ◌≤◌, [], IfOk, IsTrue, OnOk, false, map};
+ghost use Rattle.packet_view.specs.declared.tuple.Direction.TheVariants.{Outbound};
 ghost use Rattle.acl_policy.specs.Policies.{policy_facts};
 ghost use Rattle.acl_policy.specs.Rules.{rule_facts};
 ghost use Rattle.policy_compare.specs.Comparisons;
 ghost use Rattle.policy_compare.specs.Comparisons.{GoByBoth, IsComparison, IsDifference};
-ghost use Rattle.packet_view.specs.declared.tuple.Direction.TheVariants.{Outbound};
 ghost use Rattle.policy_compare.specs.inner.Found;
 ghost use Rattle.policy_compare.specs.inner.Found.{AddsDifferences, IsAtInterface, IsBeforeInterface, sides_facts};
 
