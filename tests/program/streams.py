@@ -26,7 +26,7 @@ RUNS = [
     ("live and saved", ["--live", *SAVED, "policy", "capture"], b"", REFLECTED, False, NO_WRITE),
     ("live interfaces", ["--live", "--interface", "1=capture", "of one"], b"", OF_INTERFACE, False, NO_WRITE),
     ("any length", ["--any-length", *SAVED, "policy", "capture"], b"", REFLECTED, False, NO_WRITE),
-    ("a shard", ["--shard", "1/1", *SAVED, "policy", "capture"], b"", REFLECTED, False, NO_WRITE),
+    ("a shard", ["--shard", "1/1", *SAVED, "policy", "capture"], b"", REFLECTED + b"shard 1 of 1 of 2 packets until 105\n", False, NO_WRITE),
     ("diff", ["diff", "policy", "policy", "capture"], b"", OTHERS, False, NO_WRITE),
     ("expect", ["--expect", "expected", "policy", "capture"], b"", b"met 1\n", False, NO_WRITE),
     ("ask", ["ask", "policy", EXAMPLE], b"", b"1 drop default\npackets 1 pass 0 drop 1\n", False, NO_WRITE),
