@@ -112,6 +112,17 @@ class Shards(Case):
             names = [self.hold(f"report{it}", f"packets {count} pass {count} drop 0\nshard {it} of 2 of {2 * count} packets until 9\n".encode()) for it in (1, 2)]
             self.compare(self.merge(*names), wanted(f"packets {2 * count} pass {2 * count} drop 0\n".encode()), str(count))
 
+    def test_many_shards(self):
+        """The most shards there may be, where few files may be open at once; where these can't be, that is said."""
+        names = [self.hold(f"report{it}", f"{it} pass not-ip\npackets 1 pass 1 drop 0\nshard {it} of 1024 of 1024 packets until 9\n".encode()) for it in range(1, 1025)]
+        merge = ["sh", "-c", 'ulimit -Sn 256; exec "$0" "$@"', f"{TOP}/examples/shards/merge"]
+        ran = subprocess.run([*merge, *names[::-1]], stdout=subprocess.PIPE, stderr=subprocess.PIPE)
+        lines = "".join(f"{it} pass not-ip\n" for it in range(1, 1025))
+        self.compare({"stdout": ran.stdout, "stderr": ran.stderr, "status": ran.returncode}, wanted(f"{lines}packets 1024 pass 1024 drop 0\n".encode()))
+        merge[2] = merge[2].replace("-Sn", "-n")
+        ran = subprocess.run([*merge, *names], stdout=subprocess.PIPE, stderr=subprocess.PIPE)
+        self.compare({"stdout": ran.stdout, "said": b"raise `ulimit -n`" in ran.stderr, "status": ran.returncode}, {"stdout": b"", "said": True, "status": 1})
+
     def test_recipe(self):
         """The page's recipe for GNU parallel, on this machine, where that is installed."""
         if not shutil.which("parallel"):
