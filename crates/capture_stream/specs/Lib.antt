@@ -1,5 +1,4 @@
 pub mod Arrivals
-pub mod ComingCaptures
 pub mod Feeding
 pub mod Found
 pub mod Histories
@@ -7,5 +6,4 @@ pub mod Lives
 pub mod ReadSizes
 pub mod Savings
 pub mod Streams
-pub mod Turns
 pub mod inner

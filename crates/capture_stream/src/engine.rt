@@ -45,12 +45,8 @@ pub fn is_cut(stop: Stop, packets: usize) -> Result<bool, Fault>
 }
 
 impl<J: Judge> Engine<J> {
-    ghost use Rattle.std.specs.Prelude.{◌≡◌, ◌⊎◌, ◌+◌, ◌-◌, ◌<◌, ◌≤◌, ◌^◌, IfOk, MatchResult, length, take};
+    ghost use Rattle.std.specs.Prelude.{◌≡◌, ◌⊎◌, ◌+◌, ◌-◌, ◌<◌, ◌≤◌, ◌^◌, IfOk, MatchResult, length};
     ghost use Rattle.racl_io.specs.declared.fault.Fault.TheVariants.{Memory, Read};
-    ghost use Rattle.packet_view.specs.Captures.{packets_at};
-    ghost use Rattle.packet_view.specs.CheckedCaptures.{remaining};
-    ghost use Rattle.packet_view.specs.RecordLists.{records_from};
-    ghost use Rattle.racl_io.specs.Buffers.{held_by};
     ghost use Rattle.racl_io.specs.Inputs.{most_bytes};
     ghost use Rattle.racl_io.specs.Transfers.{HasReadWithin};
     ghost use Rattle.capture_stream.specs.Feeding.{HasSettled, MayFeed, rest_in};
@@ -92,28 +88,9 @@ impl<J: Judge> Engine<J> {
         Ok((verdicts, found))
     }
 
-    /// The packets that were judged last, of these records.
-    pub fn judged<'a>(&'a self, found: &'a Found) -> Packets<'a>
-        requires { HaveFound self.now.order (held_by self.now.spare) found.now }
-        ensures { remaining result ≡ packets_at self.now.interface (records_from self.now.order found.now.count (held_by self.now.spare)) }
-    {
-        let bytes = self.spare.bytes();
-        let marked = found_records(bytes, self.order, self.interface, found);
-        Packets::Marked(marked)
-    }
-
-    /// The bytes of these records.
-    pub fn records<'a>(&'a self, found: &Found) -> &'a [u8]
-        requires { HaveFound self.now.order (held_by self.now.spare) found.now }
-        ensures { result.now ≡ take (length (held_by self.now.spare) - found.now.behind) (held_by self.now.spare) }
-    {
-        let bytes = self.spare.bytes();
-        &bytes[..bytes.len() - found.behind]
-    }
-
-    /// Reads some bytes behind those that wait, so many at most, and none only at the source's end: how many they are. Nothing
-    /// is judged.
-    pub fn read_some<R: Source>(&mut self, reader: &mut R, most: usize) -> Result<usize, Fault>
+    // Reads some bytes behind those that wait, so many at most, and none only at the source's end: how many they are. Nothing
+    // is judged.
+    fn read_some<R: Source>(&mut self, reader: &mut R, most: usize) -> Result<usize, Fault>
         requires some { 1 ≤ most }
         requires few { length (rest_in self.old) + most < 2 ^ 63 }
         requires sound { R.failures reader.old < 2 ^ 64 - 1 }

@@ -1,0 +1,60 @@
+-- Packets that come together, and what is said of them (this project's profile).
+use Rattle.std.specs.Prelude.{◌≡◌, ◌+◌, ◌-◌, ◌<◌, ◌^◌, ℕ, List, [], ◌∷◌, length, map, take}
+use Rattle.std.specs.List.{flat_map}
+use Rattle.packet_view.specs.Captures.{PacketFacts, RecordFacts, packets_at}
+use Rattle.packet_view.specs.RecordLists.{records_from}
+use Rattle.packet_view.specs.declared.capture.Order.{Order}
+use Rattle.racl_io.specs.Buffers.{held_by}
+use Rattle.capture_stream.specs.Found.{HaveFound}
+use Rattle.filter_run.specs.declared.batch.Batch.{Batch}
+
+-- whole records of one capture that came together, behind so many packets of all captures
+pub record BatchFacts : Type 0 where
+  pub others : ℕ
+  pub interface : ℕ
+  pub order : Order
+  pub bytes : List ℕ
+  pub records : List RecordFacts
+
+abbrev pub packets_in : BatchFacts → List PacketFacts
+packets_in batch = packets_at batch.interface batch.records
+
+-- how many packets batches have
+abbrev pub total : List BatchFacts → ℕ
+total [] = 0
+total (batch ∷ batches) = length batch.records + total batches
+
+-- what the code has of a batch
+abbrev pub batch_facts : Batch → BatchFacts
+batch_facts batch = record {
+  others = batch.others;
+  interface = batch.interface;
+  order = batch.order;
+  bytes = take (length (held_by batch.bytes) - batch.found.behind) (held_by batch.bytes);
+  records = records_from batch.order batch.found.count (held_by batch.bytes);
+}
+
+-- its records are whole, and their numbers fit
+pub record IsWhole (batch : Batch) : Type 0 where
+  pub found : HaveFound batch.order (held_by batch.bytes) batch.found
+  pub before : batch.others < 2 ^ 63
+  pub few : batch.found.count < 2 ^ 63
+
+-- a batch, and what is said of its packets
+pub record JudgedBatch (V : Type 0) : Type 0 where
+  pub batch : BatchFacts
+  pub said : List V
+
+abbrev pub batches_of : {V : Type 0} → List (JudgedBatch V) → List BatchFacts
+batches_of judged = map (λ one. one.batch) judged
+
+abbrev pub packets_of : {V : Type 0} → List (JudgedBatch V) → List PacketFacts
+packets_of judged = flat_map (λ one. packets_in one.batch) judged
+
+abbrev pub said_of : {V : Type 0} → List (JudgedBatch V) → List V
+said_of judged = flat_map (λ one. one.said) judged
+
+-- of each packet something is said
+abbrev pub AreEach : {V : Type 0} → List (JudgedBatch V) → Type 0
+AreEach [] = Unit {0}
+AreEach (one ∷ others) = (length one.said ≡ length (packets_in one.batch)) × AreEach others

@@ -1,0 +1,11 @@
+pub mod Batches
+pub mod CaptureReports
+pub mod Filters
+pub mod Judges
+pub mod Lines
+pub mod Observers
+pub mod OneCapture
+pub mod Ran
+pub mod Saving
+pub mod Sources
+pub mod inner

@@ -1,0 +1,26 @@
+//! One run: what a source gives is judged, and who observes it is told.
+#![tactic(auto)]
+
+mod batch;
+mod capture_report;
+mod judge;
+mod nobody;
+mod observer;
+mod observer_pair;
+mod one_capture;
+mod one_filter;
+mod running;
+mod saved_records;
+mod source;
+mod told_lines;
+
+pub use batch::Batch;
+pub use capture_report::{OpenCapture, ReportedCapture, report_capture};
+pub use judge::Judge;
+pub use observer::Observer;
+pub use one_capture::OneCapture;
+pub use one_filter::OneFilter;
+pub use running::run;
+pub use saved_records::SavedRecords;
+pub use source::{CaptureSource, Step};
+pub use told_lines::ToldLines;
