@@ -16,7 +16,8 @@ use Rattle.racl_io.specs.Reports.{totals_of}
 use Rattle.racl_io.specs.Sinks.{GotFront}
 use Rattle.racl_io.specs.Tellings.{IsTellingFault, Wording, lines_in, told_alone, with_write}
 use Rattle.racl_io.proofs.TellingLemmas.{alone_truncated, front_on}
-use Rattle.capture_stream.specs.Lives.{HasJudgedAll, HasToldSome, HaveFailed, IsLiveFault}
+use Rattle.capture_stream.specs.Lives.{HaveFailed}
+use Rattle.filter_run.specs.CaptureReports.{HasJudgedAll, HasToldSome, IsLiveFault}
 use Rattle.compared_verdicts.specs.Meeting.{are_met, end_of, met_told, told_of, unmet_wording}
 use Rattle.compared_verdicts.specs.declared.expectation.Expectation.{Expectation}
 use Rattle.compared_verdicts.proofs.MeetingLemmas.{lines_told}

@@ -18,11 +18,11 @@ use Rattle.racl_io.specs.Tellings.{IsTellingFault, Wording, lines_in}
 use Rattle.racl_io.proofs.TellingLemmas.{front_on}
 use Rattle.racl_report.specs.CapturesEnds.{captures_end}
 use Rattle.capture_stream.specs.Arrivals.{Gives, Part}
-use Rattle.capture_stream.specs.ComingCaptures.{HasToldCaptures, HasToldFront, HasToldTurns, IsFaultOfComing}
-use Rattle.capture_stream.specs.Turns.{AreTurns, AreTurnsToLong, Turn, cuts_of, packets_of, parts_of}
+use Rattle.filter_run.specs.ComingCaptures.{HasToldCaptures, HasToldFront, HasToldTurns, IsFaultOfComing}
+use Rattle.filter_run.specs.Turns.{AreTurns, AreTurnsToLong, Turn, cuts_of, packets_of, parts_of}
 use Rattle.capture_stream.specs.declared.arrivals.FaultAt.{FaultAt}
-use Rattle.capture_stream.specs.declared.arrivals_telling.ToldArrivals.{ToldArrivals}
-use Rattle.capture_stream.proofs.ArrivalLemmas.{gives_none}
+use Rattle.filter_run.specs.declared.captures_report.ReportedCaptures.{ReportedCaptures}
+use Rattle.filter_run.proofs.ArrivalLemmas.{gives_none}
 use Rattle.racl_runs.specs.Crews.{AreAsAsked}
 use Rattle.racl_runs.specs.LiveInterfaceRuns.{HasCutComing, HasRunComing, HasToldComing, IsComingRunFault, IsReportOfTurns, TellsComing, TellsNamed}
 use Rattle.racl_runs.specs.LiveRuns.{AreFirstVerdicts, IsToldBehind, ages_in}
@@ -125,7 +125,7 @@ module _ {T : Type 0} (way : LiveWay) (tables : SizedTables) (dated : Dated (Cou
   pub coming_fault : (found : FaultAt) → IsFaultOfComing DatedSaid wording dated before after old mid found → IsFaultOfComing (AreFirstVerdicts T options) wording policy before after old mid found
   coming_fault found why = coming_as wording first before after old mid found why
 
-  module _ {Became : Counted T → List PacketFacts → List Verdict → Counted T → Type 0} (told : ToldArrivals (Dated (Counted T)))
+  module _ {Became : Counted T → List PacketFacts → List Verdict → Counted T → Type 0} (told : ReportedCaptures (Dated (Counted T)))
       (all : HasToldCaptures (HasDated Became) DatedSaid wording dated before after old mid told) where
     -- the parts that came are those of the turns
     all_given : Gives before after (parts_of all.all.turns)

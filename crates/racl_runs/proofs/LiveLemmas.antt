@@ -25,7 +25,7 @@ use Rattle.racl_io.specs.Tellings.{Wording, lines_in, report_in, told_alone}
 use Rattle.racl_report.specs.declared.saved_packets.Saves.{Saves}
 use Rattle.capture_stream.specs.Lives.{HaveFailed}
 use Rattle.capture_stream.specs.Savings.{manner_of, outputs}
-use Rattle.capture_stream.proofs.TellLemmas.{failed_since, fault_as}
+use Rattle.filter_run.proofs.TellLemmas.{failed_since, fault_as}
 use Rattle.capture_shards.specs.Shards.{own_packets}
 use Rattle.capture_shards.specs.Sharing.{lines_at, own_numbers}
 use Rattle.capture_shards.specs.inner.OwnTests.{own_among}

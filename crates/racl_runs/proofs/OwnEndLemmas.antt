@@ -17,11 +17,12 @@ use Rattle.racl_io.specs.Tellings.{IsTellingFault, Wording, lines_in, told_alone
 use Rattle.racl_io.proofs.ReportLemmas.{passed_or_dropped}
 use Rattle.racl_io.proofs.TellingLemmas.{alone_truncated, front_on}
 use Rattle.racl_options.specs.declared.settings.Options.{Options}
-use Rattle.capture_stream.specs.Lives.{AreCounted, HasToldAll, HasToldSome, IsLiveFault}
+use Rattle.capture_stream.specs.Lives.{AreCounted}
+use Rattle.filter_run.specs.CaptureReports.{HasToldAll, HasToldSome, IsLiveFault}
 use Rattle.capture_stream.specs.Savings.{Outputs, manner_of, outputs}
-use Rattle.capture_stream.specs.declared.live_telling.ToldCapture.{ToldCapture}
+use Rattle.filter_run.specs.declared.capture_report.ReportedCapture.{ReportedCapture}
 use Rattle.capture_stream.specs.inner.Tellings.{totals_with}
-use Rattle.capture_stream.proofs.TellLemmas.{fault_as, totals_alone}
+use Rattle.filter_run.proofs.TellLemmas.{fault_as, totals_alone}
 use Rattle.capture_shards.specs.Shards.{Own, own_packets}
 use Rattle.capture_shards.specs.Sharing.{AreShared, HaveShared, IsSpread, lines_at, own_numbers, shard_wording}
 use Rattle.capture_shards.specs.declared.shard_judge.ShardJudge.{ShardJudge}
@@ -84,7 +85,7 @@ module _ {T K : Type 0} (way : LiveWay) (tables : SizedTables) (dated : Dated (S
       fault_as DatedShared (AreFirstOwn T options own) (shard_wording own wording) Saved Saved dated policy first order before after old.report mid.report old.saver mid.saver
       old.saver mid.saver (λ whole verdicts saved. saved) found why
 
-  module _ {Became : Counted T → List PacketFacts → List Verdict → Counted T → Type 0} (told : ToldCapture (Dated (ShardJudge (Counted T))))
+  module _ {Became : Counted T → List PacketFacts → List Verdict → Counted T → Type 0} (told : ReportedCapture (Dated (ShardJudge (Counted T))))
       (all : HasToldAll (HasDated (HaveShared Became CountedSaid)) DatedShared (manner_of (shard_wording own wording) Saved) dated order before after old mid told) where
     abbrev packets : List PacketFacts
     packets = packets_at 0 all.all.packets

@@ -11,7 +11,7 @@ use Rattle.racl_options.specs.ShardWords.{shard_facts}
 use Rattle.racl_options.specs.declared.settings.Options.{Options}
 use Rattle.racl_options.specs.declared.settings.ShardAsked.{ShardAsked}
 use Rattle.capture_stream.specs.Savings.{manner_of, outputs}
-use Rattle.capture_stream.proofs.TellLemmas.{fault_as}
+use Rattle.filter_run.proofs.TellLemmas.{fault_as}
 use Rattle.racl_report.specs.declared.saved_packets.Saves.{Saves}
 use Rattle.capture_shards.specs.Shards.{IsOwnOf, Own}
 use Rattle.capture_shards.specs.SharedSaves.{HaveSharedSaves}

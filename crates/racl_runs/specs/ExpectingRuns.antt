@@ -12,7 +12,7 @@ use Rattle.racl_io.specs.declared.totals_and_truncation.Totals.{Totals}
 use Rattle.racl_io.specs.Reports.{totals_of}
 use Rattle.racl_io.specs.Sinks.{GotFront}
 use Rattle.racl_io.specs.Tellings.{told_alone}
-use Rattle.capture_stream.specs.Lives.{HasJudgedAll, IsLiveFault}
+use Rattle.filter_run.specs.CaptureReports.{HasJudgedAll, IsLiveFault}
 use Rattle.capture_stream.specs.Savings.{Manner, Outputs, manner_of, outputs}
 use Rattle.compared_verdicts.specs.Meeting.{are_met, told_of, unmet_wording}
 use Rattle.compared_verdicts.specs.declared.expectation.Expectation.{Expectation}

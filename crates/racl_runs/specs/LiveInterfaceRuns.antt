@@ -18,8 +18,8 @@ use Rattle.racl_views.specs.PartTellings.{AreNamedLines, AreObjectLines, TellsLi
 use Rattle.racl_views.specs.RunEntries.{RunFacts}
 use Rattle.racl_report.specs.CapturesEnds.{captures_end}
 use Rattle.capture_stream.specs.Arrivals.{AreAllGiven, Gives, IsWhole, Part}
-use Rattle.capture_stream.specs.ComingCaptures.{IsFaultOfComing}
-use Rattle.capture_stream.specs.Turns.{AreTurns, Turn, cuts_of, packets_of, parts_of}
+use Rattle.filter_run.specs.ComingCaptures.{IsFaultOfComing}
+use Rattle.filter_run.specs.Turns.{AreTurns, Turn, cuts_of, packets_of, parts_of}
 use Rattle.capture_stream.specs.declared.arrivals.FaultAt.{FaultAt}
 use Rattle.racl_views.specs.Hits.{latest_second}
 use Rattle.racl_runs.specs.LiveRuns.{AreFirstVerdicts, IsToldBehind}

@@ -25,7 +25,7 @@ use Rattle.racl_views.specs.Hits.{AreHits, latest_second}
 use Rattle.racl_views.specs.Stored.{StoredFacts}
 use Rattle.racl_views.specs.PartTellings.{AreExplainedLines, AreObjectLines, TellsRun}
 use Rattle.racl_views.specs.RunEntries.{RunFacts}
-use Rattle.capture_stream.specs.Lives.{IsLiveFault}
+use Rattle.filter_run.specs.CaptureReports.{IsLiveFault}
 use Rattle.capture_stream.specs.Savings.{Outputs}
 use Rattle.racl_runs.specs.Crews.{AreRestingWith, Orders, orders_of}
 use Rattle.racl_runs.specs.declared.sized_tables_and_workers.SizedWorkers.{SizedWorkers}

@@ -13,7 +13,8 @@ use Rattle.racl_io.specs.declared.totals_and_truncation.Totals.{Totals}
 use Rattle.racl_io.specs.Reports.{totals_of}
 use Rattle.racl_io.specs.Sinks.{GotFront}
 use Rattle.racl_io.specs.Tellings.{Wording, told_alone}
-use Rattle.capture_stream.specs.Lives.{HaveFailed, IsLiveFault}
+use Rattle.capture_stream.specs.Lives.{HaveFailed}
+use Rattle.filter_run.specs.CaptureReports.{IsLiveFault}
 use Rattle.capture_stream.specs.Savings.{Manner, Outputs}
 use Rattle.capture_shards.specs.Sharing.{IsSpread, lines_at, own_numbers, shard_wording}
 use Rattle.capture_shards.specs.Shards.{IsOwnOf, Own, own_packets}

@@ -13,8 +13,9 @@ use crate::pace::Stopwatch;
 use crate::sized_tables_and_workers::{Manner, SizedWorkers, create_sized};
 use crate::workers_as_judges::HandingCrew;
 use acl_policy::read_policy;
-use capture_stream::{Headed, ToldCapture, Unsaved, tell_live};
+use capture_stream::Unsaved;
 use compared_verdicts::{Expectation, UnmetLines, any_open, is_met, write_met};
+use filter_run::{OpenCapture, ReportedCapture, report_capture};
 use flow_filter::InterfaceFilters;
 use flow_workers::Filter;
 use packet_view::Order;
@@ -111,17 +112,17 @@ fn compare_all<R: Source, W: Sink, T: Clock + Threads + Wait + Sync>(
         judged: 0,
         unmet: false,
     };
-    let headed = Headed {
+    let capture = OpenCapture {
         judges,
         order: head.order,
         many: None,
     };
     let mut saver = Unsaved;
-    let told = match tell_live(alloc, reader, writer, &mut teller, &mut saver, headed) {
+    let told = match report_capture(alloc, reader, writer, &mut teller, &mut saver, capture) {
         Ok(told) => told,
         Err(fault) => return Err(fault),
     };
-    let ToldCapture { judges, totals } = told;
+    let ReportedCapture { judges, totals } = told;
     let met = is_met(judges.unmet, any_open(expectations, &totals));
     match tell_last(
         writer,

@@ -14,7 +14,8 @@ use crate::live_run::{EXPECTED, LiveAsked, LiveWay, ages_early, told_behind_live
 use crate::sized_tables_and_workers::create_sized;
 use crate::stored_sessions::keeps_stored;
 use acl_policy::read_policy;
-use capture_stream::{Arrivals, FaultAt, ToldArrivals, tell_arrivals};
+use capture_stream::{Arrivals, FaultAt};
+use filter_run::{ReportedCaptures, report_captures};
 use flow_workers::Filter;
 use racl_io::{Captured, Fault, Sink, Teller, Totals};
 use racl_options::Lines;
@@ -83,11 +84,11 @@ fn tell_captures<L: Teller, A: Arrivals, W: Sink, T: Clock + Threads + Wait + Sy
         noted: keeps_stored(way.options),
         latest: 0,
     };
-    let told = match tell_arrivals(alloc, arrivals, writer, teller, judges) {
+    let told = match report_captures(alloc, arrivals, writer, teller, judges) {
         Ok(told) => told,
         Err(found) => return Err(found),
     };
-    let ToldArrivals {
+    let ReportedCaptures {
         judges,
         totals,
         cuts,

@@ -29,7 +29,8 @@ use crate::stored_sessions::{StoredAsked, keeps_stored, stored_of};
 use crate::workers_as_judges::HandingCrew;
 use acl_policy::read_policy;
 use capture_shards::{Shard, ShardJudge, ShardTeller};
-use capture_stream::{Headed, Saver, ToldCapture, tell_live};
+use capture_stream::Saver;
+use filter_run::{OpenCapture, ReportedCapture, report_capture};
 use flow_filter::InterfaceFilters;
 use flow_workers::Filter;
 use packet_view::Order;
@@ -250,7 +251,7 @@ pub fn tell_capture<
     let Ok(inner) = workers_over(rt, alloc, way, &tables, callers) else {
         return Err(Fault::Memory);
     };
-    let headed = Headed {
+    let capture = OpenCapture {
         judges: Dated {
             inner: ShardJudge {
                 inner,
@@ -270,11 +271,11 @@ pub fn tell_capture<
         shard,
         alloc,
     };
-    let told = match tell_live(alloc, reader, writer, &mut teller, saver, headed) {
+    let told = match report_capture(alloc, reader, writer, &mut teller, saver, capture) {
         Ok(told) => told,
         Err(fault) => return Err(fault),
     };
-    let ToldCapture { judges, totals } = told;
+    let ReportedCapture { judges, totals } = told;
     let Dated { inner, latest, .. } = judges;
     let ShardJudge {
         inner,

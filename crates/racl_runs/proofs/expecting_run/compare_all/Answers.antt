@@ -4,8 +4,8 @@ use Rattle.std.specs.Prelude.{⊤}
 use Rattle.acl_policy.specs.Policies.{policy_facts}
 use Rattle.packet_view.specs.Captures.{packets_at}
 use Rattle.racl_io.specs.Tellings.{lines_in}
-use Rattle.capture_stream.specs.Lives.{IsLiveFault}
-use Rattle.capture_stream.proofs.TellLemmas.{fault_as, none_told}
+use Rattle.filter_run.specs.CaptureReports.{IsLiveFault}
+use Rattle.filter_run.proofs.TellLemmas.{fault_as, none_told}
 use Rattle.compared_verdicts.specs.Meeting.{are_met, unmet_wording}
 use Rattle.compared_verdicts.specs.declared.expectation.Expectation.{Expectation}
 use Rattle.racl_runs.specs.Crews.{orders_of}
@@ -35,8 +35,8 @@ returns-in_default-new-2-clause-told g c =
     inl (none_told (ByLoneWorker c.args.head.options.now) (manner_by c.args.head.expectations.now) (policy_facts c.args.head.filter.now.policy.now) c.args.head.order
     (g.R.Source.bytes c.args.reader.now) (output (g.W.Sink.bytes c.args.writer.now)) tt)
 
-pub tell_live-requires-clause-counts : goal.tell_live-requires-clause-counts
-tell_live-requires-clause-counts g c begun packets said are = are.count
+pub report_capture-requires-clause-counts : goal.report_capture-requires-clause-counts
+report_capture-requires-clause-counts g c begun packets said are = are.count
 
 pub returns-in-Err-clause-told : goal.returns-in-Err-clause-told
 returns-in-Err-clause-told g c =
@@ -44,7 +44,7 @@ returns-in-Err-clause-told g c =
     let ready = c.args.head.filter.now in
     let tells = by_lone_worker options ready _ (orders_of c.in-Ok-new-2.workers) in
     inl (subst (λ (es : List Expectation). IsLiveFault (ByLoneWorker options) (manner_by es) (policy_facts ready.policy.now) c.args.head.order
-    (g.R.Source.bytes c.args.reader.now) (g.R.Source.bytes c.tell_live.new.reader) (output (g.W.Sink.bytes c.args.writer.now)) (output (g.W.Sink.bytes c.tell_live.new.writer)) c.in-Err.fault)
+    (g.R.Source.bytes c.args.reader.now) (g.R.Source.bytes c.report_capture.new.reader) (output (g.W.Sink.bytes c.args.writer.now)) (output (g.W.Sink.bytes c.report_capture.new.writer)) c.in-Err.fault)
     c.in-Ok.ensures
     (fault_as _ (ByLoneWorker options) (unmet_wording c.in-Ok.teller.expectations.now) _ (λ begun order records verdicts now. ⊤) _ (policy_facts ready.policy.now)
     (λ packets verdicts judged. tells packets verdicts c.in-Ok-new-2.ensures.given c.in-Ok-create_sized.ensures.asked.four c.in-Ok-create_sized.ensures.asked.size c.requires.times options.few.0 judged)
@@ -55,29 +55,29 @@ returns-in-Ok-tell_last-clause-told g c =
     let options = c.args.head.options.now in
     let ready = c.args.head.filter.now in
     let expectations = c.args.head.expectations.now in
-    let told = c.in-Ok-tell_live.ensures.told in
+    let told = c.in-Ok-report_capture.ensures.told in
     let packets = packets_at 0 told.all.packets in
-    let totals = c.in-Ok-tell_live.told.totals in
+    let totals = c.in-Ok-report_capture.told.totals in
     let by = by_lone_worker options ready _ (orders_of c.in-Ok-new-2.workers) packets told.all.verdicts c.in-Ok-new-2.ensures.given c.in-Ok-create_sized.ensures.asked.four
     c.in-Ok-create_sized.ensures.asked.size c.requires.times options.few.0 told.all.judged in
-    let wrote = subst (λ (es : List Expectation). Appends (g.W.Sink.bytes c.args.writer.now) (g.W.Sink.bytes c.tell_live.new.writer) (lines_in (unmet_wording es) 1 packets told.all.verdicts))
+    let wrote = subst (λ (es : List Expectation). Appends (g.W.Sink.bytes c.args.writer.now) (g.W.Sink.bytes c.report_capture.new.writer) (lines_in (unmet_wording es) 1 packets told.all.verdicts))
     c.in-Ok.ensures told.text in
     let met : c.is_met-met.result ≡ are_met expectations told.all.verdicts totals = c.is_met-met.ensures ∙ ap₂ (λ a b. not (a || b)) told.stand.1.compared c.any_open.ensures in
     end_told options expectations (policy_facts ready.policy.now) c.args.head.order _ _ _ _ totals told.all by wrote c.is_met-met.result met _
-    (unmet_wording c.tell_live.new.teller.expectations.now) (c.in-Ok-tell_live.ensures.same ∙ ap unmet_wording c.in-Ok.ensures) c.in-Ok-tell_last.ensures.0
+    (unmet_wording c.report_capture.new.teller.expectations.now) (c.in-Ok-report_capture.ensures.same ∙ ap unmet_wording c.in-Ok.ensures) c.in-Ok-tell_last.ensures.0
 
 pub returns-clause-told : goal.returns-clause-told
 returns-clause-told g c =
     let options = c.args.head.options.now in
     let ready = c.args.head.filter.now in
     let expectations = c.args.head.expectations.now in
-    let told = c.in-Ok-tell_live.ensures.told in
+    let told = c.in-Ok-report_capture.ensures.told in
     let packets = packets_at 0 told.all.packets in
-    let totals = c.in-Ok-tell_live.told.totals in
+    let totals = c.in-Ok-report_capture.told.totals in
     let by = by_lone_worker options ready _ (orders_of c.in-Ok-new-2.workers) packets told.all.verdicts c.in-Ok-new-2.ensures.given c.in-Ok-create_sized.ensures.asked.four
     c.in-Ok-create_sized.ensures.asked.size c.requires.times options.few.0 told.all.judged in
-    let wrote = subst (λ (es : List Expectation). Appends (g.W.Sink.bytes c.args.writer.now) (g.W.Sink.bytes c.tell_live.new.writer) (lines_in (unmet_wording es) 1 packets told.all.verdicts))
+    let wrote = subst (λ (es : List Expectation). Appends (g.W.Sink.bytes c.args.writer.now) (g.W.Sink.bytes c.report_capture.new.writer) (lines_in (unmet_wording es) 1 packets told.all.verdicts))
     c.in-Ok.ensures told.text in
     let met : c.is_met-met.result ≡ are_met expectations told.all.verdicts totals = c.is_met-met.ensures ∙ ap₂ (λ a b. not (a || b)) told.stand.1.compared c.any_open.ensures in
     end_fault options expectations (policy_facts ready.policy.now) c.args.head.order _ _ _ _ totals told.all by wrote c.is_met-met.result met _ told.whole told.spelt c.in-Err-tell_last.fault
-    (unmet_wording c.tell_live.new.teller.expectations.now) (c.in-Ok-tell_live.ensures.same ∙ ap unmet_wording c.in-Ok.ensures) c.in-Err-tell_last.ensures.0
+    (unmet_wording c.report_capture.new.teller.expectations.now) (c.in-Ok-report_capture.ensures.same ∙ ap unmet_wording c.in-Ok.ensures) c.in-Err-tell_last.ensures.0

@@ -1,6 +1,6 @@
 use Rattle.std.proofs.Common.{◌∙◌, inl, refl}
 use Rattle.acl_policy.specs.Policies.{policy_facts}
-use Rattle.capture_stream.proofs.ArrivalLemmas.{gives_none}
+use Rattle.filter_run.proofs.ArrivalLemmas.{gives_none}
 use Rattle.racl_runs.proofs.LiveInterfaceLemmas.{run_ends, wrong_text}
 use Rattle.racl_runs.proofs.LiveLemmas.{ready_says}
 use Rattle.racl_runs.proofs.live_interfaces_run.run_live_interfaces.Goals as goal

@@ -1,6 +1,6 @@
 use Rattle.std.proofs.Common.{◌∙◌, List, inl, refl, subst, sym, ℕ}
 use Rattle.acl_policy.specs.Policies.{policy_facts}
-use Rattle.capture_stream.proofs.TellLemmas.{saver_failed}
+use Rattle.filter_run.proofs.TellLemmas.{saver_failed}
 use Rattle.racl_runs.specs.inner.Kept.{HaveGot}
 use Rattle.racl_runs.proofs.LiveLemmas.{early_fault, early_header, live_ends, ready_says, write_since}
 use Rattle.racl_runs.proofs.LiveSaveLemmas.{none_kept}

@@ -1,6 +1,6 @@
 use Rattle.std.proofs.Common.{◌∙◌, inl, refl, subst, sym}
 use Rattle.acl_policy.specs.Policies.{policy_facts}
-use Rattle.capture_stream.proofs.TellLemmas.{saver_failed}
+use Rattle.filter_run.proofs.TellLemmas.{saver_failed}
 use Rattle.capture_shards.proofs.SharedSaveLemmas.{none_shared}
 use Rattle.racl_runs.proofs.LiveLemmas.{early_fault, early_header, ready_says}
 use Rattle.racl_runs.specs.inner.OwnRuns.{IsShardOver}
