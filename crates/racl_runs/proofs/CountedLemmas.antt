@@ -17,7 +17,8 @@ use Rattle.racl_views.specs.declared.hit_counts.HitCounts.{HitCounts}
 use Rattle.racl_report.specs.BehindTotals.{IsBehind}
 use Rattle.racl_report.specs.RunReports.{told_facts, view_behind}
 use Rattle.racl_report.specs.declared.text_behind_totals.Behind.{Behind}
-use Rattle.racl_runs.specs.Crews.{AreAsAsked, AreIdleOf, AreSaid, AreSaidBy, AreSaidSoFar, HaveCountedAfter, HaveEndedCounting, HaveEndedOn, HaveSaidAfter, Orders, size_of, orders_of, views_with}
+use Rattle.racl_runs.specs.Crews.{AreAllSaidBy, AreAsAsked, AreIdleOf, AreSaid, AreSaidBy, AreSaidSoFar, HaveCountedAfter, HaveEndedCounting, HaveEndedOn, HaveSaidAfter, Orders, size_of, orders_of, views_with}
+use Rattle.racl_runs.specs.declared.sized_tables_and_workers.SizedWorkers.{SizedWorkers}
 use Rattle.racl_runs.specs.LiveRuns.{IsToldBehind, ages_in}
 use Rattle.racl_runs.specs.Runs.{AreToldOf, keeps_stored, layout_for}
 use Rattle.racl_runs.specs.inner.LiveEnds.{AreBegun, MayTellBehind}
@@ -74,18 +75,17 @@ none_kept [] none = refl
 none_kept (x ∷ xs) none = absurd (omega arith)
 
 -- the workers ended
-pub counted_end : {T : Type 0} (orders : Orders) (asked : Bool) (packets : List PacketFacts) (said kept : List Verdict) (counted : Counted T) (callers : SizedCallers)
-    → HaveCountedAfter orders asked packets said counted → HaveEndedOn counted.crew.workers kept callers → HaveEndedCounting orders asked packets said counted.counts callers
-counted_end orders asked packets said kept counted callers has ended =
-    let by = subst (λ (o : Orders). AreSaidBy o packets (said ++ kept) callers) has.after.given (ended said packets has.after.rest) in
+pub crew_end : {T : Type 0} (workers : SizedWorkers T) (kept : List Verdict) (callers : SizedCallers) → HaveEndedOn workers kept callers → AreAllSaidBy workers callers
+crew_end workers kept callers ended orders packets said has each =
+    let by = subst (λ (o : Orders). AreSaidBy o packets (said ++ kept) callers) has.given (ended said packets has.rest) in
     let all = said_count orders packets (said ++ kept) (views_with callers, by.said) in
     let both = length-append said kept in
-    let each = has.each in
-    let none = none_kept kept (omega arith) in
-    record {
-      by = subst (λ (vs : List Verdict). AreSaidBy orders packets vs callers) (ap (λ (vs : List Verdict). said ++ vs) none ∙ append-nil said) by;
-      counted = has.counts;
-    }
+    let none = none_kept kept (omega (arith, each)) in
+    subst (λ (vs : List Verdict). AreSaidBy orders packets vs callers) (ap (λ (vs : List Verdict). said ++ vs) none ∙ append-nil said) by
+
+pub counted_end : {T : Type 0} (orders : Orders) (asked : Bool) (packets : List PacketFacts) (said : List Verdict) (counted : Counted T) (callers : SizedCallers)
+    → HaveCountedAfter orders asked packets said counted → AreAllSaidBy counted.crew.workers callers → HaveEndedCounting orders asked packets said counted.counts callers
+counted_end orders asked packets said counted callers has ended = record { by = ended orders packets said has.after has.each; counted = has.counts }
 
 -- what stands behind the totals may be told
 pub may_tell_behind : {T : Type 0} (way : LiveWay) (tables : SizedTables) (begun : Counted T) (packets : List PacketFacts) (said : List Verdict) (counts : HitCounts) (callers : SizedCallers)

@@ -54,13 +54,13 @@ module _ {J : Type 0} {Judged : J → List PacketFacts → List Verdict → Type
     truncated = all.truncated;
     end = all.end;
     verdicts = all.verdicts;
-    judged = by;
+    judged = λ some. by;
     count = all.count;
     counted = all.counted;
   }
 
   -- of all packets their lines were written, and no more
-  some_told : (new : Option (List ℕ)) (whole : List ℕ) → all.read ≡ whole ++ all.rest → new ≡ mid
+  pub some_told : (new : Option (List ℕ)) (whole : List ℕ) → all.read ≡ whole ++ all.rest → new ≡ mid
       → HasToldSome (ByLoneWorker options) (manner_by expectations) policy order before after (output old) (output new) all.rest
   some_told new whole spelt same = record {
     read = all.read;
@@ -89,6 +89,7 @@ module _ {J : Type 0} {Judged : J → List PacketFacts → List Verdict → Type
     end_told new at same more = record {
       totals = totals;
       judged = judged;
+      by = by;
       written = subst (λ (b : List ℕ). Appends old new b) all_lines
           (Appends-trans old mid new lines (end_of expectations totals ++ last) wrote (subst (λ (w : Wording). Appends mid new (w.end totals ++ last)) same more));
       met = is;
@@ -102,6 +103,7 @@ module _ {J : Type 0} {Judged : J → List PacketFacts → List Verdict → Type
       failed = refl;
       totals = totals;
       judged = judged;
+      by = by;
       front = subst (λ (b : List ℕ). GotFront old new b) all_lines (front_on old mid new lines (end_of expectations totals ++ last) wrote front);
     })
     fault_at_end new whole spelt found wrong = absurd wrong
@@ -115,9 +117,9 @@ module _ {J : Type 0} {Judged : J → List PacketFacts → List Verdict → Type
 
 -- all bytes were read, and are a capture
 judged_capture : (options : Options) (text : List ℕ) (before left after : Option (List ℕ)) (policy : PolicyFacts) (order : Order) (totals : Totals)
-    → IsPolicyText text policy → HasReadHeader before left order → HasJudgedAll (ByLoneWorker options) policy order left after totals
-    → HasJudgedCapture options text before
-judged_capture options text before left after policy order totals says head all =
+    → IsPolicyText text policy → HasReadHeader before left order → (all : HasJudgedAll (ByLoneWorker options) policy order left after totals)
+    → ByLoneWorker options policy (packets_at 0 all.packets) all.verdicts → HasJudgedCapture options text before
+judged_capture options text before left after policy order totals says head all by =
     let (known, records) = whole_capture before left after order head all.read all.rest all.packets all.truncated all.consumed all.ended all.records all.end in
     record {
       policy = policy;
@@ -128,7 +130,7 @@ judged_capture options text before left after policy order totals says head all 
       truncated = all.truncated;
       records = records;
       verdicts = all.verdicts;
-      by = all.judged;
+      by = by;
     }
 
 -- the totals are over all its packets
@@ -144,7 +146,7 @@ unfolding judged_capture
 expecting_ends options text expectations before left after old new policy order (Ok compared) says head told =
     let all = told.judged in
     record {
-      judged = judged_capture options text before left after policy order told.totals says head all;
+      judged = judged_capture options text before left after policy order told.totals says head all told.by;
       written = subst (λ (t : Totals). Appends old new (told_of expectations all.verdicts t)) (totals_same all) told.written;
       met = told.met ∙ ap (are_met expectations all.verdicts) (totals_same all);
       cut = told.cut ∙ ap (λ (t : Totals). t.truncated) all.counted ∙ sym (alone_truncated (length all.packets) all.truncated);
@@ -155,6 +157,6 @@ expecting_ends options text expectations before left after old new policy order 
     inr (inr (record {
       failed = cut.failed;
       ended = all.ended;
-      judged = judged_capture options text before left after policy order cut.totals says head all;
+      judged = judged_capture options text before left after policy order cut.totals says head all cut.by;
       front = subst (λ (t : Totals). GotFront old new (told_of expectations all.verdicts t)) (totals_same all) cut.front;
     }))

@@ -99,13 +99,20 @@ by_live_workers options ready tables orders workers packets verdicts given cut s
     (record { by_workers = by.0; by_one_thread = by_one options (ages_in options) (policy_facts ready.policy.now) packets verdicts by.0 }, by.1, by.2)
 
 -- and one worker
+pub by_lone : (options : Options) (ready : InterfaceFilters) (tables : SizedTables) (orders : Orders) (packets : List PacketFacts)
+    (verdicts : List Verdict) → orders ≡ orders_for tables ready 1 (cuts_four tables) → cuts_four tables ≡ options.ages → size_of tables ≡ options.tables
+    → ready.times ≡ options.times → 1 ≤ options.workers → AreSaid orders packets verdicts
+    → ByLoneWorker options (policy_facts ready.policy.now) packets verdicts
+by_lone options ready tables orders packets verdicts given cut sized same some said =
+    let by = by_some_workers options ready tables orders 1 options.ages packets verdicts given cut sized same (omega arith) some said in
+    record { by_workers = by.0; one = by.2; by_one_thread = by_one options options.ages (policy_facts ready.policy.now) packets verdicts by.0 }
+
 pub by_lone_worker : {T : Type 0} (options : Options) (ready : InterfaceFilters) (tables : SizedTables) (orders : Orders) (packets : List PacketFacts)
     (verdicts : List Verdict) → orders ≡ orders_for tables ready 1 (cuts_four tables) → cuts_four tables ≡ options.ages → size_of tables ≡ options.tables
     → ready.times ≡ options.times → 1 ≤ options.workers → AreSaidSoFar T orders packets verdicts
     → ByLoneWorker options (policy_facts ready.policy.now) packets verdicts
 by_lone_worker options ready tables orders packets verdicts given cut sized same some said =
-    let by = by_some_workers options ready tables orders 1 options.ages packets verdicts given cut sized same (omega arith) some (said.one (ap (λ (o : Orders). o.deal.workers) given)) in
-    record { by_workers = by.0; one = by.2; by_one_thread = by_one options options.ages (policy_facts ready.policy.now) packets verdicts by.0 }
+    by_lone options ready tables orders packets verdicts given cut sized same some (said.one (ap (λ (o : Orders). o.deal.workers) given))
 
 -- what workers who count said of the first packets
 abbrev pub CountedSaid : {T : Type 0} → Counted T → List PacketFacts → List Verdict → Type 0

@@ -114,7 +114,7 @@ module _ {T K : Type 0} (way : LiveWay) (tables : SizedTables) (dated : Dated (S
       packets = all.all.packets;
       records = all.all.records;
       verdicts = all.all.verdicts;
-      judged = λ some. first packets all.all.verdicts all.all.judged;
+      judged = λ some. first packets all.all.verdicts (all.all.judged some);
       count = all.all.count;
       text = subst (λ b. Appends old.report b (lines_in (shard_wording own wording) 1 packets all.all.verdicts)) (sym same) all.text;
       whole = all.whole;

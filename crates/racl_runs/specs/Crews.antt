@@ -159,6 +159,15 @@ pub record HaveSaidAfter {T : Type 0} (orders : Orders) (packets : List PacketFa
   pub given : orders_of workers ≡ orders
   pub rest : AreRestingWith packets said workers
 
+-- they handed over a verdict on each packet
+abbrev pub HaveSaidAll : {T : Type 0} → SizedWorkers T → Type 0
+HaveSaidAll workers = (orders : Orders) × (packets : List PacketFacts) × (said : List Verdict) × HaveSaidAfter orders packets said workers × (length said ≡ length packets)
+
+-- these are their callers, and these verdicts are theirs, whatever they were
+abbrev pub AreAllSaidBy : {T : Type 0} → SizedWorkers T → SizedCallers → Type 0
+AreAllSaidBy workers callers = (orders : Orders) (packets : List PacketFacts) (said : List Verdict) → HaveSaidAfter orders packets said workers
+    → length said ≡ length packets → AreSaidBy orders packets said callers
+
 -- Workers that go on handed over this so far: a verdict on each packet. What the only one said are the verdicts by these orders
 -- already; what several said is known to be that when they have ended.
 pub record AreSaidSoFar (T : Type 0) (orders : Orders) (packets : List PacketFacts) (verdicts : List Verdict) : Type 0 where

@@ -1,7 +1,7 @@
 -- A run over a capture whose verdicts are compared with expected ones while it comes.
 use Rattle.std.specs.Prelude.{◌≡◌, ◌⊎◌, ℕ, Bool, List, Option, IfSome, MatchResult, Result, length, ⊤}
 use Rattle.std.specs.Io.KnownBytes.{Appends, IsAtEnd}
-use Rattle.packet_view.specs.Captures.{IsCaptureAt, PacketFacts, end_of}
+use Rattle.packet_view.specs.Captures.{IsCaptureAt, PacketFacts, end_of, packets_at}
 use Rattle.packet_view.specs.declared.capture.Order.{Order}
 use Rattle.acl_policy.specs.Policies.{IsPolicyText, PolicyFacts}
 use Rattle.session_state.specs.declared.verdict.Verdict.{Verdict}
@@ -31,6 +31,7 @@ pub record HasComparedAll (options : Options) (expectations : List Expectation) 
     (compared : Compared) : Type 0 where
   pub totals : Totals
   pub judged : HasJudgedAll (ByLoneWorker options) policy order before after totals
+  pub by : ByLoneWorker options policy (packets_at 0 judged.packets) judged.verdicts
   pub written : Appends old new (told_of expectations judged.verdicts totals)
   pub met : compared.met ≡ are_met expectations judged.verdicts totals
   pub cut : compared.truncated ≡ totals.truncated
@@ -41,6 +42,7 @@ pub record HasCutEnd (options : Options) (expectations : List Expectation) (poli
   pub failed : fault ≡ Write
   pub totals : Totals
   pub judged : HasJudgedAll (ByLoneWorker options) policy order before after totals
+  pub by : ByLoneWorker options policy (packets_at 0 judged.packets) judged.verdicts
   pub front : GotFront old new (told_of expectations judged.verdicts totals)
 
 -- so, or why it wasn't

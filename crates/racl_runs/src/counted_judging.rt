@@ -54,9 +54,8 @@ impl<'t, 'f, T: Wait> Counted<'t, 'f, T> {
             → HaveCountedAfter orders asked packets said self.entry → HaveEndedCounting orders asked packets said r.0 r.1) }
     {
         let Counted { crew, counts, .. } = self;
-        let HandingCrew { workers, .. } = crew;
-        match workers.end(alloc) {
-            Ok((_, callers)) => Ok((counts, callers)),
+        match crew.end(alloc) {
+            Ok(callers) => Ok((counts, callers)),
             Err(_) => Err(AllocError),
         }
     }

@@ -123,7 +123,11 @@ fn compare_all<R: Source, W: Sink, T: Clock + Threads + Wait + Sync>(
         Err(fault) => return Err(fault),
     };
     let ReportedCapture { judges, totals } = told;
-    let met = is_met(judges.unmet, any_open(expectations, &totals));
+    let Comparing { crew, unmet, .. } = judges;
+    let Ok(_) = crew.end(alloc) else {
+        return Err(Fault::Memory);
+    };
+    let met = is_met(unmet, any_open(expectations, &totals));
     match tell_last(
         writer,
         &mut teller,

@@ -1,7 +1,7 @@
 //! Workers as those who judge the packets of a capture.
 
 use crate::pace::Stopwatch;
-use crate::sized_tables_and_workers::SizedWorkers;
+use crate::sized_tables_and_workers::{SizedCallers, SizedWorkers};
 use capture_stream::Judge;
 use flow_workers::Verdict;
 use packet_view::Packets;
@@ -70,6 +70,23 @@ impl<'t, 'f, T: Clock + Threads + Wait + Sync> Judge for HandingCrew<'t, 'f, T> 
         self.watch.stop(began, packets.count());
         match said {
             Ok(said) => Ok(said),
+            Err(_) => Err(AllocError),
+        }
+    }
+}
+
+impl<'t, 'f, T: Wait> HandingCrew<'t, 'f, T> {
+    ghost use Rattle.std.specs.Prelude.{IfOk};
+    ghost use Rattle.racl_runs.specs.Crews.{AreAllSaidBy, HaveSaidAll};
+
+    /// The workers end: all callers of each table as one. An error says that memory was refused.
+    pub fn end(self, alloc: Global) -> Result<SizedCallers, AllocError>
+        requires { HaveSaidAll self.workers }
+        ensures { IfOk result (AreAllSaidBy self.entry.workers) }
+    {
+        let HandingCrew { workers, .. } = self;
+        match workers.end(alloc) {
+            Ok((_, callers)) => Ok(callers),
             Err(_) => Err(AllocError),
         }
     }

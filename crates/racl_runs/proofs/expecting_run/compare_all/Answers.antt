@@ -5,14 +5,15 @@ use Rattle.acl_policy.specs.Policies.{policy_facts}
 use Rattle.packet_view.specs.Captures.{packets_at}
 use Rattle.racl_io.specs.Tellings.{lines_in}
 use Rattle.filter_run.specs.CaptureReports.{IsLiveFault}
-use Rattle.filter_run.proofs.TellLemmas.{fault_as, none_told}
+use Rattle.filter_run.proofs.TellLemmas.{all_is_some, fault_as, none_told}
+use Rattle.racl_io.specs.declared.fault.Fault.TheVariants.{Memory}
 use Rattle.compared_verdicts.specs.Meeting.{are_met, unmet_wording}
 use Rattle.compared_verdicts.specs.declared.expectation.Expectation.{Expectation}
-use Rattle.racl_runs.specs.Crews.{orders_of}
+use Rattle.racl_runs.specs.Crews.{orders_of, views_with}
 use Rattle.racl_runs.specs.ExpectingRuns.{manner_by, output}
 use Rattle.racl_runs.specs.LiveRuns.{ByLoneWorker}
 use Rattle.racl_runs.proofs.ExpectingLemmas.{end_fault, end_told}
-use Rattle.racl_runs.proofs.LiveLemmas.{by_lone_worker}
+use Rattle.racl_runs.proofs.LiveLemmas.{by_lone, by_lone_worker}
 use Rattle.racl_runs.proofs.expecting_run.compare_all.Goals as goal
 
 pub returns-in_default-clause-told : goal.returns-in_default-clause-told
@@ -50,6 +51,22 @@ returns-in-Err-clause-told g c =
     (λ packets verdicts judged. tells packets verdicts c.in-Ok-new-2.ensures.given c.in-Ok-create_sized.ensures.asked.four c.in-Ok-create_sized.ensures.asked.size c.requires.times options.few.0 judged)
     _ _ _ _ _ _ _ tt tt (λ whole verdicts saved. tt) c.in-Err.fault c.in-Err.ensures.told))
 
+pub end-requires : goal.end-requires
+end-requires g c = let told = c.in-Ok-report_capture.ensures.told in (_, _, _, told.stand.1.after, told.stand.1.each)
+
+pub returns-in_default-end-clause-told : goal.returns-in_default-end-clause-told
+returns-in_default-end-clause-told g c =
+    let options = c.args.head.options.now in
+    let ready = c.args.head.filter.now in
+    let told = c.in-Ok-report_capture.ensures.told in
+    let tells = by_lone_worker options ready _ (orders_of c.in-Ok-new-2.workers) in
+    inl (subst (λ (es : List Expectation). IsLiveFault (ByLoneWorker options) (manner_by es) (policy_facts ready.policy.now) c.args.head.order
+    (g.R.Source.bytes c.args.reader.now) (g.R.Source.bytes c.report_capture.new.reader) (output (g.W.Sink.bytes c.args.writer.now)) (output (g.W.Sink.bytes c.report_capture.new.writer)) Memory)
+    c.in-Ok.ensures
+    (fault_as _ (ByLoneWorker options) (unmet_wording c.in-Ok.teller.expectations.now) _ (λ begun order records verdicts now. ⊤) _ (policy_facts ready.policy.now)
+    (λ packets verdicts judged. tells packets verdicts c.in-Ok-new-2.ensures.given c.in-Ok-create_sized.ensures.asked.four c.in-Ok-create_sized.ensures.asked.size c.requires.times options.few.0 judged)
+    _ _ _ _ _ _ _ tt tt (λ whole verdicts saved. tt) Memory (all_is_some told)))
+
 pub returns-in-Ok-tell_last-clause-told : goal.returns-in-Ok-tell_last-clause-told
 returns-in-Ok-tell_last-clause-told g c =
     let options = c.args.head.options.now in
@@ -58,8 +75,9 @@ returns-in-Ok-tell_last-clause-told g c =
     let told = c.in-Ok-report_capture.ensures.told in
     let packets = packets_at 0 told.all.packets in
     let totals = c.in-Ok-report_capture.told.totals in
-    let by = by_lone_worker options ready _ (orders_of c.in-Ok-new-2.workers) packets told.all.verdicts c.in-Ok-new-2.ensures.given c.in-Ok-create_sized.ensures.asked.four
-    c.in-Ok-create_sized.ensures.asked.size c.requires.times options.few.0 told.all.judged in
+    let said = c.in-Ok-end.ensures _ packets told.all.verdicts told.stand.1.after told.stand.1.each in
+    let by = by_lone options ready _ (orders_of c.in-Ok-new-2.workers) packets told.all.verdicts c.in-Ok-new-2.ensures.given c.in-Ok-create_sized.ensures.asked.four
+    c.in-Ok-create_sized.ensures.asked.size c.requires.times options.few.0 (views_with c.in-Ok-end.field-0, said.said) in
     let wrote = subst (λ (es : List Expectation). Appends (g.W.Sink.bytes c.args.writer.now) (g.W.Sink.bytes c.report_capture.new.writer) (lines_in (unmet_wording es) 1 packets told.all.verdicts))
     c.in-Ok.ensures told.text in
     let met : c.is_met-met.result ≡ are_met expectations told.all.verdicts totals = c.is_met-met.ensures ∙ ap₂ (λ a b. not (a || b)) told.stand.1.compared c.any_open.ensures in
@@ -74,8 +92,9 @@ returns-clause-told g c =
     let told = c.in-Ok-report_capture.ensures.told in
     let packets = packets_at 0 told.all.packets in
     let totals = c.in-Ok-report_capture.told.totals in
-    let by = by_lone_worker options ready _ (orders_of c.in-Ok-new-2.workers) packets told.all.verdicts c.in-Ok-new-2.ensures.given c.in-Ok-create_sized.ensures.asked.four
-    c.in-Ok-create_sized.ensures.asked.size c.requires.times options.few.0 told.all.judged in
+    let said = c.in-Ok-end.ensures _ packets told.all.verdicts told.stand.1.after told.stand.1.each in
+    let by = by_lone options ready _ (orders_of c.in-Ok-new-2.workers) packets told.all.verdicts c.in-Ok-new-2.ensures.given c.in-Ok-create_sized.ensures.asked.four
+    c.in-Ok-create_sized.ensures.asked.size c.requires.times options.few.0 (views_with c.in-Ok-end.field-0, said.said) in
     let wrote = subst (λ (es : List Expectation). Appends (g.W.Sink.bytes c.args.writer.now) (g.W.Sink.bytes c.report_capture.new.writer) (lines_in (unmet_wording es) 1 packets told.all.verdicts))
     c.in-Ok.ensures told.text in
     let met : c.is_met-met.result ≡ are_met expectations told.all.verdicts totals = c.is_met-met.ensures ∙ ap₂ (λ a b. not (a || b)) told.stand.1.compared c.any_open.ensures in
