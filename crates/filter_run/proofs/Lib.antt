@@ -1,1 +1,2 @@
+mod OneLemmas
 mod RunLemmas

@@ -1,15 +1,16 @@
 -- A run: what is known between its batches, at its end and at a fault.
-use Rattle.std.proofs.Common.{◌≡◌, ◌∙◌, ◌≤◌, ◌<◌, ◌+◌, ◌^◌, ◌⊎◌, ℕ, List, [], ◌∷◌, ◌++◌, None, Some, ap, append-nil, arith, flat_map, inl, inr, length, refl, subst, sym}
-use Rattle.std.proofs.lemmas.List.{length-append, length-map, map-append}
+use Rattle.std.proofs.Common.{◌≡◌, ◌∙◌, ◌≤◌, ◌<◌, ◌+◌, ◌-◌, ◌^◌, ◌⊎◌, ℕ, List, [], ◌∷◌, ◌++◌, None, Some, ap, append-nil, append_assoc, arith, drop, flat_map, inl, inr, length, refl, subst, sym}
+use Rattle.std.proofs.lemmas.List.{append_cancel_right, length-append, length-map, map-append, take-append-drop}
 use Rattle.std.proofs.lemmas.List.Concat.{flat_map-append}
-use Rattle.packet_view.specs.Captures.{PacketFacts, packet_at}
+use Rattle.packet_view.specs.Captures.{AreRecords, PacketFacts, RecordFacts, packet_at}
+use Rattle.packet_view.specs.declared.capture.Order.{Order}
 use Rattle.packet_view.proofs.RecordListLemmas.{packets_count}
 use Rattle.racl_io.specs.Buffers.{held_by}
 use Rattle.racl_io.specs.declared.fault.Fault.{Fault}
 use Rattle.racl_io.specs.declared.fault.Fault.TheVariants.{Memory, TooLarge}
 use Rattle.racl_io.specs.declared.totals_and_truncation.Captured.{Captured}
 use Rattle.capture_stream.specs.declared.arrivals.FaultAt.{FaultAt}
-use Rattle.filter_run.specs.Batches.{AreEach, BatchFacts, JudgedBatch, batch_facts, batches_of, packets_in, packets_of, said_of, total}
+use Rattle.filter_run.specs.Batches.{AreAllWhole, AreEach, BatchFacts, IsWhole, JudgedBatch, batch_facts, batches_of, packets_in, packets_of, said_of, total}
 use Rattle.filter_run.specs.Judges.{Follows, MayFollow}
 use Rattle.filter_run.specs.Observers.{IsCutAt, MayHear, TellsMore}
 use Rattle.filter_run.specs.Ran.{HasSaid, IsBegun, IsRunFault, Ran, Words, most}
@@ -50,6 +51,44 @@ pub each_push : {V : Type 0} (judged : List (JudgedBatch V)) (one : JudgedBatch 
 each_push [] one each last = (last, tt)
 each_push (first ∷ others) one (here, behind) last = (here, each_push others one behind last)
 
+-- ---- The bytes of a batch are its records
+
+-- the bytes of records, before those behind them
+records_front : (order : Order) (bytes : List ℕ) (xs : List RecordFacts) (rest : List ℕ) → AreRecords order bytes xs rest → (whole : List ℕ) × (bytes ≡ whole ++ rest)
+records_front order bytes [] rest all = ([], all)
+records_front order bytes (x ∷ xs) rest (others, (header, spelt, is), all) =
+    let more = records_front order others xs rest all in (
+      header ++ (x.frame ++ more.0),
+      spelt ∙ ap (λ (b : List ℕ). header ++ (x.frame ++ b)) more.1 ∙ ap (λ (b : List ℕ). header ++ b) (sym (append_assoc x.frame more.0 rest))
+          ∙ sym (append_assoc header (x.frame ++ more.0) rest),
+    )
+
+-- without those behind them
+records_alone : (order : Order) (bytes : List ℕ) (xs : List RecordFacts) (rest : List ℕ) → AreRecords order (bytes ++ rest) xs rest → AreRecords order bytes xs []
+unfolding records_front
+records_alone order bytes [] rest all = append_cancel_right bytes [] rest all
+records_alone order bytes (x ∷ xs) rest (others, (header, spelt, is), all) =
+    let front = records_front order others xs rest all in
+    let behind = ap (λ (b : List ℕ). header ++ (x.frame ++ b)) front.1 ∙ ap (λ (b : List ℕ). header ++ b) (sym (append_assoc x.frame front.0 rest))
+    ∙ sym (append_assoc header (x.frame ++ front.0) rest) in (
+      front.0,
+      (header, append_cancel_right bytes (header ++ (x.frame ++ front.0)) rest (spelt ∙ behind), is),
+      records_alone order front.0 xs rest (subst (λ (b : List ℕ). AreRecords order b xs rest) front.1 all),
+    )
+
+pub batch_whole : (batch : Batch) → IsWhole batch → AreRecords batch.order (batch_facts batch).bytes (batch_facts batch).records []
+unfolding records_alone
+batch_whole batch whole =
+    let held = held_by batch.bytes in
+    let behind = drop (length held - batch.found.behind) held in
+    records_alone batch.order (batch_facts batch).bytes (batch_facts batch).records behind
+    (subst (λ (b : List ℕ). AreRecords batch.order b (batch_facts batch).records behind) (sym (take-append-drop (length held - batch.found.behind) held)) whole.found.records)
+
+pub whole_push : {V : Type 0} (judged : List (JudgedBatch V)) (one : JudgedBatch V) → AreAllWhole (batches_of judged)
+    → AreRecords one.batch.order one.batch.bytes one.batch.records [] → AreAllWhole (batches_of (judged ++ one ∷ []))
+whole_push [] one whole last = (last, tt)
+whole_push (first ∷ others) one (here, behind) last = (here, whole_push others one behind last)
+
 -- ---- Between two batches
 
 module _ {S J O V : Type 0} (words : Words S J O V) (source : S) (judge : J) (observer : O) where
@@ -60,6 +99,7 @@ module _ {S J O V : Type 0} (words : Words S J O V) (source : S) (judge : J) (ob
     gave = begun.gave;
     became = begun.became;
     each = tt;
+    whole = tt;
     told = begun.told;
     batches_are = refl;
     packets_are = refl;
@@ -101,7 +141,7 @@ module _ {S J O V : Type 0} (words : Words S J O V) (source : S) (judge : J) (ob
     pub going_failed : (then : S) (found : FaultAt) → HasFailed words.gave words.failed now then found → IsRunFault words source judge observer then after found
     unfolding going_said
     going_failed then found failed =
-        inl (record { judged = is.judged; why = inl (failed source (batches_of is.judged) is.gave); said = going_said; each = is.each; told = is.told })
+        inl (record { judged = is.judged; why = inl (failed source (batches_of is.judged) is.gave); said = going_said; each = is.each; whole = is.whole; told = is.told })
 
     -- the judge had no memory
     pub going_unjudged : (then : S) (batch : Batch) → GivesMore words.gave now (batch_facts batch) then
@@ -112,6 +152,7 @@ module _ {S J O V : Type 0} (words : Words S J O V) (source : S) (judge : J) (ob
       why = inr (inl (refl, batch_facts batch, refl, gives source (batches_of is.judged) is.gave));
       said = going_said;
       each = is.each;
+      whole = is.whole;
       told = is.told;
     })
 
@@ -123,6 +164,7 @@ module _ {S J O V : Type 0} (words : Words S J O V) (source : S) (judge : J) (ob
       why = inr (inr (refl, is.gave, elim many [ inl p ↦ inl (subst (λ n. most ≤ n) is.batches_are p) | inr p ↦ inr (subst (λ n. most ≤ n) is.packets_are p) ]));
       said = going_said;
       each = is.each;
+      whole = is.whole;
       told = is.told;
     })
 
@@ -134,12 +176,14 @@ module _ {S J O V : Type 0} (words : Words S J O V) (source : S) (judge : J) (ob
       over = given source (batches_of is.judged) is.gave;
       became = is.became;
       each = is.each;
+      whole = is.whole;
       told = is.told;
     }
 
     -- a batch came and was judged
     module _ (then : S) (next : J) (batch : BatchFacts) (said : List V) (given : GivesMore words.gave now batch then)
-        (follows : Follows words.became at (packets_in batch) said next) (right : length said ≡ length (packets_in batch)) where
+        (follows : Follows words.became at (packets_in batch) said next) (right : length said ≡ length (packets_in batch))
+        (bytes : AreRecords batch.order batch.bytes batch.records []) where
       abbrev pub one : JudgedBatch V
       one = record { batch = batch; said = said }
 
@@ -162,6 +206,10 @@ module _ {S J O V : Type 0} (words : Words S J O V) (source : S) (judge : J) (ob
       unfolding more
       more_each = each_push is.judged one is.each right
 
+      more_whole : AreAllWhole (batches_of more)
+      unfolding more
+      more_whole = whole_push is.judged one is.whole bytes
+
       more_batches : batches + 1 ≡ length more
       unfolding more
       more_batches = let both = length-append is.judged (one ∷ []) in let e = is.batches_are in omega arith
@@ -177,12 +225,13 @@ module _ {S J O V : Type 0} (words : Words S J O V) (source : S) (judge : J) (ob
       -- an observer was told of it
       pub going_more : (last : O) → TellsMore words.told after one last
           → IsGoing words source judge observer then next last (batches + 1) (packets + length said)
-      unfolding more more_gave more_became more_each more_batches more_packets
+      unfolding more more_gave more_became more_each more_whole more_batches more_packets
       going_more last tells = record {
         judged = more;
         gave = more_gave;
         became = more_became;
         each = more_each;
+        whole = more_whole;
         told = tells observer is.judged is.told;
         batches_are = more_batches;
         packets_are = more_packets;
@@ -191,13 +240,15 @@ module _ {S J O V : Type 0} (words : Words S J O V) (source : S) (judge : J) (ob
       -- or it failed within it
       pub going_cut : (last : O) (fault : Fault) → IsCutAt words.told words.cut after one fault last
           → IsRunFault words source judge observer then last (record { fault = fault; interface = Some batch.interface })
-      unfolding more more_gave more_became more_each
+      unfolding going_said more more_gave more_became more_each more_whole
       going_cut last fault cut = inr (record {
         earlier = is.judged;
         last = one;
         gave = more_gave;
+        before = going_said;
         said = (next, more_became);
         each = more_each;
+        whole = more_whole;
         cut = cut observer is.judged is.told;
         place = refl;
       })

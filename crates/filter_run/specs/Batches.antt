@@ -1,7 +1,7 @@
 -- Packets that come together, and what is said of them (this project's profile).
 use Rattle.std.specs.Prelude.{◌≡◌, ◌+◌, ◌-◌, ◌<◌, ◌^◌, ℕ, List, [], ◌∷◌, length, map, take}
 use Rattle.std.specs.List.{flat_map}
-use Rattle.packet_view.specs.Captures.{PacketFacts, RecordFacts, packets_at}
+use Rattle.packet_view.specs.Captures.{AreRecords, PacketFacts, RecordFacts, packets_at}
 use Rattle.packet_view.specs.RecordLists.{records_from}
 use Rattle.packet_view.specs.declared.capture.Order.{Order}
 use Rattle.racl_io.specs.Buffers.{held_by}
@@ -39,6 +39,11 @@ pub record IsWhole (batch : Batch) : Type 0 where
   pub found : HaveFound batch.order (held_by batch.bytes) batch.found
   pub before : batch.others < 2 ^ 63
   pub few : batch.found.count < 2 ^ 63
+
+-- the bytes of each are those of its records
+abbrev pub AreAllWhole : List BatchFacts → Type 0
+AreAllWhole [] = Unit {0}
+AreAllWhole (batch ∷ batches) = AreRecords batch.order batch.bytes batch.records [] × AreAllWhole batches
 
 -- a batch, and what is said of its packets
 pub record JudgedBatch (V : Type 0) : Type 0 where

@@ -5,7 +5,7 @@ use Rattle.racl_io.specs.declared.fault.Fault.{Fault}
 use Rattle.racl_io.specs.declared.fault.Fault.TheVariants.{Memory, TooLarge}
 use Rattle.racl_io.specs.declared.totals_and_truncation.Captured.{Captured}
 use Rattle.capture_stream.specs.declared.arrivals.FaultAt.{FaultAt}
-use Rattle.filter_run.specs.Batches.{AreEach, BatchFacts, JudgedBatch, batches_of, packets_of, said_of}
+use Rattle.filter_run.specs.Batches.{AreAllWhole, AreEach, BatchFacts, JudgedBatch, batches_of, packets_of, said_of}
 
 -- once so many batches or packets came, no more are asked for
 abbrev pub most : ℕ
@@ -39,6 +39,7 @@ pub record Ran {S J O V : Type 0} (words : Words S J O V) (source : S) (judge : 
   pub over : words.over source (batches_of judged) captures then
   pub became : words.became judge (packets_of judged) (said_of judged) at
   pub each : AreEach judged
+  pub whole : AreAllWhole (batches_of judged)
   pub told : words.told observer judged after
 
 -- of the packets of these batches this was said
@@ -55,6 +56,7 @@ pub record HasStopped {S J O V : Type 0} (words : Words S J O V) (source : S) (j
       × ((most ≤ length judged) ⊎ (most ≤ length (said_of judged))))
   pub said : HasSaid words judge judged
   pub each : AreEach judged
+  pub whole : AreAllWhole (batches_of judged)
   pub told : words.told observer judged after
 
 -- the observer failed within the last batch, and was told of all before
@@ -62,8 +64,10 @@ pub record HasCutRun {S J O V : Type 0} (words : Words S J O V) (source : S) (ju
   pub earlier : List (JudgedBatch V)
   pub last : JudgedBatch V
   pub gave : words.gave source (batches_of (earlier ++ last ∷ [])) then
+  pub before : HasSaid words judge earlier
   pub said : HasSaid words judge (earlier ++ last ∷ [])
   pub each : AreEach (earlier ++ last ∷ [])
+  pub whole : AreAllWhole (batches_of (earlier ++ last ∷ []))
   pub cut : words.cut observer (earlier ++ last ∷ []) found.fault after
   pub place : found.interface ≡ Some last.batch.interface
 

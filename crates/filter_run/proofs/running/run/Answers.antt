@@ -7,7 +7,7 @@ use Rattle.filter_run.specs.Observers.{IsCutAt, TellsMore}
 use Rattle.filter_run.specs.Ran.{IsRunFault, words_of}
 use Rattle.filter_run.specs.Sources.{HasStepped}
 use Rattle.filter_run.specs.inner.Steps.{IsGoing}
-use Rattle.filter_run.proofs.RunLemmas.{batch_count, going_cut, going_give, going_may, going_more}
+use Rattle.filter_run.proofs.RunLemmas.{batch_count, batch_whole, going_cut, going_give, going_may, going_more}
 use Rattle.filter_run.proofs.running.run.Goals as goal
 
 pub next-requires : goal.next-requires
@@ -33,7 +33,7 @@ returns-in-Err-packets g c =
     let follows = subst (λ (ps : List PacketFacts). Follows g.J.Judge.became c.batches.judge ps c.in-Ok.said.items c.judge.new.self) c.packets.ensures c.in-Ok.ensures.follows in
     subst (λ (f : FaultAt). IsRunFault words c.args.source.now c.args.judge.now c.args.observer.now c.next.new.self c.packets-in-batches.new.self f) (sym c.at-in-Err-packets.ensures)
     (going_cut words c.args.source.now c.args.judge.now c.args.observer.now c.batches.source c.batches.judge c.batches.observer c.batches.batches c.batches.packets
-    c.batches.invariant c.next.new.self c.judge.new.self (batch_facts batch) c.in-Ok.said.items step.1 follows (c.in-Ok.ensures.each ∙ ap length c.packets.ensures)
+    c.batches.invariant c.next.new.self c.judge.new.self (batch_facts batch) c.in-Ok.said.items step.1 follows (c.in-Ok.ensures.each ∙ ap length c.packets.ensures) (batch_whole batch step.0)
     c.packets-in-batches.new.self c.in-Err-packets.fault
     (subst (λ (vs : List _). IsCutAt g.O.Observer.told g.O.Observer.cut c.batches.observer (record { batch = batch_facts batch; said = vs }) c.in-Err-packets.fault
     c.packets-in-batches.new.self) c.deref.ensures.value c.in-Err-packets.ensures))
@@ -48,7 +48,7 @@ batches-preserved g c =
     subst (λ n. IsGoing words c.args.source.now c.args.judge.now c.args.observer.now c.next.new.self c.judge.new.self c.packets-in-batches.new.self (c.batches.batches + 1)
     (c.batches.packets + n)) (sym (c.len-packets.ensures ∙ same))
     (going_more words c.args.source.now c.args.judge.now c.args.observer.now c.batches.source c.batches.judge c.batches.observer c.batches.batches c.batches.packets
-    c.batches.invariant c.next.new.self c.judge.new.self (batch_facts batch) c.in-Ok.said.items step.1 follows (c.in-Ok.ensures.each ∙ ap length c.packets.ensures)
+    c.batches.invariant c.next.new.self c.judge.new.self (batch_facts batch) c.in-Ok.said.items step.1 follows (c.in-Ok.ensures.each ∙ ap length c.packets.ensures) (batch_whole batch step.0)
     c.packets-in-batches.new.self
     (subst (λ (vs : List _). TellsMore g.O.Observer.told c.batches.observer (record { batch = batch_facts batch; said = vs }) c.packets-in-batches.new.self) c.deref.ensures.value
     c.in-Ok-packets.ensures))
