@@ -1,2 +1,4 @@
-mod OneLemmas
-mod RunLemmas
+pub mod OneLemmas
+pub mod ReportLemmas
+pub mod RunLemmas
+pub mod TellLemmas

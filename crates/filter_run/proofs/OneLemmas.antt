@@ -40,7 +40,7 @@ some_packets n order judged are some none = some (empty (records_of (batches_of 
   where
     empty : (records : List RecordFacts) → packets_at 0 records ≡ [] → records ≡ []
     empty [] e = refl
-    empty (record ∷ records) e = cc
+    empty (one ∷ others) e = cc
 
 -- ---- The first batches
 

@@ -1,0 +1,312 @@
+-- The report on one capture, whose packets are told in lines and saved: what the relation of its run says of what was read and
+-- written.
+use Rattle.std.proofs.Common.{◌≡◌, ◌≢◌, ◌∙◌, ◌≤◌, ◌+◌, ◌++◌, ◌⊎◌, ℕ, Bool, List, [], ◌∷◌, Option, ap, ap₂, append-nil, arith, inl, inr, length, refl, subst, sym}
+use Rattle.std.proofs.lemmas.List.{length-map, map-append, same_from_push}
+use Rattle.std.proofs.lemmas.List.Sums.{count_by-le-length}
+use Rattle.std.specs.Io.KnownBytes.{Appends}
+use Rattle.packet_view.specs.Captures.{PacketFacts, packet_at, packets_at}
+use Rattle.packet_view.specs.declared.capture.Order.{Order}
+use Rattle.session_state.specs.Passes.{passes}
+use Rattle.session_state.specs.declared.verdict.Verdict.{Verdict}
+use Rattle.racl_io.specs.Reports.{is_truncated, totals_of}
+use Rattle.racl_io.specs.Sinks.{GotFront}
+use Rattle.racl_io.specs.Tellings.{Wording, lines_in, with_write}
+use Rattle.racl_io.specs.declared.fault.Fault.{Fault}
+use Rattle.racl_io.specs.declared.fault.Fault.TheVariants as fault
+use Rattle.racl_io.specs.declared.totals_and_truncation.Captured.{Captured}
+use Rattle.racl_io.proofs.ReportLemmas.{totals_counted}
+use Rattle.racl_io.proofs.TellingLemmas.{lines_in_both}
+use Rattle.capture_stream.specs.Feeding.{rest_in}
+use Rattle.capture_stream.specs.Lives.{HaveFailed, with_read}
+use Rattle.capture_stream.specs.Savings.{Manner, Outputs, manner_of, outputs}
+use Rattle.capture_stream.specs.declared.arrivals.FaultAt.{FaultAt}
+use Rattle.filter_run.specs.Batches.{AreAllWhole, AreEach, BatchFacts, JudgedBatch, batches_of, packets_in, packets_of, said_of}
+use Rattle.filter_run.specs.CaptureReports.{HasToldAll, HasToldPart, HasToldSome, IsLiveFault}
+use Rattle.filter_run.specs.Filters.{HasSaid}
+use Rattle.filter_run.specs.Lines.{HasCutLines, HasToldLines, IsCutText, text_of}
+use Rattle.filter_run.specs.Observers.{IsBeforeLast}
+use Rattle.filter_run.specs.OneCapture.{AreNumbered, HasFailedBehind, HasGiven, HasGivenAll, HasGivenSome, IsWhy, bytes_of, records_of}
+use Rattle.filter_run.specs.Ran.{HasCutRun, HasStopped, IsRunFault, Ran, Words, words_of}
+use Rattle.filter_run.specs.Saving.{AreOf, HasCutSaves, HasSavedSome}
+use Rattle.filter_run.specs.declared.capture_report.ReportedCapture.{ReportedCapture}
+use Rattle.filter_run.specs.declared.one_capture.OneCapture.{OneCapture}
+use Rattle.filter_run.specs.declared.one_filter.OneFilter.{OneFilter}
+use Rattle.filter_run.specs.declared.saved_records.SavedRecords.{SavedRecords}
+use Rattle.filter_run.specs.declared.told_lines.ToldLines.{ToldLines}
+use Rattle.filter_run.proofs.OneLemmas.{count_one, each_front, given_front, many_read, numbered_front, packets_one, some_packets, unread_by, whole_front}
+use Rattle.filter_run.proofs.TellLemmas.{report_failed, saver_failed, totals_with}
+
+-- ---- What is told, and saved
+
+-- the lines of numbered batches are those of their packets
+pub lines_one : (wording : Wording) (n : ℕ) (order : Order) (judged : List (JudgedBatch Verdict)) → AreNumbered n order (batches_of judged) → AreEach judged
+    → text_of wording judged ≡ lines_in wording (n + 1) (packets_of judged) (said_of judged)
+lines_one wording n order [] are each = refl
+lines_one wording n order (one ∷ others) (behind, same, at, are) (here, each) =
+    let count = length-map one.batch.records (packet_at one.batch.interface) in
+    let next = n + length one.batch.records in
+    ap₂ (λ k t. lines_in wording (k + 1) (packets_in one.batch) one.said ++ t) behind (lines_one wording next order others are each)
+    ∙ sym (lines_in_both wording (n + 1) (next + 1) (packets_in one.batch) (packets_of others) one.said (said_of others) here (omega arith))
+
+-- they are of one order
+pub of_numbered : (n : ℕ) (order : Order) (judged : List (JudgedBatch Verdict)) → AreNumbered n order (batches_of judged) → AreOf order judged
+of_numbered n order [] are = tt
+of_numbered n order (one ∷ others) (behind, same, at, are) = (same, of_numbered (n + length one.batch.records) order others are)
+
+-- no more pass than were told
+pub lines_passing : {L W : Type 0} (wording : L → Wording) (bytes : W → Option (List ℕ)) (failures : W → ℕ) (begun now : ToldLines L W) (judged : List (JudgedBatch Verdict))
+    → HasToldLines wording bytes failures begun judged now → now.passed ≤ now.packets
+lines_passing wording bytes failures begun now judged told =
+    let few = count_by-le-length passes (said_of judged) in let passing = told.passing in let packets = told.packets in omega arith
+
+module _ {J L K R W : Type 0} (Became : J → List PacketFacts → List Verdict → J → Type 0) (Judged : J → List PacketFacts → List Verdict → Type 0)
+    (wording : L → Wording) (saved : K → Order → List ℕ → List Verdict → K → Type 0) (saving : K → ℕ) (bytes : R → Option (List ℕ)) (failures : R → ℕ)
+    (written : W → Option (List ℕ)) (writing : W → ℕ) (source then : OneCapture R) (judge : J) (old new : ToldLines L W × SavedRecords K)
+    (same_order : old.1.order ≡ source.engine.order) where
+  -- what its run is said by
+  abbrev pub report_words : Words (OneCapture R) (OneFilter J) (ToldLines L W × SavedRecords K) Verdict
+  report_words = words_of (HasGiven bytes failures) (HasGivenAll bytes failures) (HasFailedBehind bytes failures)
+      (λ begun packets said now. HasSaid Became Judged begun.inner packets said now.inner)
+      (λ begun judged now. HasToldLines wording written writing begun.0 judged now.0 × HasSavedSome saved saving begun.1 judged now.1)
+      (λ begun judged found now. (HasCutLines wording written writing begun.0 judged found now.0 × IsBeforeLast (HasSavedSome saved saving) begun.1 judged now.1)
+      ⊎ (HasToldLines wording written writing begun.0 judged now.0 × HasCutSaves saving begun.1 found now.1))
+
+  abbrev manner : Manner K
+  manner = manner_of (wording old.0.teller.now) saved
+
+  abbrev began : Outputs K
+  began = outputs (written old.0.writer.now) old.1.saver.now
+
+  abbrev became : Outputs K
+  became = outputs (written new.0.writer.now) new.1.saver.now
+
+  abbrev Fails : Fault → Type 0
+  Fails found = IsLiveFault Judged manner judge source.engine.order (bytes source.reader.now) (bytes then.reader.now) began became found
+
+  module _ (judged : List (JudgedBatch Verdict)) (each : AreEach judged) (numbered : AreNumbered 0 source.engine.order (batches_of judged)) where
+    report_text : text_of (wording old.0.teller.now) judged ≡ lines_in (wording old.0.teller.now) 1 (packets_at 0 (records_of (batches_of judged))) (said_of judged)
+    report_text =
+        lines_one (wording old.0.teller.now) 0 source.engine.order judged numbered each
+        ∙ ap (λ ps. lines_in (wording old.0.teller.now) 1 ps (said_of judged)) (packets_one 0 source.engine.order judged numbered)
+
+    report_judged : (now : J) → HasSaid Became Judged judge (packets_of judged) (said_of judged) now → records_of (batches_of judged) ≢ []
+        → Judged judge (packets_at 0 (records_of (batches_of judged))) (said_of judged)
+    report_judged now said some =
+        subst (λ (ps : List PacketFacts). Judged judge ps (said_of judged)) (packets_one 0 source.engine.order judged numbered)
+        (said.judged (some_packets 0 source.engine.order judged numbered some))
+
+    report_saved : HasSavedSome saved saving old.1 judged new.1
+        → saved old.1.saver.now source.engine.order (bytes_of (batches_of judged)) (said_of judged) new.1.saver.now
+    report_saved told =
+        let all = told.all (subst (λ (o : Order). AreOf o judged) (sym same_order) (of_numbered 0 source.engine.order judged numbered)) in
+        subst (λ (o : Order). saved old.1.saver.now o (bytes_of (batches_of judged)) (said_of judged) new.1.saver.now) same_order
+        (subst (λ (b : List ℕ). saved old.1.saver.now old.1.order b (said_of judged) new.1.saver.now) all.0
+        (subst (λ (vs : List Verdict). saved old.1.saver.now old.1.order told.bytes vs new.1.saver.now) all.1 told.stand))
+
+    -- all of it was told, before the rest
+    some_told : (now : J) → HasSaid Became Judged judge (packets_of judged) (said_of judged) now → (rest : List ℕ)
+        → HasGivenSome source.engine.order (bytes source.reader.now) (bytes then.reader.now) (batches_of judged) rest
+        → Appends (written old.0.writer.now) (written new.0.writer.now) (text_of (wording old.0.teller.now) judged) → HasSavedSome saved saving old.1 judged new.1
+        → HasToldSome Judged manner judge source.engine.order (bytes source.reader.now) (bytes then.reader.now) began became rest
+    unfolding report_text report_judged report_saved
+    some_told now said rest given text kept = record {
+      read = given.read;
+      consumed = given.consumed;
+      packets = records_of (batches_of judged);
+      records = given.records;
+      verdicts = said_of judged;
+      judged = report_judged now said;
+      count = count_one 0 source.engine.order judged numbered each;
+      text = subst (Appends (written old.0.writer.now) (written new.0.writer.now)) report_text text;
+      whole = bytes_of (batches_of judged);
+      spelt = given.spelt;
+      saved = report_saved kept;
+    }
+
+    -- or a front of it
+    some_part : (now : J) → HasSaid Became Judged judge (packets_of judged) (said_of judged) now → (rest : List ℕ)
+        → HasGivenSome source.engine.order (bytes source.reader.now) (bytes then.reader.now) (batches_of judged) rest
+        → GotFront (written old.0.writer.now) (written new.0.writer.now) (text_of (wording old.0.teller.now) judged)
+        → HasToldPart Judged manner judge source.engine.order (bytes source.reader.now) (bytes then.reader.now) began became
+    unfolding report_text report_judged
+    some_part now said rest given front = record {
+      read = given.read;
+      consumed = given.consumed;
+      packets = records_of (batches_of judged);
+      rest = rest;
+      records = given.records;
+      verdicts = said_of judged;
+      judged = report_judged now said;
+      count = count_one 0 source.engine.order judged numbered each;
+      front = subst (GotFront (written old.0.writer.now) (written new.0.writer.now)) report_text front;
+    }
+
+    -- the source failed
+    why_live : (now : J) → HasSaid Became Judged judge (packets_of judged) (said_of judged) now → (rest : List ℕ)
+        → (given : HasGivenSome source.engine.order (bytes source.reader.now) (bytes then.reader.now) (batches_of judged) rest)
+        → Appends (written old.0.writer.now) (written new.0.writer.now) (text_of (wording old.0.teller.now) judged) → HasSavedSome saved saving old.1 judged new.1
+        → (found : Fault) → IsWhy source.engine.order given.read (batches_of judged) rest found → Fails found
+    unfolding some_told
+    why_live now said rest given text kept fault.Memory why = (rest, some_told now said rest given text kept)
+    why_live now said rest given text kept fault.Read why = (rest, some_told now said rest given text kept, why.0, why.1)
+    why_live now said rest given text kept fault.TooLarge why = (rest, some_told now said rest given text kept, why)
+    why_live now said rest given text kept (fault.LongRecord number) why = (rest, some_told now said rest given text kept, why.0, why.1)
+    why_live now said rest given text kept found why = absurd why
+
+  -- ---- Why not all was told
+
+  -- the run stopped
+  stopped_live : (found : FaultAt) → HasStopped report_words source (record { inner = judge }) old then new found → Fails found.fault
+  unfolding why_live some_told
+  stopped_live found stopped =
+      let judged = stopped.judged in
+      let order = source.engine.order in
+      let now = stopped.said.0.inner in
+      let said = stopped.said.1 in
+      elim stopped.why [
+        | inl failed ↦ why_live judged stopped.each failed.numbered now said failed.rest failed.some stopped.told.0.text stopped.told.1 found.fault failed.why
+        | inr (inl (memory, gone, place, gave)) ↦
+            let numbered = numbered_front 0 order (batches_of judged) (gone ∷ []) gave.numbered in
+            let rest = bytes_of (gone ∷ []) ++ rest_in then.engine in
+            let given = given_front order (bytes source.reader.now) (bytes then.reader.now) (batches_of judged) (gone ∷ []) (rest_in then.engine) numbered stopped.whole gave.some in
+            subst Fails (sym memory) (rest, some_told judged stopped.each numbered now said rest given stopped.told.0.text stopped.told.1)
+        | inr (inr (large, gave, many)) ↦
+            let rest = rest_in then.engine in
+            subst (λ (f : FaultAt). Fails f.fault) (sym large)
+            (rest, some_told judged stopped.each gave.numbered now said rest gave.some stopped.told.0.text stopped.told.1,
+            many_read bytes failures source then judged gave stopped.each many)
+      ]
+
+  -- the lines were cut
+  lines_live : (found : Fault) (earlier : List (JudgedBatch Verdict)) (last : JudgedBatch Verdict) → HasGiven bytes failures source (batches_of (earlier ++ last ∷ [])) then
+      → (before : J) → HasSaid Became Judged judge (packets_of earlier) (said_of earlier) before
+      → (now : J) → HasSaid Became Judged judge (packets_of (earlier ++ last ∷ [])) (said_of (earlier ++ last ∷ [])) now
+      → AreEach (earlier ++ last ∷ []) → AreAllWhole (batches_of (earlier ++ last ∷ []))
+      → HasCutLines wording written writing old.0 (earlier ++ last ∷ []) found new.0
+      → IsBeforeLast (HasSavedSome saved saving) old.1 (earlier ++ last ∷ []) new.1 → Fails found
+  unfolding some_told some_part
+  lines_live fault.Memory earlier last gave before said_before now said each whole cut kept =
+      let order = source.engine.order in
+      let both = map-append (λ (one : JudgedBatch Verdict). one.batch) earlier (last ∷ []) in
+      let come = subst (λ (bs : List BatchFacts). HasGivenSome order (bytes source.reader.now) (bytes then.reader.now) bs (rest_in then.engine)) both gave.some in
+      let numbered = numbered_front 0 order (batches_of earlier) (batches_of (last ∷ [])) (subst (AreNumbered 0 order) both gave.numbered) in
+      let all_whole = whole_front (batches_of earlier) (batches_of (last ∷ [])) (subst AreAllWhole both whole) in
+      let rest = bytes_of (batches_of (last ∷ [])) ++ rest_in then.engine in
+      let given = given_front order (bytes source.reader.now) (bytes then.reader.now) (batches_of earlier) (batches_of (last ∷ [])) (rest_in then.engine) numbered all_whole come in
+      let text = subst (λ (js : List (JudgedBatch Verdict)). Appends (written old.0.writer.now) (written new.0.writer.now) (text_of (wording old.0.teller.now) js))
+      (sym (same_from_push earlier cut.earlier last cut.last cut.all).0) cut.text in
+      let told = subst (λ (js : List (JudgedBatch Verdict)). HasSavedSome saved saving old.1 js new.1) (sym (same_from_push earlier kept.earlier last kept.last kept.all).0) kept.told in
+      (rest, some_told earlier (each_front earlier (last ∷ []) each) numbered before said_before rest given text told)
+  lines_live fault.Write earlier last gave before said_before now said each whole cut kept =
+      some_part (earlier ++ last ∷ []) each gave.numbered now said (rest_in then.engine) gave.some cut.text
+  lines_live found earlier last gave before said_before now said each whole cut kept = absurd cut.text
+
+  cut_live : (found : FaultAt) → HasCutRun report_words source (record { inner = judge }) old then new found → Fails found.fault
+  unfolding lines_live some_part
+  cut_live found cut =
+      let judged = cut.earlier ++ cut.last ∷ [] in
+      elim cut.cut [
+        | inl (lines, kept) ↦ lines_live found.fault cut.earlier cut.last cut.gave cut.before.0.inner cut.before.1 cut.said.0.inner cut.said.1 cut.each cut.whole lines kept
+        | inr (told, saves) ↦ subst Fails (sym saves.write)
+            (some_part judged cut.each cut.gave.numbered cut.said.0.inner cut.said.1 (rest_in then.engine) cut.gave.some
+            (text_of (wording old.0.teller.now) judged, [], sym (append-nil (text_of (wording old.0.teller.now) judged)), told.text))
+      ]
+
+  -- why not all was told
+  pub report_fault : (found : FaultAt) → IsRunFault report_words source (record { inner = judge }) old then new found
+      → IsLiveFault Judged (manner_of (wording old.0.teller.now) saved) judge source.engine.order (bytes source.reader.now) (bytes then.reader.now)
+      (outputs (written old.0.writer.now) old.1.saver.now) (outputs (written new.0.writer.now) new.1.saver.now) found.fault
+  unfolding stopped_live cut_live
+  report_fault found (inl stopped) = stopped_live found stopped
+  report_fault found (inr cut) = cut_live found cut
+
+  -- ---- All was told
+
+  pub report_told : (at : OneFilter J) (captures : List Captured) (ended : ReportedCapture J) (truncated : Bool)
+      → Ran report_words source (record { inner = judge }) old then at new captures → truncated ≡ is_truncated captures
+      → ended.totals ≡ totals_with new.0.packets new.0.passed new.0.without_pages truncated → ended.judges ≡ at.inner
+      → HasToldAll Became Judged (manner_of (wording old.0.teller.now) saved) judge source.engine.order (bytes source.reader.now) (bytes then.reader.now)
+      (outputs (written old.0.writer.now) old.1.saver.now) (outputs (written new.0.writer.now) new.1.saver.now) ended
+  unfolding report_text report_judged report_saved
+  report_told at captures ended truncated ran cut totals judges =
+      let judged = ran.judged in
+      let order = source.engine.order in
+      let over = ran.over in
+      let lines = ran.told.0 in
+      let counted : ended.totals ≡ totals_of (said_of judged) captures =
+      totals ∙ ap (λ n. totals_with n new.0.passed new.0.without_pages truncated) lines.packets
+      ∙ totals_counted new.0.passed new.0.without_pages (said_of judged) captures truncated lines.passing lines.lacking cut in
+      record {
+        all = record {
+          read = over.some.read;
+          consumed = over.some.consumed;
+          ended = over.ended;
+          packets = records_of (batches_of judged);
+          rest = over.rest;
+          records = over.some.records;
+          truncated = over.truncated;
+          end = over.end;
+          verdicts = said_of judged;
+          judged = report_judged judged ran.each over.numbered at.inner ran.became;
+          count = count_one 0 order judged over.numbered ran.each;
+          counted = counted ∙ ap (totals_of (said_of judged)) over.told;
+        };
+        text = subst (Appends (written old.0.writer.now) (written new.0.writer.now)) (report_text judged ran.each over.numbered) lines.text;
+        whole = bytes_of (batches_of judged);
+        spelt = over.some.spelt;
+        saved = report_saved judged ran.each over.numbered ran.told.1;
+        stand = subst (λ (j : J). Became judge (packets_at 0 (records_of (batches_of judged))) (said_of judged) j) (sym judges)
+            (subst (λ (ps : List PacketFacts). Became judge ps (said_of judged) at.inner) (packets_one 0 order judged over.numbered) ran.became.stand);
+      }
+
+  -- ---- How often devices failed
+
+  cut_why : (was is : Option (List ℕ)) (earlier all : List ℕ) (found : Fault) → IsCutText was is earlier all found → (found ≡ fault.Write) ⊎ (found ≡ fault.Memory)
+  cut_why was is earlier all fault.Memory text = inr refl
+  cut_why was is earlier all fault.Write text = inl refl
+  cut_why was is earlier all found text = absurd text
+
+  pub report_read : (found : FaultAt) → IsRunFault report_words source (record { inner = judge }) old then new found
+      → failures then.reader.now ≡ with_read (failures source.reader.now) found.fault
+  unfolding cut_why
+  report_read found (inl stopped) = elim stopped.why [
+    | inl failed ↦ failed.failed
+    | inr (inl (memory, gone, place, gave)) ↦ unread_by (failures source.reader.now) (failures then.reader.now) found.fault (inr memory) gave.sound
+    | inr (inr (large, gave, many)) ↦ subst (λ (f : FaultAt). failures then.reader.now ≡ with_read (failures source.reader.now) f.fault) (sym large) gave.sound
+  ]
+  report_read found (inr cut) =
+      let all = text_of (wording old.0.teller.now) (cut.earlier ++ cut.last ∷ []) in
+      let why : (found.fault ≡ fault.Write) ⊎ (found.fault ≡ fault.Memory) = elim cut.cut [
+        | inl (lines, kept) ↦ cut_why (written old.0.writer.now) (written new.0.writer.now) (text_of (wording old.0.teller.now) lines.earlier) all found.fault lines.text
+        | inr (told, saves) ↦ inl saves.write
+      ] in
+      unread_by (failures source.reader.now) (failures then.reader.now) found.fault why cut.gave.sound
+
+  abbrev Failed : Fault → Type 0
+  Failed found = HaveFailed (writing old.0.writer.now) (writing new.0.writer.now) (saving old.1.saver.now) (saving new.1.saver.now) found
+
+  -- a fault that is of the source
+  unwritten : (order : Order) (read : List ℕ) (judged : List (JudgedBatch Verdict)) (rest : List ℕ) (found : Fault) → IsWhy order read (batches_of judged) rest found
+      → writing new.0.writer.now ≡ writing old.0.writer.now → saving new.1.saver.now ≡ saving old.1.saver.now → Failed found
+  unwritten order read judged rest fault.Memory why same kept = (same, kept)
+  unwritten order read judged rest fault.Read why same kept = (same, kept)
+  unwritten order read judged rest fault.TooLarge why same kept = (same, kept)
+  unwritten order read judged rest (fault.LongRecord number) why same kept = (same, kept)
+  unwritten order read judged rest found why same kept = absurd why
+
+  pub report_write : (found : FaultAt) → IsRunFault report_words source (record { inner = judge }) old then new found
+      → HaveFailed (writing old.0.writer.now) (writing new.0.writer.now) (saving old.1.saver.now) (saving new.1.saver.now) found.fault
+  unfolding unwritten
+  report_write found (inl stopped) =
+      let same = stopped.told.0.sound in
+      let kept = stopped.told.1.sound in
+      elim stopped.why [
+        | inl failed ↦ unwritten source.engine.order failed.some.read stopped.judged failed.rest found.fault failed.why same kept
+        | inr (inl (memory, gone, place, gave)) ↦ subst Failed (sym memory) (same, kept)
+        | inr (inr (large, gave, many)) ↦ subst (λ (f : FaultAt). Failed f.fault) (sym large) (same, kept)
+      ]
+  report_write found (inr cut) = elim cut.cut [
+    | inl (lines, kept) ↦ subst (λ n. HaveFailed (writing old.0.writer.now) (writing new.0.writer.now) (saving old.1.saver.now) n found.fault) (sym kept.told.sound)
+        (report_failed (writing old.0.writer.now) (writing new.0.writer.now) (saving old.1.saver.now) found.fault lines.failed)
+    | inr (told, saves) ↦ saver_failed (writing old.0.writer.now) (writing new.0.writer.now) (saving old.1.saver.now) (saving new.1.saver.now) found.fault told.sound saves.failed saves.write
+  ]
