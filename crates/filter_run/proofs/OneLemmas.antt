@@ -1,8 +1,8 @@
 -- A run over one capture: what its relation says of the capture's bytes and records, whatever the verdicts are.
-use Rattle.std.proofs.Common.{◌≡◌, ◌≢◌, ◌∙◌, ◌+◌, ◌≤◌, ◌++◌, ◌⊎◌, ℕ, List, [], ◌∷◌, None, Option, Some, ap, ap₂, append_assoc, arith, inl, inr, length, refl, subst, sym}
+use Rattle.std.proofs.Common.{◌≡◌, ◌≢◌, ◌∙◌, ◌+◌, ◌≤◌, ◌++◌, ◌⊎◌, ℕ, List, [], ◌∷◌, Option, ap, ap₂, append_assoc, arith, inl, inr, length, refl, subst, sym}
 use Rattle.std.proofs.lemmas.List.{length-map, map-append}
 use Rattle.std.proofs.lemmas.List.Concat.{flat_map-append}
-use Rattle.packet_view.specs.Captures.{AreRecords, RecordFacts, packet_at, packets_at}
+use Rattle.packet_view.specs.Captures.{AreRecords, PacketFacts, RecordFacts, packet_at, packets_at}
 use Rattle.packet_view.specs.declared.capture.Order.{Order}
 use Rattle.packet_view.proofs.FrontLemmas.{records_appended, records_joined}
 use Rattle.packet_view.proofs.RecordListLemmas.{records_within}
@@ -11,9 +11,10 @@ use Rattle.racl_io.specs.declared.fault.Fault.TheVariants as fault
 use Rattle.racl_io.specs.Tellings.{with_write}
 use Rattle.capture_stream.specs.Feeding.{rest_in}
 use Rattle.capture_stream.specs.Lives.{most_live, with_read}
+use Rattle.capture_stream.specs.declared.arrivals.FaultAt.{FaultAt}
 use Rattle.filter_run.specs.Batches.{AreAllWhole, AreEach, BatchFacts, JudgedBatch, batches_of, packets_of, said_of}
-use Rattle.filter_run.specs.OneCapture.{AreNumbered, HasGiven, HasGivenSome, IsWhy, bytes_of, records_of}
-use Rattle.filter_run.specs.Ran.{most}
+use Rattle.filter_run.specs.OneCapture.{AreNumbered, HasFailedBehind, HasGiven, HasGivenAll, HasGivenSome, IsWhy, bytes_of, records_of}
+use Rattle.filter_run.specs.Ran.{HasCutRun, HasStopped, IsRunFault, Words, most, words_of}
 use Rattle.filter_run.specs.declared.one_capture.OneCapture.{OneCapture}
 use Rattle.filter_run.proofs.RunLemmas.{each_total}
 
@@ -94,14 +95,21 @@ many_read bytes failures begun then judged gave each many =
     let count = count_one 0 order judged gave.numbered each in
     elim many [ inl p ↦ omega arith | inr p ↦ omega arith ]
 
--- ---- How often devices failed
+-- ---- Where a run ended early
+
+-- what was given then, and why no more was
+pub record StopsBehind (order : Order) (before after : Option (List ℕ)) (batches : List BatchFacts) (found : Fault) : Type 0 where
+  pub rest : List ℕ
+  pub some : HasGivenSome order before after batches rest
+  pub numbered : AreNumbered 0 order batches
+  pub why : IsWhy order some.read batches rest found
 
 -- a fault that is no read's
-pub unread_by : (n m : ℕ) (found : Fault) → (found ≡ fault.Write) ⊎ (found ≡ fault.Memory) → m ≡ n → m ≡ with_read n found
+unread_by : (n m : ℕ) (found : Fault) → (found ≡ fault.Write) ⊎ (found ≡ fault.Memory) → m ≡ n → m ≡ with_read n found
 unread_by n m found (inl write) same = subst (λ (f : Fault). m ≡ with_read n f) (sym write) same
 unread_by n m found (inr memory) same = subst (λ (f : Fault). m ≡ with_read n f) (sym memory) same
 
--- one that is no write's
+-- one of the source is no write
 pub unwritten_by : (order : Order) (read : List ℕ) (all : List BatchFacts) (rest : List ℕ) (n m : ℕ) (found : Fault) → IsWhy order read all rest found → m ≡ n
     → m ≡ with_write n found
 unwritten_by order read all rest n m fault.Memory why same = same
@@ -109,3 +117,64 @@ unwritten_by order read all rest n m fault.Read why same = same
 unwritten_by order read all rest n m fault.TooLarge why same = same
 unwritten_by order read all rest n m (fault.LongRecord number) why same = same
 unwritten_by order read all rest n m found why same = absurd why
+
+module _ {R J O V : Type 0} (bytes : R → Option (List ℕ)) (failures : R → ℕ) (became : J → List PacketFacts → List V → J → Type 0)
+    (told : O → List (JudgedBatch V) → O → Type 0) (cut : O → List (JudgedBatch V) → Fault → O → Type 0) (source then : OneCapture R) (judge : J) (observer after : O) where
+  -- what a run over it is said by
+  abbrev pub one_words : Words (OneCapture R) J O V
+  one_words = words_of (HasGiven bytes failures) (HasGivenAll bytes failures) (HasFailedBehind bytes failures) became told cut
+
+  pub one_stopped : (found : FaultAt) (stopped : HasStopped one_words source judge observer then after found)
+      → StopsBehind source.engine.order (bytes source.reader.now) (bytes then.reader.now) (batches_of stopped.judged) found.fault
+  one_stopped found stopped =
+      let order = source.engine.order in
+      let batches = batches_of stopped.judged in
+      elim stopped.why [
+        | inl failed ↦ record { rest = failed.rest; some = failed.some; numbered = failed.numbered; why = failed.why }
+        | inr (inl (memory, gone, place, gave)) ↦
+            let numbered = numbered_front 0 order batches (gone ∷ []) gave.numbered in
+            subst (StopsBehind order (bytes source.reader.now) (bytes then.reader.now) batches) (sym memory) (record {
+              rest = bytes_of (gone ∷ []) ++ rest_in then.engine;
+              some = given_front order (bytes source.reader.now) (bytes then.reader.now) batches (gone ∷ []) (rest_in then.engine) numbered stopped.whole gave.some;
+              numbered = numbered;
+              why = tt;
+            })
+        | inr (inr (large, gave, many)) ↦
+            subst (λ (f : FaultAt). StopsBehind order (bytes source.reader.now) (bytes then.reader.now) batches f.fault) (sym large) (record {
+              rest = rest_in then.engine;
+              some = gave.some;
+              numbered = gave.numbered;
+              why = many_read bytes failures source then stopped.judged gave stopped.each many;
+            })
+      ]
+
+  -- of the batches before the last, within which an observer failed
+  pub one_earlier : (found : FaultAt) (ended : HasCutRun one_words source judge observer then after found)
+      → StopsBehind source.engine.order (bytes source.reader.now) (bytes then.reader.now) (batches_of ended.earlier) fault.Memory
+  one_earlier found ended =
+      let order = source.engine.order in
+      let batches = batches_of ended.earlier in
+      let last = batches_of (ended.last ∷ []) in
+      let both = map-append (λ (one : JudgedBatch V). one.batch) ended.earlier (ended.last ∷ []) in
+      let some = subst (λ (bs : List BatchFacts). HasGivenSome order (bytes source.reader.now) (bytes then.reader.now) bs (rest_in then.engine)) both ended.gave.some in
+      let numbered = numbered_front 0 order batches last (subst (AreNumbered 0 order) both ended.gave.numbered) in
+      let whole = whole_front batches last (subst AreAllWhole both ended.whole) in
+      record {
+        rest = bytes_of last ++ rest_in then.engine;
+        some = given_front order (bytes source.reader.now) (bytes then.reader.now) batches last (rest_in then.engine) numbered whole some;
+        numbered = numbered;
+        why = tt;
+      }
+
+  -- how often the reader failed, where an observer fails by a write or for memory
+  pub one_read : (found : FaultAt)
+      → ((batches : List (JudgedBatch V)) → cut observer batches found.fault after → (found.fault ≡ fault.Write) ⊎ (found.fault ≡ fault.Memory))
+      → IsRunFault one_words source judge observer then after found → failures then.reader.now ≡ with_read (failures source.reader.now) found.fault
+  unfolding unread_by
+  one_read found which (inl stopped) = elim stopped.why [
+    | inl failed ↦ failed.failed
+    | inr (inl (memory, gone, place, gave)) ↦ unread_by (failures source.reader.now) (failures then.reader.now) found.fault (inr memory) gave.sound
+    | inr (inr (large, gave, many)) ↦ subst (λ (f : FaultAt). failures then.reader.now ≡ with_read (failures source.reader.now) f.fault) (sym large) gave.sound
+  ]
+  one_read found which (inr ended) =
+      unread_by (failures source.reader.now) (failures then.reader.now) found.fault (which (ended.earlier ++ ended.last ∷ []) ended.cut) ended.gave.sound

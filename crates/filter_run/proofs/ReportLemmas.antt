@@ -1,7 +1,7 @@
 -- The report on one capture, whose packets are told in lines and saved: what the relation of its run says of what was read and
 -- written.
 use Rattle.std.proofs.Common.{◌≡◌, ◌≢◌, ◌∙◌, ◌≤◌, ◌+◌, ◌++◌, ◌⊎◌, ℕ, Bool, List, [], ◌∷◌, Option, ap, ap₂, append-nil, arith, inl, inr, length, refl, subst, sym}
-use Rattle.std.proofs.lemmas.List.{length-map, map-append, same_from_push}
+use Rattle.std.proofs.lemmas.List.{length-map, same_from_push}
 use Rattle.std.proofs.lemmas.List.Sums.{count_by-le-length}
 use Rattle.std.specs.Io.KnownBytes.{Appends}
 use Rattle.packet_view.specs.Captures.{PacketFacts, packet_at, packets_at}
@@ -20,20 +20,20 @@ use Rattle.capture_stream.specs.Feeding.{rest_in}
 use Rattle.capture_stream.specs.Lives.{HaveFailed, with_read}
 use Rattle.capture_stream.specs.Savings.{Manner, Outputs, manner_of, outputs}
 use Rattle.capture_stream.specs.declared.arrivals.FaultAt.{FaultAt}
-use Rattle.filter_run.specs.Batches.{AreAllWhole, AreEach, BatchFacts, JudgedBatch, batches_of, packets_in, packets_of, said_of}
+use Rattle.filter_run.specs.Batches.{AreEach, JudgedBatch, batches_of, packets_in, packets_of, said_of}
 use Rattle.filter_run.specs.CaptureReports.{HasToldAll, HasToldPart, HasToldSome, IsLiveFault}
 use Rattle.filter_run.specs.Filters.{HasSaid}
 use Rattle.filter_run.specs.Lines.{HasCutLines, HasToldLines, IsCutText, text_of}
 use Rattle.filter_run.specs.Observers.{IsBeforeLast}
-use Rattle.filter_run.specs.OneCapture.{AreNumbered, HasFailedBehind, HasGiven, HasGivenAll, HasGivenSome, IsWhy, bytes_of, records_of}
-use Rattle.filter_run.specs.Ran.{HasCutRun, HasStopped, IsRunFault, Ran, Words, words_of}
+use Rattle.filter_run.specs.OneCapture.{AreNumbered, HasGivenSome, IsWhy, bytes_of, records_of}
+use Rattle.filter_run.specs.Ran.{HasCutRun, HasStopped, IsRunFault, Ran, Words}
 use Rattle.filter_run.specs.Saving.{AreOf, HasCutSaves, HasSavedSome}
 use Rattle.filter_run.specs.declared.capture_report.ReportedCapture.{ReportedCapture}
 use Rattle.filter_run.specs.declared.one_capture.OneCapture.{OneCapture}
 use Rattle.filter_run.specs.declared.one_filter.OneFilter.{OneFilter}
 use Rattle.filter_run.specs.declared.saved_records.SavedRecords.{SavedRecords}
 use Rattle.filter_run.specs.declared.told_lines.ToldLines.{ToldLines}
-use Rattle.filter_run.proofs.OneLemmas.{count_one, each_front, given_front, many_read, numbered_front, packets_one, some_packets, unread_by, whole_front}
+use Rattle.filter_run.proofs.OneLemmas.{count_one, each_front, one_earlier, one_read, one_stopped, one_words, packets_one, some_packets}
 use Rattle.filter_run.proofs.TellLemmas.{report_failed, saver_failed, totals_with}
 
 -- ---- What is told, and saved
@@ -63,13 +63,20 @@ module _ {J L K R W : Type 0} (Became : J → List PacketFacts → List Verdict 
     (wording : L → Wording) (saved : K → Order → List ℕ → List Verdict → K → Type 0) (saving : K → ℕ) (bytes : R → Option (List ℕ)) (failures : R → ℕ)
     (written : W → Option (List ℕ)) (writing : W → ℕ) (source then : OneCapture R) (judge : J) (old new : ToldLines L W × SavedRecords K)
     (same_order : old.1.order ≡ source.engine.order) where
+  abbrev said_so : OneFilter J → List PacketFacts → List Verdict → OneFilter J → Type 0
+  said_so begun packets said now = HasSaid Became Judged begun.inner packets said now.inner
+
+  abbrev told_both : ToldLines L W × SavedRecords K → List (JudgedBatch Verdict) → ToldLines L W × SavedRecords K → Type 0
+  told_both begun judged now = HasToldLines wording written writing begun.0 judged now.0 × HasSavedSome saved saving begun.1 judged now.1
+
+  abbrev cut_one : ToldLines L W × SavedRecords K → List (JudgedBatch Verdict) → Fault → ToldLines L W × SavedRecords K → Type 0
+  cut_one begun judged found now =
+      (HasCutLines wording written writing begun.0 judged found now.0 × IsBeforeLast (HasSavedSome saved saving) begun.1 judged now.1)
+      ⊎ (HasToldLines wording written writing begun.0 judged now.0 × HasCutSaves saving begun.1 found now.1)
+
   -- what its run is said by
   abbrev pub report_words : Words (OneCapture R) (OneFilter J) (ToldLines L W × SavedRecords K) Verdict
-  report_words = words_of (HasGiven bytes failures) (HasGivenAll bytes failures) (HasFailedBehind bytes failures)
-      (λ begun packets said now. HasSaid Became Judged begun.inner packets said now.inner)
-      (λ begun judged now. HasToldLines wording written writing begun.0 judged now.0 × HasSavedSome saved saving begun.1 judged now.1)
-      (λ begun judged found now. (HasCutLines wording written writing begun.0 judged found now.0 × IsBeforeLast (HasSavedSome saved saving) begun.1 judged now.1)
-      ⊎ (HasToldLines wording written writing begun.0 judged now.0 × HasCutSaves saving begun.1 found now.1))
+  report_words = one_words bytes failures said_so told_both cut_one source then (record { inner = judge }) old new
 
   abbrev manner : Manner K
   manner = manner_of (wording old.0.teller.now) saved
@@ -157,56 +164,33 @@ module _ {J L K R W : Type 0} (Became : J → List PacketFacts → List Verdict 
 
   -- the run stopped
   stopped_live : (found : FaultAt) → HasStopped report_words source (record { inner = judge }) old then new found → Fails found.fault
-  unfolding why_live some_told
+  unfolding why_live
   stopped_live found stopped =
-      let judged = stopped.judged in
-      let order = source.engine.order in
-      let now = stopped.said.0.inner in
-      let said = stopped.said.1 in
-      elim stopped.why [
-        | inl failed ↦ why_live judged stopped.each failed.numbered now said failed.rest failed.some stopped.told.0.text stopped.told.1 found.fault failed.why
-        | inr (inl (memory, gone, place, gave)) ↦
-            let numbered = numbered_front 0 order (batches_of judged) (gone ∷ []) gave.numbered in
-            let rest = bytes_of (gone ∷ []) ++ rest_in then.engine in
-            let given = given_front order (bytes source.reader.now) (bytes then.reader.now) (batches_of judged) (gone ∷ []) (rest_in then.engine) numbered stopped.whole gave.some in
-            subst Fails (sym memory) (rest, some_told judged stopped.each numbered now said rest given stopped.told.0.text stopped.told.1)
-        | inr (inr (large, gave, many)) ↦
-            let rest = rest_in then.engine in
-            subst (λ (f : FaultAt). Fails f.fault) (sym large)
-            (rest, some_told judged stopped.each gave.numbered now said rest gave.some stopped.told.0.text stopped.told.1,
-            many_read bytes failures source then judged gave stopped.each many)
-      ]
+      let behind = one_stopped bytes failures said_so told_both cut_one source then (record { inner = judge }) old new found stopped in
+      why_live stopped.judged stopped.each behind.numbered stopped.said.0.inner stopped.said.1 behind.rest behind.some stopped.told.0.text stopped.told.1 found.fault behind.why
 
   -- the lines were cut
-  lines_live : (found : Fault) (earlier : List (JudgedBatch Verdict)) (last : JudgedBatch Verdict) → HasGiven bytes failures source (batches_of (earlier ++ last ∷ [])) then
-      → (before : J) → HasSaid Became Judged judge (packets_of earlier) (said_of earlier) before
-      → (now : J) → HasSaid Became Judged judge (packets_of (earlier ++ last ∷ [])) (said_of (earlier ++ last ∷ [])) now
-      → AreEach (earlier ++ last ∷ []) → AreAllWhole (batches_of (earlier ++ last ∷ []))
-      → HasCutLines wording written writing old.0 (earlier ++ last ∷ []) found new.0
-      → IsBeforeLast (HasSavedSome saved saving) old.1 (earlier ++ last ∷ []) new.1 → Fails found
+  lines_live : (found : FaultAt) (which : Fault) (cut : HasCutRun report_words source (record { inner = judge }) old then new found)
+      → HasCutLines wording written writing old.0 (cut.earlier ++ cut.last ∷ []) which new.0
+      → IsBeforeLast (HasSavedSome saved saving) old.1 (cut.earlier ++ cut.last ∷ []) new.1 → Fails which
   unfolding some_told some_part
-  lines_live fault.Memory earlier last gave before said_before now said each whole cut kept =
-      let order = source.engine.order in
-      let both = map-append (λ (one : JudgedBatch Verdict). one.batch) earlier (last ∷ []) in
-      let come = subst (λ (bs : List BatchFacts). HasGivenSome order (bytes source.reader.now) (bytes then.reader.now) bs (rest_in then.engine)) both gave.some in
-      let numbered = numbered_front 0 order (batches_of earlier) (batches_of (last ∷ [])) (subst (AreNumbered 0 order) both gave.numbered) in
-      let all_whole = whole_front (batches_of earlier) (batches_of (last ∷ [])) (subst AreAllWhole both whole) in
-      let rest = bytes_of (batches_of (last ∷ [])) ++ rest_in then.engine in
-      let given = given_front order (bytes source.reader.now) (bytes then.reader.now) (batches_of earlier) (batches_of (last ∷ [])) (rest_in then.engine) numbered all_whole come in
+  lines_live found fault.Memory cut lines kept =
+      let behind = one_earlier bytes failures said_so told_both cut_one source then (record { inner = judge }) old new found cut in
       let text = subst (λ (js : List (JudgedBatch Verdict)). Appends (written old.0.writer.now) (written new.0.writer.now) (text_of (wording old.0.teller.now) js))
-      (sym (same_from_push earlier cut.earlier last cut.last cut.all).0) cut.text in
-      let told = subst (λ (js : List (JudgedBatch Verdict)). HasSavedSome saved saving old.1 js new.1) (sym (same_from_push earlier kept.earlier last kept.last kept.all).0) kept.told in
-      (rest, some_told earlier (each_front earlier (last ∷ []) each) numbered before said_before rest given text told)
-  lines_live fault.Write earlier last gave before said_before now said each whole cut kept =
-      some_part (earlier ++ last ∷ []) each gave.numbered now said (rest_in then.engine) gave.some cut.text
-  lines_live found earlier last gave before said_before now said each whole cut kept = absurd cut.text
+      (sym (same_from_push cut.earlier lines.earlier cut.last lines.last lines.all).0) lines.text in
+      let told = subst (λ (js : List (JudgedBatch Verdict)). HasSavedSome saved saving old.1 js new.1) (sym (same_from_push cut.earlier kept.earlier cut.last kept.last kept.all).0)
+      kept.told in
+      (behind.rest, some_told cut.earlier (each_front cut.earlier (cut.last ∷ []) cut.each) behind.numbered cut.before.0.inner cut.before.1 behind.rest behind.some text told)
+  lines_live found fault.Write cut lines kept =
+      some_part (cut.earlier ++ cut.last ∷ []) cut.each cut.gave.numbered cut.said.0.inner cut.said.1 (rest_in then.engine) cut.gave.some lines.text
+  lines_live found which cut lines kept = absurd lines.text
 
   cut_live : (found : FaultAt) → HasCutRun report_words source (record { inner = judge }) old then new found → Fails found.fault
   unfolding lines_live some_part
   cut_live found cut =
       let judged = cut.earlier ++ cut.last ∷ [] in
       elim cut.cut [
-        | inl (lines, kept) ↦ lines_live found.fault cut.earlier cut.last cut.gave cut.before.0.inner cut.before.1 cut.said.0.inner cut.said.1 cut.each cut.whole lines kept
+        | inl (lines, kept) ↦ lines_live found found.fault cut lines kept
         | inr (told, saves) ↦ subst Fails (sym saves.write)
             (some_part judged cut.each cut.gave.numbered cut.said.0.inner cut.said.1 (rest_in then.engine) cut.gave.some
             (text_of (wording old.0.teller.now) judged, [], sym (append-nil (text_of (wording old.0.teller.now) judged)), told.text))
@@ -266,21 +250,17 @@ module _ {J L K R W : Type 0} (Became : J → List PacketFacts → List Verdict 
   cut_why was is earlier all fault.Write text = inl refl
   cut_why was is earlier all found text = absurd text
 
+  which_cut : (found : Fault) (judged : List (JudgedBatch Verdict)) → cut_one old judged found new → (found ≡ fault.Write) ⊎ (found ≡ fault.Memory)
+  unfolding cut_why
+  which_cut found judged (inl (lines, kept)) =
+      cut_why (written old.0.writer.now) (written new.0.writer.now) (text_of (wording old.0.teller.now) lines.earlier) (text_of (wording old.0.teller.now) judged) found lines.text
+  which_cut found judged (inr (told, saves)) = inl saves.write
+
   pub report_read : (found : FaultAt) → IsRunFault report_words source (record { inner = judge }) old then new found
       → failures then.reader.now ≡ with_read (failures source.reader.now) found.fault
-  unfolding cut_why
-  report_read found (inl stopped) = elim stopped.why [
-    | inl failed ↦ failed.failed
-    | inr (inl (memory, gone, place, gave)) ↦ unread_by (failures source.reader.now) (failures then.reader.now) found.fault (inr memory) gave.sound
-    | inr (inr (large, gave, many)) ↦ subst (λ (f : FaultAt). failures then.reader.now ≡ with_read (failures source.reader.now) f.fault) (sym large) gave.sound
-  ]
-  report_read found (inr cut) =
-      let all = text_of (wording old.0.teller.now) (cut.earlier ++ cut.last ∷ []) in
-      let why : (found.fault ≡ fault.Write) ⊎ (found.fault ≡ fault.Memory) = elim cut.cut [
-        | inl (lines, kept) ↦ cut_why (written old.0.writer.now) (written new.0.writer.now) (text_of (wording old.0.teller.now) lines.earlier) all found.fault lines.text
-        | inr (told, saves) ↦ inl saves.write
-      ] in
-      unread_by (failures source.reader.now) (failures then.reader.now) found.fault why cut.gave.sound
+  unfolding which_cut
+  report_read found wrong =
+      one_read bytes failures said_so told_both cut_one source then (record { inner = judge }) old new found (which_cut found.fault) wrong
 
   abbrev Failed : Fault → Type 0
   Failed found = HaveFailed (writing old.0.writer.now) (writing new.0.writer.now) (saving old.1.saver.now) (saving new.1.saver.now) found
@@ -310,3 +290,45 @@ module _ {J L K R W : Type 0} (Became : J → List PacketFacts → List Verdict 
         (report_failed (writing old.0.writer.now) (writing new.0.writer.now) (saving old.1.saver.now) found.fault lines.failed)
     | inr (told, saves) ↦ saver_failed (writing old.0.writer.now) (writing new.0.writer.now) (saving old.1.saver.now) (saving new.1.saver.now) found.fault told.sound saves.failed saves.write
   ]
+
+-- ---- The same by what was lent
+
+-- what the source and the observers had when they began, and when they ended
+pub record AreLent {L K R W : Type 0} (source then : OneCapture R) (old new : ToldLines L W × SavedRecords K) (order : Order) (reader left : R) (teller : L)
+    (writer wrote : W) (saver kept : K) : Type 0 where
+  pub same_order : source.engine.order ≡ order
+  pub saves_order : old.1.order ≡ order
+  pub read : source.reader.now ≡ reader
+  pub words : old.0.teller.now ≡ teller
+  pub write : old.0.writer.now ≡ writer
+  pub save : old.1.saver.now ≡ saver
+  pub left_is : then.reader.now ≡ left
+  pub wrote_is : new.0.writer.now ≡ wrote
+  pub kept_is : new.1.saver.now ≡ kept
+
+module _ {J L K R W : Type 0} (Became : J → List PacketFacts → List Verdict → J → Type 0) (Judged : J → List PacketFacts → List Verdict → Type 0)
+    (wording : L → Wording) (saved : K → Order → List ℕ → List Verdict → K → Type 0) (saving : K → ℕ) (bytes : R → Option (List ℕ)) (failures : R → ℕ)
+    (written : W → Option (List ℕ)) (writing : W → ℕ) (source then : OneCapture R) (judge : J) (old new : ToldLines L W × SavedRecords K)
+    (order : Order) (reader left : R) (teller : L) (writer wrote : W) (saver kept : K) (lent : AreLent source then old new order reader left teller writer wrote saver kept) where
+  pub fault_lent : (found : FaultAt)
+      → IsRunFault (report_words Became Judged wording saved saving bytes failures written writing source then judge old new (lent.saves_order ∙ sym lent.same_order)) source
+      (record { inner = judge }) old then new found
+      → IsLiveFault Judged (manner_of (wording teller) saved) judge order (bytes reader) (bytes left) (outputs (written writer) saver) (outputs (written wrote) kept) found.fault
+  fault_lent found wrong =
+      subst (λ (k : K). IsLiveFault Judged (manner_of (wording teller) saved) judge order (bytes reader) (bytes left) (outputs (written writer) saver) (outputs (written wrote) k) found.fault)
+      lent.kept_is
+      (subst (λ (w : W). IsLiveFault Judged (manner_of (wording teller) saved) judge order (bytes reader) (bytes left) (outputs (written writer) saver)
+      (outputs (written w) new.1.saver.now) found.fault) lent.wrote_is
+      (subst (λ (k : K). IsLiveFault Judged (manner_of (wording teller) saved) judge order (bytes reader) (bytes left) (outputs (written writer) k)
+      (outputs (written new.0.writer.now) new.1.saver.now) found.fault) lent.save
+      (subst (λ (w : W). IsLiveFault Judged (manner_of (wording teller) saved) judge order (bytes reader) (bytes left) (outputs (written w) old.1.saver.now)
+      (outputs (written new.0.writer.now) new.1.saver.now) found.fault) lent.write
+      (subst (λ (r : R). IsLiveFault Judged (manner_of (wording teller) saved) judge order (bytes reader) (bytes r) (outputs (written old.0.writer.now) old.1.saver.now)
+      (outputs (written new.0.writer.now) new.1.saver.now) found.fault) lent.left_is
+      (subst (λ (r : R). IsLiveFault Judged (manner_of (wording teller) saved) judge order (bytes r) (bytes then.reader.now) (outputs (written old.0.writer.now) old.1.saver.now)
+      (outputs (written new.0.writer.now) new.1.saver.now) found.fault) lent.read
+      (subst (λ (o : Order). IsLiveFault Judged (manner_of (wording teller) saved) judge o (bytes source.reader.now) (bytes then.reader.now)
+      (outputs (written old.0.writer.now) old.1.saver.now) (outputs (written new.0.writer.now) new.1.saver.now) found.fault) lent.same_order
+      (subst (λ (l : L). IsLiveFault Judged (manner_of (wording l) saved) judge source.engine.order (bytes source.reader.now) (bytes then.reader.now)
+      (outputs (written old.0.writer.now) old.1.saver.now) (outputs (written new.0.writer.now) new.1.saver.now) found.fault) lent.words
+      (report_fault Became Judged wording saved saving bytes failures written writing source then judge old new (lent.saves_order ∙ sym lent.same_order) found wrong))))))))
