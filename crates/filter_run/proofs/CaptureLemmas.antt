@@ -18,6 +18,7 @@ use Rattle.racl_io.specs.declared.totals_and_truncation.Captured.{Captured}
 use Rattle.capture_stream.specs.Feeding.{rest_in}
 use Rattle.capture_stream.specs.Lives.{most_live, with_read}
 use Rattle.capture_stream.specs.inner.Feedings.{HasGot, IsBegun, IsCutAt, IsLongAt, IsUnread}
+use Rattle.capture_stream.specs.declared.engine.Engine.{Engine}
 use Rattle.filter_run.specs.Batches.{BatchFacts, IsWhole, batch_facts}
 use Rattle.filter_run.specs.OneCapture.{AreNumbered, HasFailedBehind, HasGiven, HasGivenAll, HasGivenSome, HasParted, IsWhy, bytes_of, records_of}
 use Rattle.filter_run.specs.declared.batch.Batch.{Batch}
@@ -32,6 +33,10 @@ numbered_push n order [] batch are others same at = (let e = others in omega ari
 numbered_push n order (first ∷ batches) batch (behind, same_first, at_first, are) others same at =
     let both = length-append first.records (records_of batches) in
     (behind, same_first, at_first, numbered_push (n + length first.records) order batches batch are (let e = others in omega arith) same at)
+
+-- one whose reader and engine are these after a read
+abbrev pub behind_read : {R : Type 0} → OneCapture R → R → Engine Nobody → OneCapture R
+behind_read old reader engine = record old { reader = record old.reader { now = reader }; engine = engine }
 
 -- nothing was read
 pub given_none : {R : Type 0} (bytes : R → Option (List ℕ)) (failures : R → ℕ) (capture : OneCapture R) (nobody : Nobody) (order : Order)
