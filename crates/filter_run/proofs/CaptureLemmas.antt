@@ -7,7 +7,7 @@ use Rattle.packet_view.specs.Captures.{AreRecords, RecordFacts}
 use Rattle.packet_view.specs.Fronts.{Stops}
 use Rattle.packet_view.specs.declared.capture.Order.{Order}
 use Rattle.packet_view.specs.declared.records_at_front.Stop.{Stop}
-use Rattle.packet_view.specs.declared.records_at_front.Stop.TheVariants.{End, TooLong}
+use Rattle.packet_view.specs.declared.records_at_front.Stop.TheVariants.{End}
 use Rattle.packet_view.proofs.FrontLemmas.{records_appended, records_joined}
 use Rattle.packet_view.proofs.RecordListLemmas.{packets_count, records_within}
 use Rattle.racl_io.specs.Buffers.{held_by}
@@ -17,7 +17,7 @@ use Rattle.racl_io.specs.declared.fault.Fault.TheVariants as fault
 use Rattle.racl_io.specs.declared.totals_and_truncation.Captured.{Captured}
 use Rattle.capture_stream.specs.Feeding.{rest_in}
 use Rattle.capture_stream.specs.Lives.{most_live, with_read}
-use Rattle.capture_stream.specs.inner.Feedings.{HasGot, IsBegun, IsCutAt, IsLongAt, IsUnread}
+use Rattle.capture_stream.specs.inner.Feedings.{HasGot, IsBegun, IsCutAt, IsUnread}
 use Rattle.capture_stream.specs.declared.engine.Engine.{Engine}
 use Rattle.filter_run.specs.Batches.{BatchFacts, IsWhole, batch_facts}
 use Rattle.filter_run.specs.OneCapture.{AreNumbered, HasFailedBehind, HasGiven, HasGivenAll, HasGivenSome, HasParted, IsWhy, bytes_of, records_of}
@@ -73,19 +73,7 @@ module _ {R : Type 0} (bytes : R → Option (List ℕ)) (failures : R → ℕ) (
   unfolding given_few
   given_packets = let few = given_few in let bound = is.bound in omega arith
 
-  -- a record is too long
-  pub given_long : (found : Fault) → IsLongAt old.stop old.engine.packets found → HasFailedBehind bytes failures begun batches (record { fault = found; interface = None }) old
-  given_long found (long, same) = record {
-    same = is.same;
-    rest = rest_in old.engine;
-    some = is.some;
-    numbered = is.numbered;
-    place = refl;
-    why = subst (IsWhy begun.engine.order is.some.read batches (rest_in old.engine)) (sym same)
-        (subst (λ (o : Order). Stops o (rest_in old.engine) TooLong) is.order (subst (Stops old.engine.order (rest_in old.engine)) long is.stops), ap (λ n. n + 1) is.packets);
-    failed = subst (λ (f : Fault). failures old.reader.now ≡ with_read (failures begun.reader.now) f) (sym same) is.sound;
-  }
-
+  -- so much was read that no more is
   pub given_large : most_live ≤ old.read → HasFailedBehind bytes failures begun batches (record { fault = fault.TooLarge; interface = None }) old
   given_large many = record {
     same = is.same;
@@ -98,7 +86,8 @@ module _ {R : Type 0} (bytes : R → Option (List ℕ)) (failures : R → ℕ) (
   }
 
   -- a read failed
-  pub given_unread : (new : OneCapture R) (truncated : Bool) (found : Fault) → new.reader.ghost_name ≡ old.reader.ghost_name → IsCutAt old.stop truncated → IsUnread (bytes old.reader.now) (bytes new.reader.now) found
+  pub given_unread : (new : OneCapture R) (truncated : Bool) (found : Fault) → new.reader.ghost_name ≡ old.reader.ghost_name → IsCutAt old.stop truncated
+      → IsUnread (bytes old.reader.now) (bytes new.reader.now) found
       → failures new.reader.now ≡ with_read (failures old.reader.now) found → HasFailedBehind bytes failures begun batches (record { fault = found; interface = None }) new
   given_unread new truncated found name ends (kept, which) failed =
       let some : HasGivenSome begun.engine.order (bytes begun.reader.now) (bytes new.reader.now) batches (rest_in old.engine) = record {
@@ -123,7 +112,8 @@ module _ {R : Type 0} (bytes : R → Option (List ℕ)) (failures : R → ℕ) (
 
   -- some bytes were read
   module _ (new : OneCapture R) (n : ℕ) (name : new.reader.ghost_name ≡ old.reader.ghost_name)
-      (got : HasGot (bytes old.reader.now) (bytes new.reader.now) old.engine new.engine 8388608 n) (sound : failures new.reader.now ≡ failures old.reader.now) where
+      (got : HasGot (bytes old.reader.now) (bytes new.reader.now) old.engine new.engine 8388608 n)
+      (sound : failures new.reader.now ≡ failures old.reader.now) where
     then_read : List ℕ
     then_read = is.some.read ++ got.read
 
@@ -192,7 +182,8 @@ module _ {R : Type 0} (bytes : R → Option (List ℕ)) (failures : R → ℕ) (
       parted_records : AreRecords begun.engine.order then_read (records_of (batches ++ batch_facts batch ∷ [])) (rest_in last.engine)
       unfolding then_read then_records
       parted_records =
-          subst (λ (rs : List RecordFacts). AreRecords begun.engine.order then_read rs (rest_in last.engine)) (sym (flat_push (λ (b : BatchFacts). b.records) batches (batch_facts batch)))
+          subst (λ (rs : List RecordFacts). AreRecords begun.engine.order then_read rs (rest_in last.engine))
+          (sym (flat_push (λ (b : BatchFacts). b.records) batches (batch_facts batch)))
           (records_joined begun.engine.order then_read (records_of batches) (batch_facts batch).records (rest_in new.engine) (rest_in last.engine) then_records
           (subst (λ (o : Order). AreRecords o (rest_in new.engine) (batch_facts batch).records (rest_in last.engine)) (got.longer.order ∙ is.order) parted.records))
 
@@ -243,7 +234,10 @@ module _ {R : Type 0} (bytes : R → Option (List ℕ)) (failures : R → ℕ) (
         order = parted.same_order ∙ got.longer.order ∙ is.order;
         interface = parted.same_interface ∙ got.longer.interface ∙ is.interface;
         size = let both = length-append is.some.read got.read in let before = is.size in let more = got.size in omega arith;
-        parts = let both = length-append is.some.read got.read in let before = is.parts in let more = got.size in let pushed = length-append batches (batch_facts batch ∷ []) in omega arith;
+        parts =
+            let both = length-append is.some.read got.read in
+            let before = is.parts in let more = got.size in let pushed = length-append batches (batch_facts batch ∷ []) in
+            omega arith;
         bound = let few = got.few in omega arith;
         found = parted.found;
         stops = parted.stops;
