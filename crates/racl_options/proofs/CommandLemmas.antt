@@ -58,32 +58,32 @@ module _ (c : Command) (is : app_of c ≡ racl) where
   rules_are : map rule_of (args_of c) ≡ racl.top.rules
   rules_are = ap (λ (a : App). a.top.rules) is
 
-  all_args : length (args_of c) ≡ 21
+  all_args : length (args_of c) ≡ 20
   all_args = sym (length-map (args_of c) rule_of) ∙ ap length rules_are
 
-  rule_at : (k : ℕ) (d : Arg) → k < 21 → rule_of (slice_index_or (args_of c) k d) ≡ slice_index_or racl.top.rules k (rule_of d)
+  rule_at : (k : ℕ) (d : Arg) → k < 20 → rule_of (slice_index_or (args_of c) k d) ≡ slice_index_or racl.top.rules k (rule_of d)
   rule_at k d lt =
       let below : k < length (args_of c) = rw all_args lt in
       sym (get_or-map rule_of (args_of c) k d (rule_of d) below) ∙ ap (λ rs. slice_index_or rs k (rule_of d)) rules_are
 
   -- where the id of an argument stands among the ids
-  id_at : (k : ℕ) (d : Arg) (t : Text) → k < 21 → slice_index_or ids (suc (suc (suc k))) t ≡ (slice_index_or (args_of c) k d).id.now
+  id_at : (k : ℕ) (d : Arg) (t : Text) → k < 20 → slice_index_or ids (suc (suc (suc k))) t ≡ (slice_index_or (args_of c) k d).id.now
   id_at k d t lt = get_or-map (λ (r : Rule). r.id) racl.top.rules k (rule_of d) t lt ∙ sym (ap (λ (r : Rule). r.id) (rule_at k d lt))
 
   -- no argument has the id of one that stands elsewhere
-  unique : (j k : ℕ) (d e : Arg) → j < 21 → k < 21 → (slice_index_or (args_of c) j e).id.now ≡ (slice_index_or (args_of c) k d).id.now → j ≡ k
+  unique : (j k : ℕ) (d e : Arg) → j < 20 → k < 20 → (slice_index_or (args_of c) j e).id.now ≡ (slice_index_or (args_of c) k d).id.now → j ≡ k
   unique j k d e j_in k_in same =
       let places : suc (suc (suc j)) ≡ suc (suc (suc k)) = same_place _ _ [] (omega arith) (omega arith) (id_at j e [] j_in ∙ same ∙ sym (id_at k d [] k_in)) in
       omega arith
 
   -- nor one of the ids that stand before the options'
-  own : (j k : ℕ) (d : Arg) → j < 3 → k < 21 → (slice_index_or (args_of c) k d).id.now ≡ slice_index_or ids j [] → ⊥
+  own : (j k : ℕ) (d : Arg) → j < 3 → k < 20 → (slice_index_or (args_of c) k d).id.now ≡ slice_index_or ids j [] → ⊥
   own j k d j_in k_in same =
       let places : j ≡ suc (suc (suc k)) = same_place _ _ [] (omega arith) (omega arith) (sym same ∙ sym (id_at k d [] k_in)) in
       absurd (omega arith)
 
   -- the matches hold a number for the option at a place
-  held_at : (m : ArgMatches) → IsParsedFrom c m → (k : ℕ) (d : Arg) (o : OptionName) → k < 21 → slice_index_or racl.top.rules k (rule_of d) ≡ number_rule o
+  held_at : (m : ArgMatches) → IsParsedFrom c m → (k : ℕ) (d : Arg) (o : OptionName) → k < 20 → slice_index_or racl.top.rules k (rule_of d) ≡ number_rule o
       → HoldsNumber (most_of o) (one_text (found_of m) (name_of o))
   held_at m p k d o lt here =
       let plain = plain_fields c (ap (λ (a : App). a.top.is_plain) is) in
@@ -147,9 +147,8 @@ one_setting values a b p q =
     let hits : a.hits ≡ b.hits = sym p.hits ∙ q.hits in
     let sessions : a.sessions ≡ b.sessions = sym p.sessions ∙ q.sessions in
     let live : a.live ≡ b.live = sym p.live ∙ q.live in
-    let any_length : a.any_length ≡ b.any_length = sym p.any_length ∙ q.any_length in
     let ages : a.ages ≡ b.ages = sym p.ages ∙ q.ages in
-    λ i. record { workers = workers i; established = established i; transient = transient i; udp = udp i; tables = tables i; shown = shown i; lines = lines i; hits = hits i; sessions = sessions i; live = live i; any_length = any_length i; ages = ages i }
+    λ i. record { workers = workers i; established = established i; transient = transient i; udp = udp i; tables = tables i; shown = shown i; lines = lines i; hits = hits i; sessions = sessions i; live = live i; ages = ages i }
 
 -- what a parse holds says one thing
 pub one_saying : (values : Values) (a b : AskedFacts) → AskBy values a → AskBy values b → a ≡ b

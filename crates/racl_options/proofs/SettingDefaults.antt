@@ -15,7 +15,7 @@ use Rattle.clap.specs.declared.error.kind.ErrorKind.{ErrorKind}
 use Rattle.clap.specs.declared.parser.matches.ValueSource.TheVariants.{DefaultValue}
 use Rattle.clap.proofs.OnLiterals.{clap_on_literals}
 use Rattle.racl_options.specs.CommandLine.{OptionName, Workers, Established, Transient, Udp, default_of, name_of, racl}
-use Rattle.racl_options.specs.Selections.{FlagName, Summary, Hits, Sessions, Explain, JsonLines, Live, AnyLength, Age, flag_id}
+use Rattle.racl_options.specs.Selections.{FlagName, Summary, Hits, Sessions, Explain, JsonLines, Live, Age, flag_id}
 use Rattle.racl_options.specs.inner.Commands.{drops_id, expect_id, only_id, passes_id, shard_id, tables_id}
 use Rattle.racl_options.proofs.NameWalks.{has_row_behind}
 use Rattle.racl_options.proofs.SettingWalks.{at_row_missing, between, capture_filled, default_row, filled_rule, flag_filled, interface_filled, policy_filled, top, value_filled}
@@ -45,7 +45,6 @@ flag_passes Sessions rows = pass_either _ _ refl
 flag_passes Explain rows = pass_either _ _ refl
 flag_passes JsonLines rows = pass_either _ _ refl
 flag_passes Live rows = pass_either _ _ refl
-flag_passes AnyLength rows = pass_either _ _ refl
 flag_passes Age rows = pass_either _ _ refl
 
 -- nor does an argument that has none
@@ -76,7 +75,7 @@ abbrev pub udp_filled : List Row → List Row
 udp_filled rows = with_default (transient_filled rows) (filled_rule Udp)
 
 abbrev flags : List FlagName
-flags = Summary ∷ Hits ∷ Sessions ∷ Explain ∷ JsonLines ∷ Live ∷ AnyLength ∷ Age ∷ []
+flags = Summary ∷ Hits ∷ Sessions ∷ Explain ∷ JsonLines ∷ Live ∷ Age ∷ []
 
 flags_pass : (fs : List FlagName) (rs : List Rule) → PassEach rs → PassEach (map flag_filled fs ++ rs)
 flags_pass [] rs pass = pass
@@ -233,7 +232,6 @@ flag_added Sessions rows none = rw none (at_row_missing (flag_id Sessions) (more
 flag_added Explain rows none = rw none (at_row_missing (flag_id Explain) (more_values DefaultValue (codes "false" ∷ [])) _ rows none)
 flag_added JsonLines rows none = rw none (at_row_missing (flag_id JsonLines) (more_values DefaultValue (codes "false" ∷ [])) _ rows none)
 flag_added Live rows none = rw none (at_row_missing (flag_id Live) (more_values DefaultValue (codes "false" ∷ [])) _ rows none)
-flag_added AnyLength rows none = rw none (at_row_missing (flag_id AnyLength) (more_values DefaultValue (codes "false" ∷ [])) _ rows none)
 flag_added Age rows none = rw none (at_row_missing (flag_id Age) (more_values DefaultValue (codes "false" ∷ [])) _ rows none)
 
 -- none of these was given, one after the other
@@ -253,7 +251,6 @@ all_left_out rows out =
     let three : List Row = two ++ flag_row Sessions ∷ [] in
     let four : List Row = three ++ flag_row Explain ∷ [] in
     let five : List Row = four ++ flag_row JsonLines ∷ [] in
-    let six : List Row = five ++ flag_row Live ∷ [] in
     let hits = has_row_behind (flag_id Hits) rows (flag_row Summary) (out Hits) refl in
     let sessions = has_row_behind (flag_id Sessions) one (flag_row Hits) (has_row_behind (flag_id Sessions) rows (flag_row Summary) (out Sessions) refl) refl in
     let explain = has_row_behind (flag_id Explain) two (flag_row Sessions) (has_row_behind (flag_id Explain) one (flag_row Hits)
@@ -262,13 +259,10 @@ all_left_out rows out =
     (has_row_behind (flag_id JsonLines) one (flag_row Hits) (has_row_behind (flag_id JsonLines) rows (flag_row Summary) (out JsonLines) refl) refl) refl) refl in
     let live = has_row_behind (flag_id Live) four (flag_row JsonLines) (has_row_behind (flag_id Live) three (flag_row Explain) (has_row_behind (flag_id Live) two (flag_row Sessions)
     (has_row_behind (flag_id Live) one (flag_row Hits) (has_row_behind (flag_id Live) rows (flag_row Summary) (out Live) refl) refl) refl) refl) refl in
-    let any = has_row_behind (flag_id AnyLength) five (flag_row Live) (has_row_behind (flag_id AnyLength) four (flag_row JsonLines) (has_row_behind (flag_id AnyLength) three (flag_row Explain)
-    (has_row_behind (flag_id AnyLength) two (flag_row Sessions) (has_row_behind (flag_id AnyLength) one (flag_row Hits)
-    (has_row_behind (flag_id AnyLength) rows (flag_row Summary) (out AnyLength) refl) refl) refl) refl) refl) refl in
-    let age = has_row_behind (flag_id Age) six (flag_row AnyLength) (has_row_behind (flag_id Age) five (flag_row Live) (has_row_behind (flag_id Age) four (flag_row JsonLines)
-    (has_row_behind (flag_id Age) three (flag_row Explain) (has_row_behind (flag_id Age) two (flag_row Sessions) (has_row_behind (flag_id Age) one (flag_row Hits)
-    (has_row_behind (flag_id Age) rows (flag_row Summary) (out Age) refl) refl) refl) refl) refl) refl) refl in
-    (out Summary, (hits, (sessions, (explain, (json, (live, (any, (age, tt))))))))
+    let age = has_row_behind (flag_id Age) five (flag_row Live) (has_row_behind (flag_id Age) four (flag_row JsonLines) (has_row_behind (flag_id Age) three (flag_row Explain)
+    (has_row_behind (flag_id Age) two (flag_row Sessions) (has_row_behind (flag_id Age) one (flag_row Hits)
+    (has_row_behind (flag_id Age) rows (flag_row Summary) (out Age) refl) refl) refl) refl) refl) refl in
+    (out Summary, (hits, (sessions, (explain, (json, (live, (age, tt)))))))
 
 -- ---- all defaults
 
@@ -329,7 +323,6 @@ flag_filled_in f rows other none = find_both (flag_id f) (udp_filled rows) flag_
     here Explain = refl
     here JsonLines = refl
     here Live = refl
-    here AnyLength = refl
     here Age = refl
 
 pub other_left : (id : Text) (rows : List Row) → IsOther id → find_row id flag_rows ≡ None → find_row id (udp_filled rows ++ flag_rows) ≡ find_row id rows

@@ -15,9 +15,9 @@ use Rattle.clap.specs.Walk.{Held, has_row, nothing_held, row_text, settled, walk
 use Rattle.clap.specs.Words.{IsSignedIn, Row, Text, matches_of, without_minus}
 use Rattle.clap.specs.declared.builder.value_parser.ValueParser.TheVariants.{Signed}
 use Rattle.clap.proofs.ValueTestLemmas.{Accepts-accepts}
-use Rattle.racl_options.specs.Asking.{AskForRun, can_be_told_early}
+use Rattle.racl_options.specs.Asking.{AskForRun, can_be_live}
 use Rattle.racl_options.specs.CommandLine.{IsInRange, OptionName, Workers, Established, Transient, Udp, Spells, default_of, has_flag, most_of, name_of, number_of, racl, values_at}
-use Rattle.racl_options.specs.Selections.{FlagName, Summary, Hits, Sessions, Explain, JsonLines, Live, AnyLength, Age, flag_id, is_given, lines_by, shown_by}
+use Rattle.racl_options.specs.Selections.{FlagName, Summary, Hits, Sessions, Explain, JsonLines, Live, Age, flag_id, is_given, lines_by, shown_by}
 use Rattle.racl_options.specs.Sizes.{size_by}
 use Rattle.racl_options.specs.Options.{AreNames, AreSettings, Setting, Use, asked_as, sets, value_at, values_of, words_as}
 use Rattle.racl_options.specs.Origins.{Name, OriginFacts}
@@ -240,10 +240,6 @@ no_flag Live Workers = refl
 no_flag Live Established = refl
 no_flag Live Transient = refl
 no_flag Live Udp = refl
-no_flag AnyLength Workers = refl
-no_flag AnyLength Established = refl
-no_flag AnyLength Transient = refl
-no_flag AnyLength Udp = refl
 no_flag Age Workers = refl
 no_flag Age Established = refl
 no_flag Age Transient = refl
@@ -291,7 +287,6 @@ flag_is_no_file Sessions = (refl, refl, refl)
 flag_is_no_file Explain = (refl, refl, refl)
 flag_is_no_file JsonLines = (refl, refl, refl)
 flag_is_no_file Live = (refl, refl, refl)
-flag_is_no_file AnyLength = (refl, refl, refl)
 flag_is_no_file Age = (refl, refl, refl)
 
 option_found : (o : OptionName) (rows : List Row) (uses : List Use) (names : List Text) → find_row (name_of o) (rows ++ other_rows uses names) ≡ find_row (name_of o) rows
@@ -331,7 +326,7 @@ captures_are (u ∷ us) (p ∷ c ∷ names) = refl
 -- words that set options and name files as a user writes them ask for what they say
 words_ask : (program : Text) (ss : List Setting) (uses : List Use) (names : List Text) (origin : OriginFacts) → AreSettings ss → AreNames names → Name (slice_get names 0) (slice_get names 1) (values_of uses) origin
     → AskForRun (program ∷ words_as ss uses names) (asked_as ss origin)
-unfolding walk_fault can_be_told_early
+unfolding walk_fault can_be_live
 words_ask program ss uses names origin are named says = record {
   faultless = fault_is program words ∙ ap₂ end_fault faultless_walk walked_is ∙ ends_well ends.last ends.runs ends.settles;
   asks = record {
@@ -346,7 +341,6 @@ words_ask program ss uses names origin are named says = record {
       hits = no_flag_given Hits;
       sessions = no_flag_given Sessions;
       live = no_flag_given Live;
-      any_length = no_flag_given AnyLength;
       ages = no_flag_given Age;
     };
     names = rw (policy_named, capture_named, captures_named) says;

@@ -57,9 +57,9 @@ are_named FromStandard = false
 are_named (FromFiles policy capture) = true
 are_named (FromInterfaces policy captures) = true
 
--- lines can be written before all is read: of captures in files that come, and of one in a file that may have any length
-unfoldable pub can_be_told_early : OptionFacts → OriginFacts → Bool
-can_be_told_early options origin = (not options.live || are_named origin) && (not options.any_length || are_files origin)
+-- lines can be written as packets come: of captures in files
+unfoldable pub can_be_live : OptionFacts → OriginFacts → Bool
+can_be_live options origin = not options.live || are_named origin
 
 -- each packet has its plain line, and nothing is told behind the totals
 abbrev pub is_each : Shown → Bool
@@ -69,7 +69,7 @@ is_each Dropped = false
 is_each Nothing = false
 
 abbrev pub are_verdicts_told : OptionFacts → Bool
-are_verdicts_told options = is_each options.shown && (is_plain options.lines && (not options.hits && (not options.sessions && (not options.live && not options.any_length))))
+are_verdicts_told options = is_each options.shown && (is_plain options.lines && (not options.hits && (not options.sessions && not options.live)))
 
 -- a file can be read beside those of a policy and a capture: one of the three at most is standard input
 abbrev pub is_beside : Text → OriginFacts → Bool
@@ -88,11 +88,11 @@ abbrev pub can_be_shared : Option ShardFacts → AskedFacts → Bool
 can_be_shared None asked = true
 can_be_shared (Some shard) asked = are_files asked.origin && (not asked.options.live && is_none asked.expected)
 
--- Packets are saved of the capture in a file, and in two files. Lines are written early only where they can be, a shard is asked
--- for only where its packets can be judged, and `--expect` only where what is expected can be compared.
+-- Packets are saved of the capture in a file, and in two files. Lines are written as packets come only where they can be, a
+-- shard is asked for only where its packets can be judged, and `--expect` only where what is expected can be compared.
 abbrev pub fit_together : AskedFacts → Bool
 fit_together asked = (not (is_saved asked) || are_files asked.origin)
-    && (not (is_shared asked.drops asked.passes) && (can_be_told_early asked.options asked.origin
+    && (not (is_shared asked.drops asked.passes) && (can_be_live asked.options asked.origin
     && (can_be_shared asked.shard asked && can_be_expected asked.expected asked)))
 
 -- what a parse holds asks for this

@@ -14,7 +14,7 @@ use Rattle.session_state.specs.declared.shown_verdicts.Shown.{Shown}
 use Rattle.racl_options.specs.declared.settings.Options.{Options}
 use Rattle.racl_options.specs.declared.settings.TableSize.{TableSize}
 use Rattle.racl_options.specs.declared.settings.Lines.{Lines}
-use Rattle.racl_options.specs.Selections.{FlagName, Summary, Hits, Sessions, Explain, JsonLines, Live, AnyLength, Age, flag_id, is_given, lines_by, shown_by}
+use Rattle.racl_options.specs.Selections.{FlagName, Summary, Hits, Sessions, Explain, JsonLines, Live, Age, flag_id, is_given, lines_by, shown_by}
 use Rattle.racl_options.specs.Sizes.{size_by}
 
 -- ---- the command
@@ -68,7 +68,7 @@ racl = fold with_rule (on_top (λ s. record s { has_version = true }) (new_app (
     (number_rule Workers ∷ number_rule Established ∷ number_rule Transient ∷ number_rule Udp
     ∷ long_rule (codes "tables") Set 1 ∷ long_rule (codes "interface") Append 1 ∷ long_rule (codes "only") Set 1
     ∷ long_rule (codes "drops") Set 1 ∷ long_rule (codes "passes") Set 1 ∷ long_rule (codes "expect") Set 1 ∷ long_rule (codes "shard") Set 1
-    ∷ flag_rule Summary ∷ flag_rule Hits ∷ flag_rule Sessions ∷ flag_rule Explain ∷ flag_rule JsonLines ∷ flag_rule Live ∷ flag_rule AnyLength ∷ flag_rule Age
+    ∷ flag_rule Summary ∷ flag_rule Hits ∷ flag_rule Sessions ∷ flag_rule Explain ∷ flag_rule JsonLines ∷ flag_rule Live ∷ flag_rule Age
     ∷ file_rule (codes "POLICY") ∷ file_rule (codes "CAPTURE") ∷ [])
 
 -- ---- what the words ask for
@@ -85,7 +85,6 @@ pub record OptionFacts : Type 0 where
   pub hits : Bool
   pub sessions : Bool
   pub live : Bool
-  pub any_length : Bool
   pub ages : Bool
 
 abbrev pub option_facts : Options → OptionFacts
@@ -100,7 +99,6 @@ option_facts o = record {
   hits = o.hits;
   sessions = o.sessions;
   live = o.live;
-  any_length = o.any_length;
   ages = o.ages;
 }
 
@@ -150,7 +148,6 @@ pub record SetOptions (values : Values) (facts : OptionFacts) : Type 0 where
   pub hits : has_flag values Hits ≡ facts.hits
   pub sessions : has_flag values Sessions ≡ facts.sessions
   pub live : has_flag values Live ≡ facts.live
-  pub any_length : has_flag values AnyLength ≡ facts.any_length
   pub ages : has_flag values Age ≡ facts.ages
 
 -- an error of this kind is a request for the help or for the version

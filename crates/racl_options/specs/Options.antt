@@ -75,7 +75,6 @@ asked_as settings origin = record {
     hits = false;
     sessions = false;
     live = false;
-    any_length = false;
     ages = false;
   };
   origin = origin;

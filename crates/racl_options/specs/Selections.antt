@@ -22,7 +22,6 @@ pub data FlagName : Type 0 where
   Explain : FlagName
   JsonLines : FlagName
   Live : FlagName
-  AnyLength : FlagName
   Age : FlagName
 
 abbrev pub flag_id : FlagName → Text
@@ -32,7 +31,6 @@ flag_id Sessions = codes "sessions"
 flag_id Explain = codes "explain"
 flag_id JsonLines = codes "json"
 flag_id Live = codes "live"
-flag_id AnyLength = codes "any-length"
 flag_id Age = codes "age"
 
 -- whether a flag was given, by its value

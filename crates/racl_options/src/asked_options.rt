@@ -7,7 +7,7 @@ ghost use Rattle.racl_options.specs.CommandLine as line;
 ghost use Rattle.racl_options.specs.Behind.{text_behind};
 ghost use Rattle.racl_options.specs.CommandLine.{HoldsNumber, HoldsNumbers, OptionName, Spells, has_flag, option_facts};
 ghost use Rattle.racl_options.specs.Origins.{origin_facts};
-ghost use Rattle.racl_options.specs.Selections.{Age, AnyLength, Explain, Hits, JsonLines, Live, Sessions, lines_by};
+ghost use Rattle.racl_options.specs.Selections.{Age, Explain, Hits, JsonLines, Live, Sessions, lines_by};
 ghost use Rattle.racl_options.specs.inner.Naming.{IsRefused, SpellOptions, values_in};
 
 use crate::named_files::{Refusal, origin_named};
@@ -30,7 +30,7 @@ const ONE_FILE: &str = "--drops and --passes need a file each";
 const NOT_EXPECTED: &str =
     "--expect needs POLICY CAPTURE, and goes with the timeouts, --tables and --age alone; one file of the three can be standard input";
 
-const NOT_LIVE: &str = "--any-length needs POLICY CAPTURE, and --live that or --interface";
+const NOT_LIVE: &str = "--live needs POLICY CAPTURE or --interface";
 
 const NOT_SHARED: &str = "--shard needs POLICY CAPTURE, and goes with neither --live nor --expect";
 
@@ -90,13 +90,12 @@ fn is_shared_file_asked(drops: Option<&str>, passes: Option<&str>) -> bool
     }
 }
 
-// Whether lines can be written before all is read of an input that comes from there, where that is asked for.
-#[tactic(auto, unfolding(crate::specs::Asking::can_be_told_early))]
-fn can_be_told_early(options: &Options, origin: &Origin<'_>) -> bool
-    ensures { result ≡ asking.can_be_told_early (option_facts options.now) (origin_facts origin.now) }
+// Whether lines can be written as packets come of an input that comes from there, where that is asked for.
+#[tactic(auto, unfolding(crate::specs::Asking::can_be_live))]
+fn can_be_live(options: &Options, origin: &Origin<'_>) -> bool
+    ensures { result ≡ asking.can_be_live (option_facts options.now) (origin_facts origin.now) }
 {
-    (!options.live || !matches!(origin, Origin::Standard))
-        && (!options.any_length || are_files_asked(origin))
+    !options.live || !matches!(origin, Origin::Standard)
 }
 
 // Whether the options that are asked let each packet have its plain line, and tell nothing behind the totals.
@@ -108,7 +107,6 @@ fn are_verdicts_told(options: &Options) -> bool
         && !options.hits
         && !options.sessions
         && !options.live
-        && !options.any_length
 }
 
 // Whether a file that is asked for can be read beside those of a policy and a capture.
@@ -152,7 +150,7 @@ fn misfit(asked: &Asked<'_>) -> Option<&'static str>
     if is_shared_file_asked(asked.saved.drops, asked.saved.passes) {
         return Some(ONE_FILE);
     }
-    if !can_be_told_early(&asked.options, &asked.origin) {
+    if !can_be_live(&asked.options, &asked.origin) {
         return Some(NOT_LIVE);
     }
     if !can_be_shared(asked) {
@@ -174,7 +172,6 @@ fn read_options(matches: &ArgMatches<'_>, tables: TableSize, shown: Shown) -> Op
     ensures hits { has_flag (values_in (found_of matches.now)) Hits ≡ result.hits }
     ensures sessions { has_flag (values_in (found_of matches.now)) Sessions ≡ result.sessions }
     ensures live { has_flag (values_in (found_of matches.now)) Live ≡ result.live }
-    ensures any_length { has_flag (values_in (found_of matches.now)) AnyLength ≡ result.any_length }
     ensures ages { has_flag (values_in (found_of matches.now)) Age ≡ result.ages }
 {
     let workers = number_at(matches, "workers");
@@ -194,7 +191,6 @@ fn read_options(matches: &ArgMatches<'_>, tables: TableSize, shown: Shown) -> Op
         hits: is_given(matches, "hits"),
         sessions: is_given(matches, "sessions"),
         live: is_given(matches, "live"),
-        any_length: is_given(matches, "any-length"),
         ages: is_given(matches, "age"),
     }
 }

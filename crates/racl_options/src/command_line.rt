@@ -75,8 +75,8 @@ const USAGE: &str = "racl [OPTIONS] POLICY CAPTURE
 // The help of the command line below the options. A function of its own, so that no proof of a caller has the text.
 fn after_help() -> &'static str {
     "INPUT is a policy, a line `pcap` or `hex`, and the capture in that form; POLICY and CAPTURE are such \
-    a policy and a capture's bytes. Except with --live, --any-length and --shard they have at most 67108864 bytes in \
-    all. The report goes to standard output. --drops, --passes, --expect, --shard and --any-length need POLICY CAPTURE, and --live that or --interface. A file with the name of a command is written ./NAME. racl-page is a script beside the program.
+    a policy and a capture's bytes. CAPTURE may be of any length; INPUT, and without --live the files of --interface together, \
+    have at most 67108864 bytes. The report goes to standard output. --drops, --passes, --expect and --shard need POLICY CAPTURE, and --live that or --interface. A file with the name of a command is written ./NAME. racl-page is a script beside the program.
 
 Examples:
   racl check host.policy
@@ -92,7 +92,7 @@ Examples:
   racl --drops dropped.pcap --passes passed.pcap host.policy host.pcap
   tcpdump -i eth0 -U -w - | racl --live host.policy -
   racl --live --interface 1=eth1.fifo --interface 2=eth2.fifo router.policy
-  racl --any-length --workers 4 --hits host.policy long.pcap
+  racl --workers 4 --hits host.policy long.pcap
   racl --shard 1/8 --hits host.policy long.pcap
   racl --expect host.expected host.policy host.pcap
   racl diff host.policy new.policy host.pcap
@@ -129,11 +129,6 @@ fn command_with_flags<'a>(alloc: Global) -> Result<Command<'a>, AllocError>
             alloc,
             "live",
             "Lines are written as packets come; it implies --age",
-        ))?
-        .arg(flag(
-            alloc,
-            "any-length",
-            "Reads a capture of any length, and writes lines as it reads",
         ))?
         .arg(flag(
             alloc,
@@ -200,12 +195,7 @@ fn command_with_values<'a>(alloc: Global) -> Result<Command<'a>, AllocError>
             "FILE",
             "Tells which verdicts aren't as FILE expects in lines such as `7 drop`",
         ))?
-        .arg(value_option(
-            alloc,
-            "shard",
-            "K/N",
-            "The packets of shard K of N alone; it implies --any-length",
-        ))
+        .arg(value_option(alloc, "shard", "K/N", "The packets of shard K of N alone"))
 }
 
 // The command with its options that have a value, up to the packets that are shown.

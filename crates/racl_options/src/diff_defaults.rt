@@ -20,7 +20,6 @@ pub fn diff_options(ages: bool) -> Options
         hits: false,
         sessions: false,
         live: false,
-        any_length: false,
         ages,
     }
 }

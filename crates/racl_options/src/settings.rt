@@ -40,8 +40,6 @@ pub struct Options {
     pub sessions: bool,
     /// Whether verdicts are written as packets come.
     pub live: bool,
-    /// Whether the capture may be of any length, so that verdicts are written while it is read.
-    pub any_length: bool,
     /// Whether sessions that have ended are removed while packets are judged. A live run removes them in any case.
     pub ages: bool,
     pub ghost few: { (1 ≤ workers) × (workers ≤ 16) },

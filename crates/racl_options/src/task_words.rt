@@ -1,5 +1,5 @@
 //! The words that begin with the name of a command, and what they ask for.
-ghost use Rattle.std.specs.Prelude.{◌≡◌, ◌∷◌, [], IfErr, IfOk, IfSome, MatchResult, None, Ok, Option, Some, codes, false, option_map, slice_get};
+ghost use Rattle.std.specs.Prelude.{◌≡◌, ◌∷◌, [], IfErr, IfOk, MatchResult, None, Ok, Option, Some, codes, false, option_map};
 ghost use Rattle.clap.specs.Kinds.{Kinds};
 ghost use Rattle.clap.specs.Walk.{texts};
 ghost use Rattle.clap.specs.Words.{FailsBy, HasKind, fault_of, first_value, found_of, kind_of};

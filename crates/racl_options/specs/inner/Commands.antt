@@ -5,7 +5,7 @@ use Rattle.clap.specs.Words.{App, Rule, Text, new_app, with_rule, with_subcomman
 use Rattle.clap.specs.declared.builder.action.ArgAction.TheVariants.{Append, Set}
 use Rattle.racl_options.specs.CommandLine.{Workers, Established, Transient, Udp, flag_rule, long_rule, number_rule}
 use Rattle.racl_options.specs.Tasks.{ask, check, compare, diff, expand}
-use Rattle.racl_options.specs.Selections.{Summary, Hits, Sessions, Explain, JsonLines, Live, AnyLength, Age}
+use Rattle.racl_options.specs.Selections.{Summary, Hits, Sessions, Explain, JsonLines, Live, Age}
 
 -- ---- words
 
@@ -66,7 +66,7 @@ abbrev pub with_lines : App
 with_lines = with_rule (with_rule with_reports (flag_rule Explain)) (flag_rule JsonLines)
 
 abbrev pub with_flags : App
-with_flags = with_rule (with_rule (with_rule with_lines (flag_rule Live)) (flag_rule AnyLength)) (flag_rule Age)
+with_flags = with_rule (with_rule with_lines (flag_rule Live)) (flag_rule Age)
 
 -- ---- its subcommands
 

@@ -26,7 +26,6 @@ returns-in-Some-misfit c =
       hits = read.hits;
       sessions = read.sessions;
       live = read.live;
-      any_length = read.any_length;
       ages = read.ages;
     })
     c.in-Ok-origin_named.ensures (sym c.saved_named.ensures.drops) (sym c.saved_named.ensures.passes) (sym c.get_str-2.ensures)
