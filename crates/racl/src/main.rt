@@ -2,28 +2,26 @@
 //! it asks of the system is in `racl_system`, what it says and how it ends is decided in `racl_report`; here it runs.
 #![tactic(auto)]
 
-ghost use Rattle.std.specs.Prelude.{◌<◌, ◌-◌, ◌^◌};
-
 mod ask;
 mod compare;
 
 use ask::status_of_ask;
 use compare::status_of_compare;
 use compared_verdicts::{read_expectations, status_of_changes, status_of_expected};
-use racl_io::{Device, Fault, FrontKept, Source};
+use racl_io::{Device, Fault, FrontKept};
 use racl_options::{Asked, DiffFiles, Files, Interfaces, Options, Origin, Task, diff_options};
 use racl_runs::{
     DiffFault, ExpectingAsked, LiveAsked, LiveSaves, PolicyTexts, ShardRunAsked, run, run_diff,
-    run_expecting, run_interfaces, run_live, run_live_interfaces, run_saving, run_shard,
+    run_expecting, run_interfaces, run_live, run_live_interfaces, run_shard,
 };
 use racl_system::{
     DiffInput, ExpectingInput, LiveFiles, LiveInterfaces, NamedPolicy, Output, Ran, SeenFiles,
-    SystemFiles, Watched, Words, asked_or_status, check_file, expand_file, failure_status,
-    hold_closed_streams, mistyped_status, opened_diff, opened_expecting, opened_input, opened_live,
-    opened_live_interfaces, read_interface_input, saves_to, say_capture_fault,
-    say_end_of_interfaces, say_end_of_live, say_end_of_live_interfaces, say_end_of_run,
-    say_outcome, say_policy_fault, say_read_twice, say_unsaved, say_used_twice,
-    say_wrong_expectations, settled, standard_source, texts_of, watched_where,
+    Watched, Words, asked_or_status, check_file, expand_file, failure_status, hold_closed_streams,
+    mistyped_status, opened_diff, opened_expecting, opened_live, opened_live_interfaces,
+    read_interface_input, saves_to, say_capture_fault, say_end_of_files, say_end_of_interfaces,
+    say_end_of_live, say_end_of_live_interfaces, say_outcome, say_policy_fault, say_read_twice,
+    say_unsaved, say_used_twice, say_wrong_expectations, settled, standard_source, texts_of,
+    watched_where,
 };
 use std::alloc::Global;
 use std::env::args;
@@ -84,9 +82,6 @@ fn status_of_run<T: Clock + Threads + Wait + Sync + Copy + Send + 'static>(
         (Origin::Files(files), Some(name)) => {
             status_of_expecting(rt, threads, alloc, asked, files, name)
         }
-        (Origin::Files(files), None) if is_told_early(asked) => {
-            status_of_live(rt, threads, alloc, asked, files)
-        }
         (Origin::Files(files), None) => status_of_files(rt, threads, alloc, asked, files),
         (Origin::Interfaces(interfaces), _) if asked.options.live => {
             status_of_live_interfaces(rt, threads, alloc, &asked.options, interfaces)
@@ -120,11 +115,6 @@ fn names_read<'a>(alloc: Global, asked: &Asked<'a>) -> io::Result<Vec<&'a str>> 
     Ok(names)
 }
 
-// Whether what is asked for is told while the capture is read.
-fn is_told_early(asked: &Asked<'_>) -> bool {
-    asked.options.live || asked.options.any_length || asked.shard.is_some()
-}
-
 // Runs the main program on all that standard input has, tells how that ended, and answers the exit status.
 fn status_of_standard<T: Clock + Threads + Wait + Sync>(
     rt: &HostRuntime,
@@ -137,77 +127,6 @@ fn status_of_standard<T: Clock + Threads + Wait + Sync>(
     let outcome = run(threads, alloc, options, &mut reader, &mut writer);
     reader.progress.end();
     say_outcome(rt, &outcome)
-}
-
-// Runs the main program on the files of a policy and of a capture, tells how that ended, and answers the exit status.
-fn status_of_files<T: Clock + Threads + Wait + Sync>(
-    rt: &HostRuntime,
-    threads: &T,
-    alloc: Global,
-    asked: &Asked<'_>,
-    files: &Files<'_>,
-) -> io::Result<u8> {
-    match say_used_twice(rt, alloc, files, &asked.saved) {
-        Ok(None) => {}
-        Ok(Some(status)) => return Ok(status),
-        Err(error) => return Err(error),
-    }
-    let source = match opened_input(rt, alloc, files) {
-        Ok(Ok(source)) => source,
-        Ok(Err(status)) => return Ok(status),
-        Err(error) => return Err(error),
-    };
-    let mut reader = Watched::new(rt, source);
-    let ran = match run_main_program(rt, threads, alloc, asked, &mut reader) {
-        Ok(Some(ran)) => ran,
-        Ok(None) => return Ok(4),
-        Err(error) => return Err(error),
-    };
-    reader.progress.end();
-    let input = SeenFiles {
-        files: *files,
-        text: reader.source.text(),
-        front: reader.source.front(),
-    };
-    say_end_of_run(rt, alloc, &asked.options, input, &ran)
-}
-
-// Runs the main program from this source to standard output, and saves packets where that is asked for. Where these
-// can't be saved that is told, and None is answered.
-fn run_main_program<T: Clock + Threads + Wait + Sync, R: Source + Send>(
-    rt: &HostRuntime,
-    threads: &T,
-    alloc: Global,
-    asked: &Asked<'_>,
-    reader: &mut R,
-) -> io::Result<Option<Ran>>
-    requires { R.failures reader.old < 2 ^ 64 - 1 }
-{
-    let mut writer = Device::new(Output::new(rt.stdout()));
-    let saved = &asked.saved;
-    let outcome = if saved.drops.is_none() && saved.passes.is_none() {
-        run(threads, alloc, &asked.options, reader, &mut writer)
-    } else {
-        let mut saves = saves_to(rt, saved);
-        let outcome = run_saving(
-            threads,
-            alloc,
-            &asked.options,
-            reader,
-            &mut writer,
-            &mut saves,
-        );
-        if say_unsaved(rt, settled(saves, false))? {
-            return Ok(None);
-        }
-        outcome
-    };
-    Ok(Some(Ran {
-        outcome,
-        faulty: None,
-        is_closed: writer.inner.is_closed,
-        reason: writer.inner.reason,
-    }))
 }
 
 // Runs the main program on captures of interfaces, tells how that ended, and answers the exit status.
@@ -239,7 +158,7 @@ fn status_of_interfaces<T: Clock + Threads + Wait + Sync>(
 
 // Runs the main program on the capture of a file, or on a shard of that, while it is read, saves packets where that is asked for,
 // tells how that ended, and answers the exit status. What was saved stays, however it ended.
-fn status_of_live<T: Clock + Threads + Wait + Sync>(
+fn status_of_files<T: Clock + Threads + Wait + Sync>(
     rt: &HostRuntime,
     threads: &T,
     alloc: Global,
@@ -258,9 +177,8 @@ fn status_of_live<T: Clock + Threads + Wait + Sync>(
     };
     let text = text.as_slice();
     let source = Device::new(FrontKept::new(capture));
-    let is_long = asked.options.any_length || asked.shard.is_some();
-    let mut reader = watched_where(rt, is_long, source);
-    let mut writer = Device::new(rt.stdout());
+    let mut reader = watched_where(rt, !asked.options.live, source);
+    let mut writer = Device::new(Output::new(rt.stdout()));
     let mut saves = LiveSaves {
         files: saves_to(rt, &asked.saved),
     };
@@ -284,7 +202,16 @@ fn status_of_live<T: Clock + Threads + Wait + Sync>(
         text,
         front: reader.source.inner.front(),
     };
-    say_end_of_live(rt, alloc, &asked.options, input, &outcome)
+    if asked.options.live || asked.shard.is_some() {
+        return say_end_of_live(rt, alloc, &asked.options, input, &outcome);
+    }
+    let ran = Ran {
+        outcome,
+        faulty: None,
+        is_closed: writer.inner.is_closed,
+        reason: writer.inner.reason,
+    };
+    say_end_of_files(rt, alloc, &asked.options, input, &ran)
 }
 
 // Runs the main program on captures of interfaces as they come, tells how that ended, and answers the exit status.

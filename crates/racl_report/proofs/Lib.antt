@@ -1,5 +1,4 @@
 pub mod CaptureLaws
 pub mod InterfaceLaws
 pub mod ReadInputLemmas
-pub mod SaveLemmas
 pub mod ViewLemmas

@@ -1,5 +1,5 @@
 -- What files get of the packets of an input (this project's profile).
-use Rattle.std.specs.Prelude.{◌≡◌, ◌||◌, ℕ, Bool, List, [], Option, None, Some, is_some, ⊤}
+use Rattle.std.specs.Prelude.{◌≡◌, ℕ, List, [], Option, None, Some, ⊤}
 use Rattle.std.specs.Io.KnownBytes.{Appends}
 use Rattle.session_state.specs.declared.verdict.Verdict.{Verdict}
 use Rattle.racl_io.specs.declared.marker_line.Form.{Form}
@@ -7,7 +7,6 @@ use Rattle.racl_io.specs.declared.marker_line.Form.TheVariants.{Binary, Hexadeci
 use Rattle.racl_io.specs.Inputs.{InputFacts}
 use Rattle.racl_views.specs.ChosenRecords.{IsSaved}
 use Rattle.racl_views.specs.declared.chosen_packets.Chosen.{Chosen}
-use Rattle.racl_report.specs.declared.saved_packets.Saves.{Saves}
 
 -- the chosen packets of a capture that stands in the input as bytes, as a capture; of others nothing
 abbrev pub AreSaved : Form → Chosen → List ℕ → List Verdict → List ℕ → Type 0
@@ -21,10 +20,6 @@ HasSaved bytes parts chosen verdicts None None = ⊤
 HasSaved bytes parts chosen verdicts (Some old) (Some new) =
     (saved : List ℕ) × AreSaved parts.form chosen parts.content verdicts saved × Appends (bytes old) (bytes new) saved
 HasSaved bytes parts chosen verdicts _ _ = ⊥
-
--- whether there is a file for them
-abbrev pub is_saving : {S : Type 0} → Saves S → Bool
-is_saving saves = is_some saves.drops || is_some saves.passes
 
 -- how often a file failed, where there is one
 abbrev pub failures_of : {S : Type 0} → (S → ℕ) → Option S → ℕ

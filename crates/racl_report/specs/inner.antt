@@ -1,3 +1,2 @@
 pub mod NumberedCaptures
-pub mod SavedCaptures
 pub mod ToldRuns

@@ -1,5 +1,4 @@
-//! What a run tells of an input when its packets were judged: the report, the packets that are saved, and how the program
-//! ends.
+//! What a run tells of an input when its packets were judged: the report, and how the program ends.
 #![tactic(auto)]
 
 mod asked_report;
@@ -12,7 +11,7 @@ mod program_ending;
 mod saved_packets;
 mod text_behind_totals;
 
-pub use asked_report::{view_behind, write_judged, write_run};
+pub use asked_report::{needs_bytes, view_behind, write_judged, write_run};
 pub use end_of_captures::write_captures_end;
 pub use interface_captures::{InterfaceInput, PlacedFault, is_interface_seen, told_of_interfaces};
 pub use judged_packets::Judged;
@@ -23,5 +22,5 @@ pub use message_texts::{
 pub use program_ending::{
     ending, failure_ending, frames, hint, remark, shortage, status, words_ending,
 };
-pub use saved_packets::{Saves, keeps_input, save_packets};
+pub use saved_packets::Saves;
 pub use text_behind_totals::{Behind, behind_totals, write_behind};

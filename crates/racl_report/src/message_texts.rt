@@ -107,9 +107,6 @@ pub enum Hint {
     /// The file of the policy is a capture.
     #[error("racl: the file that is named as the policy is a capture; its words are: POLICY CAPTURE")]
     Swapped,
-    /// The files of a policy and a capture have more bytes than are read at once.
-    #[error("racl: a capture of any length is read with --any-length")]
-    Longer,
     /// A capture isn't of Ethernet, and its header isn't at hand.
     #[error("racl: a capture that is read is made by: tcpdump -i NAME -y EN10MB -w OUT")]
     Ethernet,

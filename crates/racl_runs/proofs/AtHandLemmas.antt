@@ -1,5 +1,5 @@
 -- An input of which all was read: what is answered of it, and what is kept.
-use Rattle.std.proofs.Common.{◌≡◌, ◌∙◌, ◌≤◌, ◌⊎◌, ◌||◌, ℕ, zero, suc, Bool, true, false, List, [], ◌∷◌, Option, Some, None, Ok, Err, drop, length, refl, sym, ap, subst, take, inl, inr}
+use Rattle.std.proofs.Common.{◌≡◌, ◌∙◌, ◌≤◌, ◌⊎◌, ℕ, zero, suc, Bool, List, [], ◌∷◌, Option, Some, None, Ok, Err, drop, length, sym, ap, subst, take, inl, inr}
 use Rattle.packet_view.specs.Bytes.{AreBytes}
 use Rattle.packet_view.specs.Captures.{PacketFacts}
 use Rattle.acl_policy.specs.Policies.{PolicyFacts, policy_facts}
@@ -24,24 +24,11 @@ use Rattle.racl_runs.specs.inner.Plans.{HasReached}
 use Rattle.racl_runs.proofs.OutcomeLemmas.{memory_answers}
 use Rattle.racl_runs.proofs.RunLemmas.{fault_of_known_parts, fault_of_right_policy}
 
--- what is kept for two purposes is kept for each
-or_first : (a b : Bool) → (a || b) ≡ false → a ≡ false
-or_first true b none = none
-or_first false b none = refl
-
-or_second : (a b : Bool) → (a || b) ≡ false → b ≡ false
-or_second true b none = absurd (let f : ⊥ = cc in f)
-or_second false b none = none
-
-pub kept_for_first : (a b : Bool) (input : List ℕ) (of : Option Kept) (policy : PolicyFacts) (packets : List PacketFacts) (told : List Captured) → KeepsWhere (a || b) input of
-    → IsRead input policy packets told → IsKeptWhere a input policy packets of
-kept_for_first a b input None policy packets told keeps read = or_first a b keeps
-kept_for_first a b input (Some of) policy packets told keeps read = keeps policy packets told read
-
-pub kept_for_second : (a b : Bool) (input : List ℕ) (of : Option Kept) (policy : PolicyFacts) (packets : List PacketFacts) (told : List Captured) → KeepsWhere (a || b) input of
-    → IsRead input policy packets told → IsKeptWhere b input policy packets of
-kept_for_second a b input None policy packets told keeps read = or_second a b keeps
-kept_for_second a b input (Some of) policy packets told keeps read = keeps policy packets told read
+-- what is kept where that is asked for is kept of an input that is right
+pub kept_where : (asked : Bool) (input : List ℕ) (of : Option Kept) (policy : PolicyFacts) (packets : List PacketFacts) (told : List Captured) → KeepsWhere asked input of
+    → IsRead input policy packets told → IsKeptWhere asked input policy packets of
+kept_where asked input None policy packets told keeps read = keeps
+kept_where asked input (Some of) policy packets told keeps read = keeps policy packets told read
 
 -- ---- what follows a marker line
 

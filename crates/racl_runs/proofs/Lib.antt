@@ -16,7 +16,6 @@ pub mod OutcomeLemmas
 pub mod OwnEndLemmas
 pub mod ReadLemmas
 pub mod RunLemmas
-pub mod SavingLemmas
 pub mod ShardRunLemmas
 pub mod ShardSaveLemmas
 pub mod SortedPairs

@@ -8,7 +8,6 @@ pub mod LiveSaves
 pub mod Paces
 pub mod Reads
 pub mod Runs
-pub mod SavingRuns
 pub mod ShardRuns
 pub mod ShardSaves
 pub mod StoredRuns

@@ -41,5 +41,5 @@ pub use run_laws::{
     each_input_has_one_outcome, interfaces_have_one_outcome, live_sessions_have_one_listing,
     told_live_sessions_are_those_of_one_thread, told_sessions_are_those_of_one_thread,
 };
-pub use runs_end_to_end::{run, run_saving};
+pub use runs_end_to_end::run;
 pub use shard_run::{ShardRunAsked, run_shard};

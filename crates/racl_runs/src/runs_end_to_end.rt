@@ -4,10 +4,8 @@ ghost use Rattle.racl_io.specs.declared.fault.Fault.{Fault};
 ghost use Rattle.racl_io.specs.Faults.{IsInputFault, IsSystemFault, RefusesRead};
 ghost use Rattle.racl_io.specs.Inputs.{most_bytes};
 ghost use Rattle.racl_io.specs.Transfers.{GaveAtMost, HasReadWithin};
-ghost use Rattle.racl_report.specs.Saves.{failures_of};
 ghost use Rattle.racl_runs.specs.Reads.{AnswersRead, HasMet};
 ghost use Rattle.racl_runs.specs.Runs.{AnswersRight, HasRun};
-ghost use Rattle.racl_runs.specs.SavingRuns.{HasRunSaving, failures_in_all};
 
 use crate::captures_at_hand::judge_at_hand;
 use crate::input_front::{Headed, InputFront, Opened, open_source};
@@ -16,17 +14,11 @@ use crate::run_plan::threads_beside;
 use capture_stream::Opening;
 use racl_io::{Fault, Sink, Source, Totals};
 use racl_options::Options;
-use racl_report::{Judged, Kept, Saves, keeps_input, save_packets, write_judged};
+use racl_report::{Judged, Kept, needs_bytes, write_judged};
 use std::alloc::Global;
 use std::sync::Wait;
 use std::thread::Threads;
 use std::time::Clock;
-
-/// Where a run saves that has no file for packets.
-const NO_FILES: Saves<()> = Saves {
-    drops: None,
-    passes: None,
-};
 
 // What the packets met of an input that a run reads from its front to its end, and what is kept of it, where that is asked for.
 fn judge_source<R: Source + Send, T: Clock + Threads + Wait + Sync>(
@@ -102,58 +94,11 @@ pub fn run<R: Source + Send, W: Sink, T: Clock + Threads + Wait + Sync>(
     ensures steady { result ≢ Err Fault.Write → W.failures writer.new ≡ W.failures writer.old }
     ensures unwritten { IfErr result (λ fault. fault ≢ Fault.Write → writer.new ≡ writer.old) }
 {
-    let keeps = keeps_input(options, &NO_FILES);
+    let keeps = needs_bytes(options);
     let (judged, kept) = match judge_source(rt, alloc, options, keeps, reader) {
         Ok(met) => met,
         Err(fault) => return Err(fault),
     };
     let beside = threads_beside(rt, options.workers > 1);
     write_judged(beside, alloc, writer, options, &kept, &judged)
-}
-
-/// A run from end to end: reads an input, filters its captures by its policy, and writes the report, as `run` does; and
-/// then saves packets of it.
-///
-/// Nothing is written before the whole input was judged, and nothing is saved before the report is written.
-pub fn run_saving<R: Source + Send, W: Sink, S: Sink, T: Clock + Threads + Wait + Sync>(
-    rt: &T,
-    alloc: Global,
-    options: &Options,
-    reader: &mut R,
-    writer: &mut W,
-    saves: &mut Saves<S>,
-) -> Result<Totals, Fault>
-    requires reader { R.failures reader.old < 2 ^ 64 - 1 }
-    requires writer { W.failures writer.old < 2 ^ 64 - 1 }
-    requires files { IfSome saves.old.drops (λ file. S.failures file < 2 ^ 64 - 1) × IfSome saves.old.passes (λ file. S.failures file < 2 ^ 64 - 1) }
-    ensures ok { IfOk result (HasRunSaving S.bytes options.now (R.bytes reader.old) (W.bytes writer.old) (W.bytes writer.new) saves.old saves.new) }
-    ensures accepts { IfSome (R.bytes reader.old) (λ bytes. AnswersRight options.now bytes (W.bytes writer.old) (W.bytes writer.new) result) }
-    ensures fault { IfErr result (λ fault. IsSystemFault fault ⊎ IfSome (R.bytes reader.old) (λ bytes. IsInputFault bytes fault)) }
-    ensures refuses { IfSome (R.bytes reader.old) (λ bytes. (fault : Fault) → IsInputFault bytes fault → RefusesRead fault result) }
-    ensures far { GaveAtMost (R.bytes reader.old) (R.bytes reader.new) (most_bytes + 1) }
-    ensures read { (result ≡ Err Fault.Read) ↔ (R.failures reader.new ≡ R.failures reader.old + 1) }
-    ensures sound { result ≢ Err Fault.Read → R.failures reader.new ≡ R.failures reader.old }
-
-    // Write is answered exactly where one failed of the report's writer and the files, and then it failed once.
-    ensures write { (result ≡ Err Fault.Write) ↔ (failures_in_all W.failures S.failures writer.new saves.new ≡ failures_in_all W.failures S.failures writer.old saves.old + 1) }
-    ensures steady { result ≢ Err Fault.Write → (W.failures writer.new ≡ W.failures writer.old)
-        × (failures_of S.failures saves.new.drops ≡ failures_of S.failures saves.old.drops)
-        × (failures_of S.failures saves.new.passes ≡ failures_of S.failures saves.old.passes) }
-    ensures ordered { W.failures writer.new ≡ W.failures writer.old + 1 → saves.new ≡ saves.old }
-    ensures unwritten { IfErr result (λ fault. fault ≢ Fault.Write → (writer.new ≡ writer.old) × (saves.new ≡ saves.old)) }
-{
-    let keeps = keeps_input(options, saves);
-    let (judged, kept) = match judge_source(rt, alloc, options, keeps, reader) {
-        Ok(met) => met,
-        Err(fault) => return Err(fault),
-    };
-    let beside = threads_beside(rt, options.workers > 1);
-    let totals = match write_judged(beside, alloc, writer, options, &kept, &judged) {
-        Ok(totals) => totals,
-        Err(fault) => return Err(fault),
-    };
-    match save_packets(&kept, &judged.verdicts, saves) {
-        Ok(()) => Ok(totals),
-        Err(fault) => Err(fault),
-    }
 }

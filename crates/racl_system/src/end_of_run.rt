@@ -114,7 +114,7 @@ struct Noted<'a> {
     seen: &'a [Seen<'a>],
 }
 
-// Says the notes behind a run on files: what is likely to be wrong with them.
+// Says the notes behind a run on files that is no live one: what is likely to be wrong with them.
 fn say_run_notes(
     rt: &impl Eprint,
     alloc: Global,
@@ -124,7 +124,6 @@ fn say_run_notes(
 ) -> io::Result<()> {
     let Noted { policy, text, seen } = noted;
     if outcome.is_ok() {
-        say_unlooked(rt, alloc, policy, text, seen);
         say_foreign(rt, alloc, policy, text, seen);
     }
     if let Some(hint) = hint(outcome, text) {
@@ -161,8 +160,9 @@ fn say_ran(rt: &impl Eprint, alloc: Global, policy: NamedPolicy<'_>, ran: &Ran) 
     Ok(status)
 }
 
-/// Says how a run on files ended, with notes on what is likely to be wrong with them; and answers the status.
-pub fn say_end_of_run(
+/// Says how a run on the files of a policy and a capture ended, with notes on what is likely to be wrong with them; and answers
+/// the status.
+pub fn say_end_of_files(
     rt: &HostRuntime,
     alloc: Global,
     options: &Options,
@@ -180,9 +180,6 @@ pub fn say_end_of_run(
         Ok(status) => status,
         Err(error) => return Err(error),
     };
-    if matches!(ran.outcome, Err(Fault::TooLarge)) {
-        rt.eprintln(&Hint::Longer)?;
-    }
     if let Err(fault) = ran.outcome
         && is_told_of_capture(rt, files.capture, front, fault)
     {
@@ -263,6 +260,9 @@ pub fn say_end_of_interfaces(
     };
     let seen = seen_of_interfaces(alloc, &input.captures);
     say_faulty(rt, interfaces, seen.as_slice(), ran)?;
+    if ran.outcome.is_ok() {
+        say_unlooked(rt, alloc, interfaces.policy, &input.text, seen.as_slice());
+    }
     let noted = Noted {
         policy: interfaces.policy,
         text: &input.text,
@@ -272,7 +272,8 @@ pub fn say_end_of_interfaces(
     Ok(status)
 }
 
-/// Says how a live run ended, with notes on what is likely to be wrong with its files; and answers the status.
+/// Says how a run ended that is followed while it tells, as a live one, with notes on what is likely to be wrong with its files;
+/// and answers the status.
 pub fn say_end_of_live(
     rt: &impl Eprint,
     alloc: Global,
@@ -302,7 +303,8 @@ pub fn say_end_of_live(
         front,
     };
     say_foreign(rt, alloc, files.policy, text, &[seen]);
-    say_shortage(rt, outcome, true, options.tables);
+    let ages = options.live || options.ages;
+    say_shortage(rt, outcome, ages, options.tables);
     Ok(status)
 }
 

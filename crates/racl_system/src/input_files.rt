@@ -1,19 +1,16 @@
-//! What an input comes from: standard input, or the files of a policy and of a capture.
-ghost use Rattle.std.specs.Prelude.{◌≡◌, ◌≤◌, ◌+◌, ◌⊎◌, ℕ, List, IfErr, IfNone, IfOk, IfSome, codes, length};
+//! What an input comes from: standard input, or the file of a policy.
+ghost use Rattle.std.specs.Prelude.{◌≡◌, ◌≤◌, ◌+◌, ◌⊎◌, IfErr, IfNone, IfOk, IfSome, codes, length};
 ghost use Rattle.racl_io.specs.Inputs.{most_bytes};
-ghost use Rattle.racl_io.specs.Joined.{joined_bytes, joined_left, text_of};
 ghost use Rattle.racl_io.specs.declared.fault.Fault.TheVariants.{Memory};
 ghost use Rattle.racl_system.specs.MarkedPolicies.{IsFileStatus, IsMarkedFault, IsUnmarked};
 ghost use Rattle.racl_system.specs.PolicyTexts.{IsEnded, ended_lines};
-ghost use Rattle.racl_system.specs.Readers.{left_in};
 
-use crate::named_reader::{Reader, opened_or_told, text_of_file};
+use crate::named_reader::{opened_or_told, text_of_file};
 use crate::say_and_answer_status::say_fault;
 use crate::say_wrong_policy::{NamedPolicy, say_policy_fault};
 use crate::system_files::SystemFiles;
 use acl_policy::read_policy;
-use racl_io::{Device, Fault, Joined, split_input};
-use racl_options::Files;
+use racl_io::{Device, Fault, split_input};
 use racl_report::Hint;
 use std::alloc::Global;
 use std::io;
@@ -93,48 +90,6 @@ pub fn policy_text<S: SystemFiles + Eprint>(
     match opened_or_told(system, name) {
         Ok(Some(policy)) => text_or_told(system, alloc, name, policy),
         Ok(None) => Ok(Err(4)),
-        Err(error) => Err(error),
-    }
-}
-
-// The bytes of a file that has this text.
-fn bytes_behind(text: Vec<u8>) -> Vec<u8>
-    ensures { (bytes : List ℕ) → text.items ≡ ended_lines bytes → result.items ≡ bytes }
-{
-    let mut bytes = text;
-    let _ = bytes.pop();
-    bytes
-}
-
-/// Opens the files of a policy and of a capture, and reads the policy, as of `policy_text`; both become one source, in which a line
-/// feed stands behind the policy's bytes.
-pub fn opened_input<S: SystemFiles + Eprint>(
-    system: &S,
-    alloc: Global,
-    files: &Files<'_>,
-) -> io::Result<Result<Joined<Reader<S::Input, S::File>>, u8>>
-    ensures bytes { IfOk result (λ found. IfOk found (λ input.
-        joined_left (left_in S.Input.remaining S.File.remaining) input ≡ joined_bytes (text_of input) (S.named system.now files.now.capture.now))) }
-    ensures few { IfOk result (λ found. IfOk found (λ input. length (text_of input) ≤ most_bytes)) }
-    ensures text { IfOk result (λ found. IfOk found (λ input.
-        IfSome (S.named system.now files.now.policy.now) (λ all. text_of input ≡ all))) }
-    ensures unmarked { IfOk result (λ found. IfOk found (λ input. IsUnmarked (ended_lines (text_of input)))) }
-    ensures sound { IfOk result (λ found. IfOk found (λ input. input.device.failures ≡ 0)) }
-    ensures status { IfOk result (λ found. IfErr found (IsFileStatus (S.named system.now files.now.policy.now))) }
-{
-    let policy = match opened_or_told(system, files.policy) {
-        Ok(Some(policy)) => policy,
-        Ok(None) => return Ok(Err(4)),
-        Err(error) => return Err(error),
-    };
-    let capture = match opened_or_told(system, files.capture) {
-        Ok(Some(capture)) => capture,
-        Ok(None) => return Ok(Err(4)),
-        Err(error) => return Err(error),
-    };
-    match text_or_told(system, alloc, files.policy, policy) {
-        Ok(Ok(text)) => Ok(Ok(Joined::new(bytes_behind(text), capture))),
-        Ok(Err(status)) => Ok(Err(status)),
         Err(error) => Err(error),
     }
 }

@@ -35,13 +35,13 @@ pub use coming_captures::{ComingCaptures, LiveInterfaces, opened_live_interfaces
 pub use command_words::{asked_or_status, mistyped_status, texts_of};
 pub use diff_input::{DiffInput, opened_diff, say_capture_fault};
 pub use end_of_run::{
-    Ran, SeenFiles, say_end_of_interfaces, say_end_of_live, say_end_of_live_interfaces,
-    say_end_of_run, say_outcome,
+    Ran, SeenFiles, say_end_of_files, say_end_of_interfaces, say_end_of_live,
+    say_end_of_live_interfaces, say_outcome,
 };
 pub use expecting_input::{ExpectingInput, opened_expecting, say_wrong_expectations};
 pub use file_checking::check_file;
 pub use file_expanding::expand_file;
-pub use input_files::{opened_input, policy_text, standard_source};
+pub use input_files::{policy_text, standard_source};
 pub use interface_files::read_interface_input;
 pub use live_files::{LiveFiles, live_policy_text, opened_live};
 pub use named_reader::Reader;

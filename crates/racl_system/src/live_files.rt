@@ -1,4 +1,4 @@
-//! The files of a run over a capture that comes.
+//! The files of a run on a policy and a capture, which is read as it comes.
 ghost use Rattle.std.specs.Prelude.{◌≡◌, ◌+◌, ◌≤◌, IfErr, IfOk, IfSome, length};
 ghost use Rattle.racl_io.specs.Inputs.{most_bytes};
 ghost use Rattle.racl_system.specs.PolicyTexts.{ended_lines};
@@ -20,7 +20,7 @@ pub struct LiveFiles<S, F> {
     pub capture: Reader<S, F>,
 }
 
-/// The text of the policy's file of a live run (`text_of_file`). Where it can't be had that is told, and the status is answered.
+/// The text of the file of a policy whose capture is read as it comes (`text_of_file`). Where it can't be had that is told, and the status is answered.
 pub fn live_policy_text<S: SystemFiles + Eprint>(
     system: &S,
     alloc: Global,

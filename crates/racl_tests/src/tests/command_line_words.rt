@@ -29,7 +29,6 @@ fn words_set_the_options(rt: HostRuntime) {
         hits: false,
         sessions: false,
         live: false,
-        any_length: false,
         ages: false,
     };
     const MOST: Options = Options {
@@ -41,7 +40,6 @@ fn words_set_the_options(rt: HostRuntime) {
         hits: false,
         sessions: false,
         live: false,
-        any_length: false,
         ages: true,
     };
     const CASES: [(&[&str], Options); 3] = [

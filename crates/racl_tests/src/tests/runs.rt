@@ -52,6 +52,5 @@ const DEFAULTS: Options = Options {
     hits: false,
     sessions: false,
     live: false,
-    any_length: false,
     ages: false,
 };

@@ -1,8 +1,8 @@
-use Rattle.std.proofs.Common.{arith, false, subst}
+use Rattle.std.proofs.Common.{arith, subst}
 use Rattle.std.proofs.lemmas.Result.{IfOk-weaker}
 use Rattle.racl_report.specs.KeptInputs.{KeepsWhere}
 use Rattle.racl_report.specs.WrittenReports.{needs_bytes}
-use Rattle.racl_runs.proofs.AtHandLemmas.{kept_for_first}
+use Rattle.racl_runs.proofs.AtHandLemmas.{kept_where}
 use Rattle.racl_runs.proofs.OutcomeLemmas.{has_reported, ran}
 use Rattle.racl_runs.proofs.ReadLemmas.{fault_of_right, fault_read, fault_refused, known_read, unwritten}
 use Rattle.racl_runs.proofs.RunLemmas.{excluded_by_input}
@@ -28,20 +28,20 @@ returns-clause-ok g c =
     let met = c.in-Ok.ensures.ok in
     let k = met.all in
     let options = c.args.options.now in
-    let keeps = subst (λ b. KeepsWhere b k.bytes c.in-Ok.met.1) c.keeps_input-keeps.ensures met.kept in
+    let keeps = subst (λ b. KeepsWhere b k.bytes c.in-Ok.met.1) c.needs_bytes-keeps.ensures met.kept in
     IfOk-weaker c.write_judged.result _ _ (λ totals is. is.0) (
     ran (g.W.Sink.bytes c.args.writer.now) (g.W.Sink.bytes c.write_judged.new.writer) options (g.R.Source.bytes c.args.reader.now) c.in-Ok.met.0 c.write_judged.result k
-    (λ policy packets read. c.write_judged.ensures.told k.bytes policy packets read (kept_for_first (needs_bytes options) false k.bytes c.in-Ok.met.1 policy packets _ keeps read)))
+    (λ policy packets read. c.write_judged.ensures.told k.bytes policy packets read (kept_where (needs_bytes options) k.bytes c.in-Ok.met.1 policy packets _ keeps read)))
 
 pub returns-clause-accepts : goal.returns-clause-accepts
 returns-clause-accepts g c =
     let met = c.in-Ok.ensures.ok in
     let k = met.all in
     let options = c.args.options.now in
-    let keeps = subst (λ b. KeepsWhere b k.bytes c.in-Ok.met.1) c.keeps_input-keeps.ensures met.kept in
+    let keeps = subst (λ b. KeepsWhere b k.bytes c.in-Ok.met.1) c.needs_bytes-keeps.ensures met.kept in
     known_read _ _ _ k.bytes _ (record { whole = k.known; few = k.few }) (λ one_thread has.
     has_reported (g.W.Sink.bytes c.args.writer.now) (g.W.Sink.bytes c.write_judged.new.writer) options (g.R.Source.bytes c.args.reader.now) c.in-Ok.met.0 c.write_judged.result k
-    (λ policy packets read. c.write_judged.ensures.told k.bytes policy packets read (kept_for_first (needs_bytes options) false k.bytes c.in-Ok.met.1 policy packets _ keeps read))
+    (λ policy packets read. c.write_judged.ensures.told k.bytes policy packets read (kept_where (needs_bytes options) k.bytes c.in-Ok.met.1 policy packets _ keeps read))
     one_thread has c.write_judged.ensures.ends.fault)
 
 pub returns-clause-refuses : goal.returns-clause-refuses
