@@ -9,7 +9,7 @@ true 3>&2 || exec 2</dev/null
 # The signals that end a process and that it can catch.
 SIGNALS='HUP INT QUIT ABRT USR1 USR2 PIPE ALRM TERM XCPU XFSZ VTALRM PROF'
 
-# run PROGRAM WORDS..: runs it in this shell's place, or, where captures may come for long or packets are saved, as its child.
+# run PROGRAM WORDS..: runs it as this shell's child where a capture may come for long or packets are saved, and else in its place.
 run() {
     # The C library asks for huge pages, so that a long input's memory is touched in fewer steps, and gives back each freed
     # block of 128 KiB and more, so that the peak is lower. What the user asks of it stands after that, and counts.
@@ -18,26 +18,25 @@ run() {
     case " $* " in
         *" --drops"[\ =]* | *" --passes"[\ =]*) saves=yes ;;
     esac
-    case " $* " in
-        " $1 diff "* | *" --live "* | *" --any-length "* | *" --shard"[\ =]*) run_child find_stream "$@" ;;
-        *)
-            [ -z "$saves" ] || run_child : "$@"
-            exec "$@"
-            ;;
+    # these commands read whole files, which are small
+    case ${2-} in
+        check | expand | compare | ask | help) exec "$@" ;;
     esac
+    run_child "$@"
 }
 
-# run_child FIND PROGRAM WORDS..: runs it so that no signal leaves anything behind. Standard input, and each FIFO that FIND finds a
-# word to name, it reads through a pipe that a signal closes: it then ends as at the end of its captures, with its totals. A second
-# signal kills it, and so does a first one where there is no pipe. What it says of a pipe names the FIFO.
+# run_child PROGRAM WORDS..: runs it so that no signal leaves anything behind. Standard input, and each FIFO that a word names, it
+# reads through a pipe that a signal closes: it then ends as at the end of its captures, with its totals. A second signal kills it,
+# and so does a first one where there is no pipe. What it says of a pipe names the FIFO. With neither a pipe nor a file that is
+# saved it runs in this shell's place.
 run_child() {
-    find=$1 program=$2 room= pipes= links=0 names= feeders= input= before= teller= child= signals=0 killed=
-    shift 2
+    program=$1 room= pipes= links=0 names= feeders= input= before= teller= child= signals=0 killed=
+    shift
     trap clear_up EXIT
     for kind in $SIGNALS; do trap "stop_child $kind" "$kind"; done
     for word in "$@"; do
         shift
-        "$find"
+        find_stream
         set -- "$@" "$word"
         before=$word
     done

@@ -16,12 +16,12 @@ use racl_runs::{
 };
 use racl_system::{
     DiffInput, ExpectingInput, LiveFiles, LiveInterfaces, NamedPolicy, Output, Ran, SeenFiles,
-    Watched, Words, asked_or_status, check_file, expand_file, failure_status, hold_closed_streams,
-    mistyped_status, opened_diff, opened_expecting, opened_live, opened_live_interfaces,
-    read_interface_input, saves_to, say_capture_fault, say_end_of_files, say_end_of_interfaces,
-    say_end_of_live, say_end_of_live_interfaces, say_outcome, say_policy_fault, say_read_twice,
-    say_unsaved, say_used_twice, say_wrong_expectations, settled, standard_source, texts_of,
-    watched_where,
+    SystemFiles, Watched, Words, asked_or_status, check_file, expand_file, failure_status,
+    hold_closed_streams, mistyped_status, opened_diff, opened_expecting, opened_live,
+    opened_live_interfaces, read_interface_input, saves_to, say_capture_fault, say_end_of_files,
+    say_end_of_interfaces, say_end_of_live, say_end_of_live_interfaces, say_outcome,
+    say_policy_fault, say_read_twice, say_unsaved, say_used_twice, say_wrong_expectations, settled,
+    standard_source, texts_of, watched_where,
 };
 use std::alloc::Global;
 use std::env::args;
@@ -194,7 +194,7 @@ fn status_of_files<T: Clock + Threads + Wait + Sync>(
         None => run_live(threads, alloc, run, &mut reader, &mut writer, &mut saves),
     };
     reader.progress.end();
-    if say_unsaved(rt, settled(saves.files, true))? {
+    if say_unsaved(rt, settled(saves.files))? {
         return Ok(4);
     }
     let input = SeenFiles {

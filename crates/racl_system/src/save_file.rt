@@ -75,20 +75,19 @@ impl<S: SystemFiles> SaveFile<'_, S, S::Save> {
     }
 
     // Syncs what was written, where all was, so that it is the file of its name, and keeps the reason where that fails. What
-    // failed before is given up.
+    // failed before is left as it stands.
     fn settle(&mut self)
         ensures failed { IsTrue (is_some self.old.reason) → self.new ≡ self.old }
         ensures unopened { self.old.file ≡ None → self.new ≡ self.old }
         ensures bytes { saved_in S.emptied S.Save.contents self.new ≡ saved_in S.emptied S.Save.contents self.old }
         ensures synced { self.new.reason ≡ None → IsSynced S.synced S.Save.contents self.new }
     {
+        if self.reason.is_some() {
+            return;
+        }
         let Some(file) = &mut self.file else {
             return;
         };
-        if self.reason.is_some() {
-            self.system.discard(file);
-            return;
-        }
         if let Err(reason) = self.system.settle(file) {
             self.reason = Some(reason);
         }
@@ -136,10 +135,9 @@ pub fn saves_to<'a, S: SystemFiles>(
     }
 }
 
-// A file of a run that saved packets, synced as far as it was written. What failed before is given up, or left.
+// A file of a run that saved packets, synced as far as it was written. What failed before is left as it stands.
 fn settled_file<'a, S: SystemFiles>(
     file: Option<Device<SaveFile<'a, S, S::Save>>>,
-    leaves_failed: bool,
 ) -> Option<Device<SaveFile<'a, S, S::Save>>>
     ensures failed { IsTrue (has_failed file.entry) → result ≡ file.entry }
     ensures bytes { option_map (λ d. saved_in S.emptied S.Save.contents d.inner) result ≡ option_map (λ d. saved_in S.emptied S.Save.contents d.inner) file.entry }
@@ -148,18 +146,14 @@ fn settled_file<'a, S: SystemFiles>(
     let Some(mut file) = file else {
         return None;
     };
-    if leaves_failed && file.inner.reason.is_some() {
-        return Some(file);
-    }
     file.inner.settle();
     Some(file)
 }
 
 /// The files of a run that saved packets, synced as far as they were written: what fails then is a reason to be told. What
-/// failed before is given up, or left as it stands. No clause says what the system does: `tests/run` looks at it.
+/// failed before is left as it stands. No clause says what the system does: `tests/run` looks at it.
 pub fn settled<'a, S: SystemFiles>(
     saves: Saves<Device<SaveFile<'a, S, S::Save>>>,
-    leaves_failed: bool,
 ) -> Saves<Device<SaveFile<'a, S, S::Save>>>
     ensures drops { IsTrue (has_failed saves.entry.drops) → result.drops ≡ saves.entry.drops }
     ensures passes { IsTrue (has_failed saves.entry.passes) → result.passes ≡ saves.entry.passes }
@@ -169,8 +163,8 @@ pub fn settled<'a, S: SystemFiles>(
 {
     let Saves { drops, passes } = saves;
     Saves {
-        drops: settled_file(drops, leaves_failed),
-        passes: settled_file(passes, leaves_failed),
+        drops: settled_file(drops),
+        passes: settled_file(passes),
     }
 }
 

@@ -59,9 +59,6 @@ pub trait SystemFiles {
     fn settle(&self, file: &mut Self::Save) -> io::Result<()>
         ensures bytes { Self.Save.contents file.new ≡ Self.Save.contents file.old }
         ensures synced { OnOk result (synced file.new ≡ Self.Save.contents file.new) };
-
-    /// Gives up a file that failed.
-    fn discard(&self, file: &Self::Save);
 }
 
 impl SystemFiles for HostRuntime {
@@ -97,18 +94,14 @@ impl SystemFiles for HostRuntime {
         created_draft(self, self.alloc(), name)
     }
 
-    // The toolchain tells nothing of how closing ends.
+    // A draft that doesn't become the file of its name is removed. The toolchain tells nothing of how closing ends.
     fn settle(&self, file: &mut Draft) -> io::Result<()> {
         let settled = file.settle(self);
-        if settled.is_err() {
-            self.discard(file);
-        }
-        settled
-    }
-
-    fn discard(&self, file: &Draft) {
-        if let Some(beside) = file.beside() {
+        if settled.is_err()
+            && let Some(beside) = file.beside()
+        {
             let _ = remove_file(self, beside);
         }
+        settled
     }
 }
