@@ -93,7 +93,7 @@ class Ageing(Case):
         expired = entered - listing.count(b"\n")
         counts = f"sessions entered {entered}\nsessions matched {sum('session' in it for it in verdicts_on(packets))}\nsessions expired {expired}\n"
         self.compare({"some": 100 < listing.count(b"\n") < 5000 < expired}, {"some": True})
-        for ages in ["--age"], ["--age", "--any-length"], ["--live"]:
+        for ages in ["--age"], ["--live"]:
             for workers in "1", "2", "4", "16":
                 words = [*ages, "--workers", workers, "--summary", "--sessions"]
                 report = self.program.run([*words, *files])["stdout"]
@@ -108,7 +108,7 @@ class Ageing(Case):
         for number in range(1, 9):
             packets = [(1000, True, 4, 0), (1000, True, 4, number), (1700, True, 4, 100)]
             files = self.files_of(capture_of(packets))
-            for words in ["--age"], ["--live"], ["--age", "--any-length"], ["--live", "--interface", "0=" + files[1]]:
+            for words in ["--age"], ["--live"], ["--live", "--interface", "0=" + files[1]]:
                 for workers in "1", "2":
                     given = files if "--interface" not in words else files[:1]
                     report = self.program.run([*words, "--workers", workers, "--summary", "--sessions", *given])["stdout"]

@@ -68,7 +68,8 @@ class Files(Case):
 
     def test_captures_put_together(self):
         late = header() + udp(1_700_000_000, True, (1, 1000), (2, 53))
-        self.compare(self.run_on(NAMES, late * 2), wanted(stderr=f"racl: record 3 is too long\nracl: that is {self.capture}\n{PUT_TOGETHER}", status=1))
+        told = f"racl: record 3 is too long\nracl: that is {self.capture}\n{PUT_TOGETHER}"
+        self.compare(self.run_on(NAMES, late * 2), wanted(b"1 pass rule 1 reflect\n2 drop malformed\n", told, 1))
 
     def test_first_record_that_is_too_long(self):
         got = self.run_on(NAMES, header() + record(1, b"", MOST_KEPT + 1))
@@ -101,7 +102,7 @@ class Files(Case):
                              (NAMES + NAMES, "line 3: `mac` stands in this section already"), (b"in deny ipv4 any any\n" * 4097, "line 4097: `in` is one rule too many: a direction has at most 4096")):
             want = wanted(stderr=f"racl: {self.policy}: {told}; see racl check\n", status=1)
             self.compare(self.run_on(policy, CAPTURE), want, told)
-            for words in (["--any-length", self.policy, self.capture], ["--shard", "1/2", self.policy, self.capture], [f"--interface=1={self.capture}", self.policy],
+            for words in (["--live", self.policy, self.capture], ["--shard", "1/2", self.policy, self.capture], [f"--interface=1={self.capture}", self.policy],
                           ["--live", f"--interface=1={self.capture}", self.policy]):
                 self.compare(self.program.run(words), want, told, *words)
 
@@ -151,10 +152,11 @@ class Files(Case):
         self.compare(got, wanted(b"1 drop default\npackets 1 pass 0 drop 1\n"))
 
     def test_too_many_bytes(self):
-        longer = "racl: a capture of any length is read with --any-length\n"
-        for policy, step in ((b" " * (MOST_BYTES - len(CAPTURE)), longer), (b"pcap\n" + b" " * MOST_BYTES, "")):
-            got = self.run_on(policy, CAPTURE)
-            self.compare(got, wanted(stderr=f"racl: input over 67108864 bytes\n{step}", status=1))
+        """A policy may have as many bytes as an input, beside a capture that may have any number."""
+        unruled = f"racl: {self.policy}: interface 0 has no rule, so each of its packets of IP is dropped\n"
+        self.compare(self.run_on(b" " * (MOST_BYTES - len(CAPTURE)), CAPTURE), wanted(DEFAULTS, unruled))
+        got = self.run_on(b"pcap\n" + b" " * MOST_BYTES, CAPTURE)
+        self.compare(got, wanted(stderr="racl: input over 67108864 bytes\n", status=1))
 
     @each(OTHERS)
     def others(self, data, fault, said):

@@ -269,5 +269,3 @@ class LiveInterfaces(Case):
     def test_words(self):
         got = self.program.run(["--live", "--drops", f"{self.folder}/drops", *self.words_of(BOTH), self.policy])
         self.compare({"status": got["status"], "said": b"they need POLICY CAPTURE" in got["stderr"]}, {"status": 2, "said": True})
-        got = self.program.run(["--any-length", *self.words_of(BOTH), self.policy])
-        self.compare({"status": got["status"], "said": b"--any-length needs POLICY CAPTURE" in got["stderr"]}, {"status": 2, "said": True})

@@ -71,13 +71,13 @@ class Shards(Case):
         for words, text in ([], b"shard 2 of 3 of 807 packets until 1700\n"), (["--json"], b'{"shard":2,"shards":3,"capture_packets":807,"capture_until":1700}\n'):
             told = self.program.run(["--shard", "2/3", "--summary", "--hits", *words, held, "-"], ENDED)["stdout"].splitlines(True)
             self.compare({"note": told[1]}, {"note": text}, *words)
-        self.compare({"note": b"shard" in self.program.run(["--any-length", held, "-"], ENDED)["stdout"]}, {"note": False})
+        self.compare({"note": b"shard" in self.program.run([held, "-"], ENDED)["stdout"]}, {"note": False})
 
     def merged(self, policy, capture, status=0):
         held = self.hold("policy", policy)
         for count in COUNTS:
             for words in [], ["--explain"], ["--workers", "3", "--only=drop"], ["--hits", "--sessions"], ["--age", "--hits", "--sessions"], ["--summary", "--hits"]:
-                whole = self.program.run(["--any-length", *words, held, "-"], capture)
+                whole = self.program.run([*words, held, "-"], capture)
                 reports = self.reports(count, words, held, capture)
                 names = [self.hold(f"report{place}", it["stdout"]) for place, it in enumerate(reports)]
                 self.compare({"merged": self.merge(*names)["stdout"]}, {"merged": whole["stdout"]}, count, *words)
@@ -93,7 +93,7 @@ class Shards(Case):
         one, two, three = (self.hold(f"report{place}", it["stdout"]) for place, it in enumerate(self.reports(3, [], held, MANY)))
         of_four = self.hold("of_four", self.reports(4, [], held, MANY)[2]["stdout"])
         other = self.hold("other", self.reports(3, [], held, ENDED)[2]["stdout"])
-        whole = self.hold("whole", self.program.run(["--any-length", held, "-"], MANY)["stdout"])
+        whole = self.hold("whole", self.program.run([held, "-"], MANY)["stdout"])
         objects = self.hold("objects", self.reports(3, ["--json"], held, MANY)[2]["stdout"])
         counts = self.hold("counts", self.reports(3, ["--hits"], held, MANY)[2]["stdout"])
         failed, cut = self.hold("failed", bytes_of_file(three)[:-5]), self.hold("cut", bytes_of_file(three)[:-1])
@@ -136,12 +136,12 @@ class Shards(Case):
         recipe = recipe.replace("--sshlogin one,two,three,four ", "").replace("examples/shards/merge", f"{TOP}/examples/shards/merge")
         environment = {**os.environ, "PATH": f"{self.folder}/bin:{os.environ['PATH']}", "HOME": self.folder}
         ran = subprocess.run(["sh", "-euc", recipe], cwd=self.folder, env=environment, stdin=subprocess.DEVNULL, stdout=subprocess.PIPE, stderr=subprocess.PIPE)
-        whole = self.program.run(["--any-length", f"{self.folder}/host.policy", f"{self.folder}/long.pcap"])
+        whole = self.program.run([f"{self.folder}/host.policy", f"{self.folder}/long.pcap"])
         self.compare({"stdout": ran.stdout, "status": ran.returncode}, {"stdout": whole["stdout"], "status": 0})
 
     def test_objects(self):
         held = self.hold("policy", NAMES)
-        whole = self.program.run(["--any-length", "--json", held, "-"], MANY)["stdout"].splitlines()
+        whole = self.program.run(["--json", held, "-"], MANY)["stdout"].splitlines()
         for count in COUNTS:
             lines = [line for it in self.reports(count, ["--json"], held, MANY) for line in it["stdout"].splitlines()]
             packets = sorted((it for it in lines if b'"packet":' in it), key=lambda it: json.loads(it)["packet"])
@@ -151,7 +151,7 @@ class Shards(Case):
     def test_saved(self):
         """Each file is a capture of the shard's packets, in their order; those of all shards hold the packets of the one run's."""
         held, read = self.hold("policy", NAMES), self.hold("capture", MANY)
-        whole, _ = self.saved("--any-length", held, read)
+        whole, _ = self.saved(held, read)
         for count in COUNTS:
             found = [], []
             for shard in range(1, count + 1):

@@ -25,7 +25,6 @@ RUNS = [
     ("live from standard input", ["--live", "policy", "-"], CAPTURE, REFLECTED, True, NO_WRITE),
     ("live and saved", ["--live", *SAVED, "policy", "capture"], b"", REFLECTED, False, NO_WRITE),
     ("live interfaces", ["--live", "--interface", "1=capture", "of one"], b"", OF_INTERFACE, False, NO_WRITE),
-    ("any length", ["--any-length", *SAVED, "policy", "capture"], b"", REFLECTED, False, NO_WRITE),
     ("a shard", ["--shard", "1/1", *SAVED, "policy", "capture"], b"", REFLECTED + b"shard 1 of 1 of 2 packets until 105\n", False, NO_WRITE),
     ("diff", ["diff", "policy", "policy", "capture"], b"", OTHERS, False, NO_WRITE),
     ("expect", ["--expect", "expected", "policy", "capture"], b"", b"met 1\n", False, NO_WRITE),
@@ -39,7 +38,7 @@ RUNS = [
 # The ways in which a policy is given whose right text is that of `policy`, of which each is to answer as for that.
 WAYS = [
     ["POLICY", "capture"], ["--interface", "0=capture", "POLICY"], ["--live", "POLICY", "capture"],
-    ["--live", "--interface", "0=capture", "POLICY"], ["--any-length", "POLICY", "capture"], ["--shard", "1/1", "POLICY", "capture"],
+    ["--live", "--interface", "0=capture", "POLICY"], ["--shard", "1/1", "POLICY", "capture"],
     ["--expect", "expected", "POLICY", "capture"], ["check", "POLICY"], ["diff", "POLICY", "policy", "capture"],
     ["diff", "policy", "POLICY", "capture"], ["compare", "POLICY", "policy"], ["compare", "policy", "POLICY"], ["ask", "POLICY", EXAMPLE],
     ["ask", "--expect", "expected", "POLICY", EXAMPLE, "out udp 10.0.0.1 1 10.0.0.2 53"],
@@ -48,7 +47,7 @@ WAYS = [
 # Words that name one pipe twice, by the names `one`, `./one` and `linked`, what is said of it, and of which.
 TWICE = [
     (["one", "one"], "one", "one"), (["--live", "one", "./one"], "./one", "one"), (["--live", "--interface", "1=one", "--interface", "2=linked", "policy"], "linked", "one"),
-    (["--interface", "1=linked", "--interface", "2=one", "policy"], "one", "linked"), (["--any-length", "one", "one"], "one", "one"),
+    (["--interface", "1=linked", "--interface", "2=one", "policy"], "one", "linked"),
     (["--shard", "1/2", "one", "one"], "one", "one"), (["--expect", "one", "policy", "linked"], "one", "linked"), (["diff", "policy", "one", "linked"], "linked", "one"),
     (["compare", "one", "linked"], "linked", "one"), (["ask", "--expect", "one", "one", EXAMPLE], "one", "one"),
 ]
