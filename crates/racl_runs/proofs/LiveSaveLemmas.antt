@@ -18,8 +18,6 @@ use Rattle.racl_views.proofs.ChosenLemmas.{chosen_both, pieces_both, pieces_coun
 use Rattle.racl_report.specs.Saves.{HasSaved}
 use Rattle.racl_report.specs.declared.saved_packets.Saves.{Saves}
 use Rattle.capture_stream.specs.Savings.{MaySave, SavesMore}
-use Rattle.racl_io.specs.Inputs.{InputFacts}
-use Rattle.racl_io.specs.declared.marker_line.Form.TheVariants.{Binary}
 use Rattle.racl_runs.specs.LiveSaves.{HaveSaved, MayFail}
 use Rattle.racl_runs.specs.Reads.{IsHeaded}
 use Rattle.racl_runs.specs.inner.Kept.{HasGot, HaveGot, HaveKept}
@@ -106,10 +104,6 @@ saved_more sink failures old new order records verdicts (Err fault) may drops so
 
 -- ---- All of it, as a capture
 
--- an input in which a capture stands as bytes
-abbrev alone : List ℕ → InputFacts
-alone capture = record { policy = []; form = Binary; content = capture }
-
 -- files got those of a capture of this header and these records
 abbrev pub SavesBehind : {S : Type 0} → (S → Option (List ℕ)) → List ℕ → Saves S → Order → List ℕ → List Verdict → Saves S → Type 0
 SavesBehind sink header before order records verdicts after = HaveSaved sink (header ++ records) verdicts before after
@@ -153,7 +147,7 @@ module _ (order : Order) (header read whole rest : List ℕ) (end : End) (headed
       }
 
   pub one_saved : {S : Type 0} (sink : S → Option (List ℕ)) (chosen : Chosen) (a b c : Option S) → HasGot sink header a b
-      → HasGot sink (concat (chosen_among chosen verdicts pieces)) b c → HasSaved sink (alone (header ++ read)) chosen verdicts a c
+      → HasGot sink (concat (chosen_among chosen verdicts pieces)) b c → HasSaved sink (header ++ read) chosen verdicts a c
   one_saved sink chosen None None None first second = tt
   one_saved sink chosen None None (Some z) first second = absurd second
   one_saved sink chosen None (Some y) c first second = absurd first
