@@ -20,7 +20,8 @@ pub struct LiveFiles<S, F> {
     pub capture: Reader<S, F>,
 }
 
-/// The text of the file of a policy whose capture is read as it comes (`text_of_file`). Where it can't be had that is told, and the status is answered.
+/// The text of the file of a policy whose capture is read as it comes (`text_of_file`). Where it can't be had that is told, and the
+/// status is answered.
 pub fn live_policy_text<S: SystemFiles + Eprint>(
     system: &S,
     alloc: Global,
