@@ -53,7 +53,7 @@ class Faults(Case):
     def captures(self, words, is_early, is_named):
         for name, data, text, told, behind in CAPTURES:
             capture = self.hold("capture", data)
-            said = f"racl: {text}\n" + (f"racl: that is {capture}\n{behind}" if is_named else "")
+            said = f"racl: {text}\n" + (f"racl: that is {capture}\n" if is_named else "") + behind
             self.compare(self.run_on(words, capture), wanted(self.front(words, told) if is_early else b"", said, 1), name)
 
     @each(RUNS)
@@ -91,5 +91,6 @@ class Faults(Case):
             want = wanted(stderr=f"racl: {text}\n", status=1)
             self.compare(self.program.run(data=policy + b"pcap\n" + capture), want, text)
             self.compare(self.program.run(data=policy + b"hex\n" + capture.hex().encode() + b"\n"), want, text, "as digits")
-        for data, text in ((NAMES, "no pcap or hex line"), (NAMES + b"hex\n0\n", "bad hexadecimal"), (NAMES + b"hex 1\nhex 1\n", "interface 1 has two captures")):
+        numbered = b"hex 1\n" + CAPTURE.hex().encode() + b"\n"
+        for data, text in ((NAMES, "no pcap or hex line"), (NAMES + b"hex\n0\n", "bad hexadecimal"), (NAMES + 2 * numbered, "interface 1 has two captures")):
             self.compare(self.program.run(data=data), wanted(stderr=f"racl: {text}\n", status=1), text)
