@@ -1,8 +1,7 @@
-pub mod OneLemmas
-pub mod ReportLemmas
-pub mod RunLemmas
-pub mod TellLemmas
 mod CaptureLemmas
 pub mod LineLemmas
+pub mod OneLemmas
+pub mod ReportLemmas
 mod RunLemmas
 pub mod SaveLemmas
+pub mod TellLemmas

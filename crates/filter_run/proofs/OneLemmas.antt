@@ -166,6 +166,15 @@ module _ {R J O V : Type 0} (bytes : R → Option (List ℕ)) (failures : R → 
         why = tt;
       }
 
+  -- it has the reader that it had
+  pub one_same : (found : FaultAt) → IsRunFault one_words source judge observer then after found → then.reader.ghost_name ≡ source.reader.ghost_name
+  one_same found (inl stopped) = elim stopped.why [
+    | inl failed ↦ failed.same
+    | inr (inl (memory, gone, place, gave)) ↦ gave.same
+    | inr (inr (large, gave, many)) ↦ gave.same
+  ]
+  one_same found (inr ended) = ended.gave.same
+
   -- how often the reader failed, where an observer fails by a write or for memory
   pub one_read : (found : FaultAt)
       → ((batches : List (JudgedBatch V)) → cut observer batches found.fault after → (found.fault ≡ fault.Write) ⊎ (found.fault ≡ fault.Memory))

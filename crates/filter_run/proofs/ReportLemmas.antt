@@ -23,7 +23,7 @@ use Rattle.capture_stream.specs.declared.arrivals.FaultAt.{FaultAt}
 use Rattle.filter_run.specs.Batches.{AreEach, JudgedBatch, batches_of, packets_in, packets_of, said_of}
 use Rattle.filter_run.specs.CaptureReports.{HasToldAll, HasToldPart, HasToldSome, IsLiveFault}
 use Rattle.filter_run.specs.Filters.{HasSaid}
-use Rattle.filter_run.specs.Lines.{HasCutLines, HasToldLines, IsCutText, text_of}
+use Rattle.filter_run.specs.Lines.{AreSame, HasCutLines, HasToldLines, IsCutText, text_of}
 use Rattle.filter_run.specs.Observers.{IsBeforeLast}
 use Rattle.filter_run.specs.OneCapture.{AreNumbered, HasGivenSome, IsWhy, bytes_of, records_of}
 use Rattle.filter_run.specs.Ran.{HasCutRun, HasStopped, IsRunFault, Ran, Words}
@@ -61,8 +61,7 @@ lines_passing wording bytes failures begun now judged told =
 
 module _ {J L K R W : Type 0} (Became : J → List PacketFacts → List Verdict → J → Type 0) (Judged : J → List PacketFacts → List Verdict → Type 0)
     (wording : L → Wording) (saved : K → Order → List ℕ → List Verdict → K → Type 0) (saving : K → ℕ) (bytes : R → Option (List ℕ)) (failures : R → ℕ)
-    (written : W → Option (List ℕ)) (writing : W → ℕ) (source then : OneCapture R) (judge : J) (old new : ToldLines L W × SavedRecords K)
-    (same_order : old.1.order ≡ source.engine.order) where
+    (written : W → Option (List ℕ)) (writing : W → ℕ) (source then : OneCapture R) (judge : J) (old new : ToldLines L W × SavedRecords K) where
   abbrev said_so : OneFilter J → List PacketFacts → List Verdict → OneFilter J → Type 0
   said_so begun packets said now = HasSaid Became Judged begun.inner packets said now.inner
 
@@ -102,9 +101,9 @@ module _ {J L K R W : Type 0} (Became : J → List PacketFacts → List Verdict 
         subst (λ (ps : List PacketFacts). Judged judge ps (said_of judged)) (packets_one 0 source.engine.order judged numbered)
         (said.judged (some_packets 0 source.engine.order judged numbered some))
 
-    report_saved : HasSavedSome saved saving old.1 judged new.1
+    report_saved : old.1.order ≡ source.engine.order → HasSavedSome saved saving old.1 judged new.1
         → saved old.1.saver.now source.engine.order (bytes_of (batches_of judged)) (said_of judged) new.1.saver.now
-    report_saved told =
+    report_saved same_order told =
         let all = told.all (subst (λ (o : Order). AreOf o judged) (sym same_order) (of_numbered 0 source.engine.order judged numbered)) in
         subst (λ (o : Order). saved old.1.saver.now o (bytes_of (batches_of judged)) (said_of judged) new.1.saver.now) same_order
         (subst (λ (b : List ℕ). saved old.1.saver.now old.1.order b (said_of judged) new.1.saver.now) all.0
@@ -113,10 +112,10 @@ module _ {J L K R W : Type 0} (Became : J → List PacketFacts → List Verdict 
     -- all of it was told, before the rest
     some_told : (now : J) → HasSaid Became Judged judge (packets_of judged) (said_of judged) now → (rest : List ℕ)
         → HasGivenSome source.engine.order (bytes source.reader.now) (bytes then.reader.now) (batches_of judged) rest
-        → Appends (written old.0.writer.now) (written new.0.writer.now) (text_of (wording old.0.teller.now) judged) → HasSavedSome saved saving old.1 judged new.1
-        → HasToldSome Judged manner judge source.engine.order (bytes source.reader.now) (bytes then.reader.now) began became rest
+        → Appends (written old.0.writer.now) (written new.0.writer.now) (text_of (wording old.0.teller.now) judged) → old.1.order ≡ source.engine.order
+        → HasSavedSome saved saving old.1 judged new.1 → HasToldSome Judged manner judge source.engine.order (bytes source.reader.now) (bytes then.reader.now) began became rest
     unfolding report_text report_judged report_saved
-    some_told now said rest given text kept = record {
+    some_told now said rest given text same_order kept = record {
       read = given.read;
       consumed = given.consumed;
       packets = records_of (batches_of judged);
@@ -127,7 +126,7 @@ module _ {J L K R W : Type 0} (Became : J → List PacketFacts → List Verdict 
       text = subst (Appends (written old.0.writer.now) (written new.0.writer.now)) report_text text;
       whole = bytes_of (batches_of judged);
       spelt = given.spelt;
-      saved = report_saved kept;
+      saved = report_saved same_order kept;
     }
 
     -- or a front of it
@@ -151,68 +150,68 @@ module _ {J L K R W : Type 0} (Became : J → List PacketFacts → List Verdict 
     -- the source failed
     why_live : (now : J) → HasSaid Became Judged judge (packets_of judged) (said_of judged) now → (rest : List ℕ)
         → (given : HasGivenSome source.engine.order (bytes source.reader.now) (bytes then.reader.now) (batches_of judged) rest)
-        → Appends (written old.0.writer.now) (written new.0.writer.now) (text_of (wording old.0.teller.now) judged) → HasSavedSome saved saving old.1 judged new.1
-        → (found : Fault) → IsWhy source.engine.order given.read (batches_of judged) rest found → Fails found
+        → Appends (written old.0.writer.now) (written new.0.writer.now) (text_of (wording old.0.teller.now) judged) → old.1.order ≡ source.engine.order
+        → HasSavedSome saved saving old.1 judged new.1 → (found : Fault) → IsWhy source.engine.order given.read (batches_of judged) rest found → Fails found
     unfolding some_told
-    why_live now said rest given text kept fault.Memory why = (rest, some_told now said rest given text kept)
-    why_live now said rest given text kept fault.Read why = (rest, some_told now said rest given text kept, why.0, why.1)
-    why_live now said rest given text kept fault.TooLarge why = (rest, some_told now said rest given text kept, why)
-    why_live now said rest given text kept (fault.LongRecord number) why = (rest, some_told now said rest given text kept, why.0, why.1)
-    why_live now said rest given text kept found why = absurd why
+    why_live now said rest given text same_order kept fault.Memory why = (rest, some_told now said rest given text same_order kept)
+    why_live now said rest given text same_order kept fault.Read why = (rest, some_told now said rest given text same_order kept, why.0, why.1)
+    why_live now said rest given text same_order kept fault.TooLarge why = (rest, some_told now said rest given text same_order kept, why)
+    why_live now said rest given text same_order kept (fault.LongRecord number) why = (rest, some_told now said rest given text same_order kept, why.0, why.1)
+    why_live now said rest given text same_order kept found why = absurd why
 
   -- ---- Why not all was told
 
   -- the run stopped
-  stopped_live : (found : FaultAt) → HasStopped report_words source (record { inner = judge }) old then new found → Fails found.fault
+  stopped_live : old.1.order ≡ source.engine.order → (found : FaultAt) → HasStopped report_words source (record { inner = judge }) old then new found → Fails found.fault
   unfolding why_live
-  stopped_live found stopped =
+  stopped_live same_order found stopped =
       let behind = one_stopped bytes failures said_so told_both cut_one source then (record { inner = judge }) old new found stopped in
-      why_live stopped.judged stopped.each behind.numbered stopped.said.0.inner stopped.said.1 behind.rest behind.some stopped.told.0.text stopped.told.1 found.fault behind.why
+      why_live stopped.judged stopped.each behind.numbered stopped.said.0.inner stopped.said.1 behind.rest behind.some stopped.told.0.text same_order stopped.told.1 found.fault behind.why
 
   -- the lines were cut
-  lines_live : (found : FaultAt) (which : Fault) (cut : HasCutRun report_words source (record { inner = judge }) old then new found)
+  lines_live : old.1.order ≡ source.engine.order → (found : FaultAt) (which : Fault) (cut : HasCutRun report_words source (record { inner = judge }) old then new found)
       → HasCutLines wording written writing old.0 (cut.earlier ++ cut.last ∷ []) which new.0
       → IsBeforeLast (HasSavedSome saved saving) old.1 (cut.earlier ++ cut.last ∷ []) new.1 → Fails which
   unfolding some_told some_part
-  lines_live found fault.Memory cut lines kept =
+  lines_live same_order found fault.Memory cut lines kept =
       let behind = one_earlier bytes failures said_so told_both cut_one source then (record { inner = judge }) old new found cut in
       let text = subst (λ (js : List (JudgedBatch Verdict)). Appends (written old.0.writer.now) (written new.0.writer.now) (text_of (wording old.0.teller.now) js))
       (sym (same_from_push cut.earlier lines.earlier cut.last lines.last lines.all).0) lines.text in
       let told = subst (λ (js : List (JudgedBatch Verdict)). HasSavedSome saved saving old.1 js new.1) (sym (same_from_push cut.earlier kept.earlier cut.last kept.last kept.all).0)
       kept.told in
-      (behind.rest, some_told cut.earlier (each_front cut.earlier (cut.last ∷ []) cut.each) behind.numbered cut.before.0.inner cut.before.1 behind.rest behind.some text told)
-  lines_live found fault.Write cut lines kept =
+      (behind.rest, some_told cut.earlier (each_front cut.earlier (cut.last ∷ []) cut.each) behind.numbered cut.before.0.inner cut.before.1 behind.rest behind.some text same_order told)
+  lines_live same_order found fault.Write cut lines kept =
       some_part (cut.earlier ++ cut.last ∷ []) cut.each cut.gave.numbered cut.said.0.inner cut.said.1 (rest_in then.engine) cut.gave.some lines.text
-  lines_live found which cut lines kept = absurd lines.text
+  lines_live same_order found which cut lines kept = absurd lines.text
 
-  cut_live : (found : FaultAt) → HasCutRun report_words source (record { inner = judge }) old then new found → Fails found.fault
+  cut_live : old.1.order ≡ source.engine.order → (found : FaultAt) → HasCutRun report_words source (record { inner = judge }) old then new found → Fails found.fault
   unfolding lines_live some_part
-  cut_live found cut =
+  cut_live same_order found cut =
       let judged = cut.earlier ++ cut.last ∷ [] in
       elim cut.cut [
-        | inl (lines, kept) ↦ lines_live found found.fault cut lines kept
+        | inl (lines, kept) ↦ lines_live same_order found found.fault cut lines kept
         | inr (told, saves) ↦ subst Fails (sym saves.write)
             (some_part judged cut.each cut.gave.numbered cut.said.0.inner cut.said.1 (rest_in then.engine) cut.gave.some
             (text_of (wording old.0.teller.now) judged, [], sym (append-nil (text_of (wording old.0.teller.now) judged)), told.text))
       ]
 
   -- why not all was told
-  pub report_fault : (found : FaultAt) → IsRunFault report_words source (record { inner = judge }) old then new found
+  pub report_fault : old.1.order ≡ source.engine.order → (found : FaultAt) → IsRunFault report_words source (record { inner = judge }) old then new found
       → IsLiveFault Judged (manner_of (wording old.0.teller.now) saved) judge source.engine.order (bytes source.reader.now) (bytes then.reader.now)
       (outputs (written old.0.writer.now) old.1.saver.now) (outputs (written new.0.writer.now) new.1.saver.now) found.fault
   unfolding stopped_live cut_live
-  report_fault found (inl stopped) = stopped_live found stopped
-  report_fault found (inr cut) = cut_live found cut
+  report_fault same_order found (inl stopped) = stopped_live same_order found stopped
+  report_fault same_order found (inr cut) = cut_live same_order found cut
 
   -- ---- All was told
 
-  pub report_told : (at : OneFilter J) (captures : List Captured) (ended : ReportedCapture J) (truncated : Bool)
+  pub report_told : old.1.order ≡ source.engine.order → (at : OneFilter J) (captures : List Captured) (ended : ReportedCapture J) (truncated : Bool)
       → Ran report_words source (record { inner = judge }) old then at new captures → truncated ≡ is_truncated captures
       → ended.totals ≡ totals_with new.0.packets new.0.passed new.0.without_pages truncated → ended.judges ≡ at.inner
       → HasToldAll Became Judged (manner_of (wording old.0.teller.now) saved) judge source.engine.order (bytes source.reader.now) (bytes then.reader.now)
       (outputs (written old.0.writer.now) old.1.saver.now) (outputs (written new.0.writer.now) new.1.saver.now) ended
   unfolding report_text report_judged report_saved
-  report_told at captures ended truncated ran cut totals judges =
+  report_told same_order at captures ended truncated ran cut totals judges =
       let judged = ran.judged in
       let order = source.engine.order in
       let over = ran.over in
@@ -238,10 +237,15 @@ module _ {J L K R W : Type 0} (Became : J → List PacketFacts → List Verdict 
         text = subst (Appends (written old.0.writer.now) (written new.0.writer.now)) (report_text judged ran.each over.numbered) lines.text;
         whole = bytes_of (batches_of judged);
         spelt = over.some.spelt;
-        saved = report_saved judged ran.each over.numbered ran.told.1;
+        saved = report_saved judged ran.each over.numbered same_order ran.told.1;
         stand = subst (λ (j : J). Became judge (packets_at 0 (records_of (batches_of judged))) (said_of judged) j) (sym judges)
             (subst (λ (ps : List PacketFacts). Became judge ps (said_of judged) at.inner) (packets_one 0 order judged over.numbered) ran.became.stand);
       }
+
+  -- the observers have what they had
+  pub report_same : (found : FaultAt) → IsRunFault report_words source (record { inner = judge }) old then new found → AreSame old.0 new.0 × (new.1.saver.ghost_name ≡ old.1.saver.ghost_name)
+  report_same found (inl stopped) = (stopped.told.0.same, stopped.told.1.same)
+  report_same found (inr cut) = elim cut.cut [ inl (lines, kept) ↦ (lines.same, kept.told.same) | inr (told, saves) ↦ (told.same, saves.same) ]
 
   -- ---- How often devices failed
 
@@ -309,26 +313,21 @@ pub record AreLent {L K R W : Type 0} (source then : OneCapture R) (old new : To
 module _ {J L K R W : Type 0} (Became : J → List PacketFacts → List Verdict → J → Type 0) (Judged : J → List PacketFacts → List Verdict → Type 0)
     (wording : L → Wording) (saved : K → Order → List ℕ → List Verdict → K → Type 0) (saving : K → ℕ) (bytes : R → Option (List ℕ)) (failures : R → ℕ)
     (written : W → Option (List ℕ)) (writing : W → ℕ) (source then : OneCapture R) (judge : J) (old new : ToldLines L W × SavedRecords K)
-    (order : Order) (reader left : R) (teller : L) (writer wrote : W) (saver kept : K) (lent : AreLent source then old new order reader left teller writer wrote saver kept) where
+    (order : Order) (reader left : R) (teller : L) (writer wrote : W) (saver kept : K) where
   pub fault_lent : (found : FaultAt)
-      → IsRunFault (report_words Became Judged wording saved saving bytes failures written writing source then judge old new (lent.saves_order ∙ sym lent.same_order)) source
-      (record { inner = judge }) old then new found
+      → IsRunFault (report_words Became Judged wording saved saving bytes failures written writing source then judge old new) source (record { inner = judge }) old then new found
+      → AreLent source then old new order reader left teller writer wrote saver kept
       → IsLiveFault Judged (manner_of (wording teller) saved) judge order (bytes reader) (bytes left) (outputs (written writer) saver) (outputs (written wrote) kept) found.fault
-  fault_lent found wrong =
-      subst (λ (k : K). IsLiveFault Judged (manner_of (wording teller) saved) judge order (bytes reader) (bytes left) (outputs (written writer) saver) (outputs (written wrote) k) found.fault)
-      lent.kept_is
-      (subst (λ (w : W). IsLiveFault Judged (manner_of (wording teller) saved) judge order (bytes reader) (bytes left) (outputs (written writer) saver)
-      (outputs (written w) new.1.saver.now) found.fault) lent.wrote_is
-      (subst (λ (k : K). IsLiveFault Judged (manner_of (wording teller) saved) judge order (bytes reader) (bytes left) (outputs (written writer) k)
-      (outputs (written new.0.writer.now) new.1.saver.now) found.fault) lent.save
-      (subst (λ (w : W). IsLiveFault Judged (manner_of (wording teller) saved) judge order (bytes reader) (bytes left) (outputs (written w) old.1.saver.now)
-      (outputs (written new.0.writer.now) new.1.saver.now) found.fault) lent.write
-      (subst (λ (r : R). IsLiveFault Judged (manner_of (wording teller) saved) judge order (bytes reader) (bytes r) (outputs (written old.0.writer.now) old.1.saver.now)
-      (outputs (written new.0.writer.now) new.1.saver.now) found.fault) lent.left_is
-      (subst (λ (r : R). IsLiveFault Judged (manner_of (wording teller) saved) judge order (bytes r) (bytes then.reader.now) (outputs (written old.0.writer.now) old.1.saver.now)
-      (outputs (written new.0.writer.now) new.1.saver.now) found.fault) lent.read
-      (subst (λ (o : Order). IsLiveFault Judged (manner_of (wording teller) saved) judge o (bytes source.reader.now) (bytes then.reader.now)
-      (outputs (written old.0.writer.now) old.1.saver.now) (outputs (written new.0.writer.now) new.1.saver.now) found.fault) lent.same_order
-      (subst (λ (l : L). IsLiveFault Judged (manner_of (wording l) saved) judge source.engine.order (bytes source.reader.now) (bytes then.reader.now)
-      (outputs (written old.0.writer.now) old.1.saver.now) (outputs (written new.0.writer.now) new.1.saver.now) found.fault) lent.words
-      (report_fault Became Judged wording saved saving bytes failures written writing source then judge old new (lent.saves_order ∙ sym lent.same_order) found wrong))))))))
+  fault_lent found wrong lent =
+      rw (← lent.kept_is, ← lent.wrote_is, ← lent.save, ← lent.write, ← lent.left_is, ← lent.read, ← lent.same_order, ← lent.words)
+      (report_fault Became Judged wording saved saving bytes failures written writing source then judge old new (lent.saves_order ∙ sym lent.same_order) found wrong)
+
+  pub told_lent : (at : OneFilter J) (captures : List Captured) (ended : ReportedCapture J) (truncated : Bool)
+      → Ran (report_words Became Judged wording saved saving bytes failures written writing source then judge old new) source (record { inner = judge }) old then at new captures
+      → truncated ≡ is_truncated captures → ended.totals ≡ totals_with new.0.packets new.0.passed new.0.without_pages truncated → ended.judges ≡ at.inner
+      → AreLent source then old new order reader left teller writer wrote saver kept
+      → HasToldAll Became Judged (manner_of (wording teller) saved) judge order (bytes reader) (bytes left) (outputs (written writer) saver) (outputs (written wrote) kept) ended
+  told_lent at captures ended truncated ran cut totals judges lent =
+      rw (← lent.kept_is, ← lent.wrote_is, ← lent.save, ← lent.write, ← lent.left_is, ← lent.read, ← lent.same_order, ← lent.words)
+      (report_told Became Judged wording saved saving bytes failures written writing source then judge old new (lent.saves_order ∙ sym lent.same_order) at captures ended truncated ran cut
+      totals judges)

@@ -76,7 +76,9 @@ pub fn report_capture<J: Judge + Drop, L: Teller, K: Saver, R: Source, W: Sink>(
         ToldLines::new(teller, writer),
         SavedRecords { saver, order },
     );
-    match run(alloc, &mut source, &mut judge, &mut observers) {
+    let ran = run(alloc, &mut source, &mut judge, &mut observers);
+    let _reader = source.into_reader();
+    match ran {
         Ok(captures) => {
             let totals = observers.0.totals(is_any_cut(&captures));
             let OneFilter { inner } = judge;

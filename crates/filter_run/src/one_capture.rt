@@ -58,6 +58,15 @@ impl<'r, R> OneCapture<'r, R> {
         Ok(captures)
     }
 
+    /// The reader, behind all that was read.
+    pub fn into_reader(self) -> &'r mut R
+        ensures same { result.ghost_name ≡ self.entry.reader.ghost_name }
+        ensures behind { result.now ≡ self.entry.reader.now }
+    {
+        let OneCapture { reader, .. } = self;
+        reader
+    }
+
     // The whole records that wait. What waits behind them gets this room.
     fn part(&mut self, room: ReadBuffer) -> Result<Batch, AllocError>
         requires found { HaveFound self.old.engine.order (rest_in self.old.engine) self.old.engine.found }

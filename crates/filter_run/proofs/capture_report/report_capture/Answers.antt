@@ -1,27 +1,63 @@
-use Rattle.std.proofs.Common.{rules, ◌≡◌, ◌-◌, ◌<◌, ◌^◌, [], IfOk, MatchResult, ℕ, ◌+◌, length}
+use Rattle.std.proofs.Common.{rules, ap, refl}
+use Rattle.racl_io.specs.Reports.{is_truncated}
+use Rattle.filter_run.proofs.OneLemmas.{one_same}
+use Rattle.filter_run.proofs.ReportLemmas.{fault_lent, report_read, report_same, report_write, told_lent}
 use Rattle.filter_run.proofs.capture_report.report_capture.Goals as goal
 
 pub returns-in-Ok-clause-told : goal.returns-in-Ok-clause-told
 returns-in-Ok-clause-told g c =
-    let a = c.run.ensures in let b = c.in-Ok.ensures in let d = c.reader-1 in let e = c.writer-1 in let f = c.saver-1 in let h = c.teller-1 in let i = c.in-Ok.in-Ok-own in let j = c.in-Ok.known_told-1-own in
-    let k = c.observers-2-1 in let l = c.new-arg-2-1 in let m = c.observers-1 in let n = c.totals-totals.ensures in let o = c.new.ensures in let p = c.source-1 in let q = c.run.new in ?
+    let ran = c.in-Ok.ensures in
+    let reads = ran.over.same in
+    let lines = ran.told.0.same in
+    let saves = ran.told.1.same in
+    told_lent g.J.Judge.became g.J.Judge.judged g.L.Teller.wording g.K.Saver.saved g.K.Saver.failures g.R.Source.bytes g.R.Source.failures g.W.Sink.bytes g.W.Sink.failures
+    c.new-source.result c.run-ran.new.source c.args.capture.judges _ c.run-ran.new.observer c.args.capture.order c.args.reader.now _ c.args.teller.now c.args.writer.now _
+    c.args.saver.now _ c.run-ran.new.judge c.in-Ok.captures.items (record { judges = c.run-ran.new.judge.inner; totals = c.totals-totals.result }) c.is_any_cut.result
+    ran (search rules) c.totals-totals.ensures refl (record {
+      same_order = c.new-source.ensures.order;
+      saves_order = refl;
+      read = c.new-source.ensures.reader;
+      words = c.new.ensures.teller;
+      write = c.new.ensures.writer;
+      save = refl;
+      left_is = search rules;
+      wrote_is = search rules;
+      kept_is = search rules;
+    })
 
-pub returns-in-Ok-clause-read : goal.returns-in-Ok-clause-read
-returns-in-Ok-clause-read g c = ?
+pub returns-in-Err-clause-told : goal.returns-in-Err-clause-told
+returns-in-Err-clause-told g c =
+    let wrong = c.in-Err.ensures in
+    let reads = one_same g.R.Source.bytes g.R.Source.failures _ _ _ c.new-source.result c.run-ran.new.source _ _ c.run-ran.new.observer c.in-Err.found wrong in
+    let writes = report_same g.J.Judge.became g.J.Judge.judged g.L.Teller.wording g.K.Saver.saved g.K.Saver.failures g.R.Source.bytes g.R.Source.failures g.W.Sink.bytes
+    g.W.Sink.failures c.new-source.result c.run-ran.new.source c.args.capture.judges _ c.run-ran.new.observer c.in-Err.found wrong in
+    fault_lent g.J.Judge.became g.J.Judge.judged g.L.Teller.wording g.K.Saver.saved g.K.Saver.failures g.R.Source.bytes g.R.Source.failures g.W.Sink.bytes g.W.Sink.failures
+    c.new-source.result c.run-ran.new.source c.args.capture.judges _ c.run-ran.new.observer c.args.capture.order c.args.reader.now _ c.args.teller.now c.args.writer.now _
+    c.args.saver.now _ c.in-Err.found wrong (record {
+      same_order = c.new-source.ensures.order;
+      saves_order = refl;
+      read = c.new-source.ensures.reader;
+      words = c.new.ensures.teller;
+      write = c.new.ensures.writer;
+      save = refl;
+      left_is = search rules;
+      wrote_is = search rules;
+      kept_is = search rules;
+    })
 
-pub returns-in-Ok-clause-write : goal.returns-in-Ok-clause-write
-returns-in-Ok-clause-write g c = ?
+pub returns-in-Err-clause-read : goal.returns-in-Err-clause-read
+returns-in-Err-clause-read g c =
+    let wrong = c.in-Err.ensures in
+    let reads = one_same g.R.Source.bytes g.R.Source.failures _ _ _ c.new-source.result c.run-ran.new.source _ _ c.run-ran.new.observer c.in-Err.found wrong in
+    let failed = report_read g.J.Judge.became g.J.Judge.judged g.L.Teller.wording g.K.Saver.saved g.K.Saver.failures g.R.Source.bytes g.R.Source.failures g.W.Sink.bytes
+    g.W.Sink.failures c.new-source.result c.run-ran.new.source c.args.capture.judges _ c.run-ran.new.observer c.in-Err.found wrong in
+    search rules
 
-pub returns-in-Ok-clause-same : goal.returns-in-Ok-clause-same
-returns-in-Ok-clause-same g c = ?
-
-pub returns-clause-told : goal.returns-clause-told
-returns-clause-told g c =
-    let a = c.run.ensures in let b = c.in-Err.ensures in let d = c.reader-2-1 in let e = c.in-Err.in-Err-own in let f = c.in-Err.known_told-in-Err-1-own in let h = c.in-Err.teller-in-Err-1-own in let i = c.in-Err.writer-in-Err-1-own in
-    let j = c.in-Err.saver-in-Err-1-own in ?
-
-pub returns-clause-read : goal.returns-clause-read
-returns-clause-read g c = ?
-
-pub returns-clause-write : goal.returns-clause-write
-returns-clause-write g c = ?
+pub returns-in-Err-clause-write : goal.returns-in-Err-clause-write
+returns-in-Err-clause-write g c =
+    let wrong = c.in-Err.ensures in
+    let same = report_same g.J.Judge.became g.J.Judge.judged g.L.Teller.wording g.K.Saver.saved g.K.Saver.failures g.R.Source.bytes g.R.Source.failures g.W.Sink.bytes
+    g.W.Sink.failures c.new-source.result c.run-ran.new.source c.args.capture.judges _ c.run-ran.new.observer c.in-Err.found wrong in
+    let failed = report_write g.J.Judge.became g.J.Judge.judged g.L.Teller.wording g.K.Saver.saved g.K.Saver.failures g.R.Source.bytes g.R.Source.failures g.W.Sink.bytes
+    g.W.Sink.failures c.new-source.result c.run-ran.new.source c.args.capture.judges _ c.run-ran.new.observer c.in-Err.found wrong in
+    search rules
