@@ -1,4 +1,5 @@
 pub mod Batches
+pub mod Both
 pub mod CaptureReports
 pub mod Filters
 pub mod Judges

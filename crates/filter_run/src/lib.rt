@@ -2,6 +2,7 @@
 #![tactic(auto)]
 
 mod batch;
+mod both;
 mod capture_report;
 mod judge;
 mod nobody;
@@ -15,6 +16,7 @@ mod source;
 mod told_lines;
 
 pub use batch::Batch;
+pub use both::Both;
 pub use capture_report::{OpenCapture, ReportedCapture, report_capture};
 pub use judge::Judge;
 pub use observer::Observer;
