@@ -1,5 +1,5 @@
 pub mod ChangeLemmas
-pub mod CompareLemmas
+pub mod ChangesToldLemmas
 pub mod FileLemmas
 pub mod MeetingLemmas
 pub mod NumberLemmas

@@ -1,5 +1,5 @@
 -- Definitions that go as the code goes. No promise is said by them.
 pub mod ChangeLines
-pub mod Comparisons
+pub mod ChangesTold
 pub mod Reading
 pub mod Totals

@@ -4,8 +4,8 @@
 mod change_lines;
 mod change_totals;
 mod changed_packets;
+mod changes_told;
 mod compared_at_once;
-mod compared_capture;
 mod expectation;
 mod expectation_fault;
 mod expectation_file;
@@ -21,7 +21,6 @@ mod wanted_words;
 pub use change_lines::{Change, PolicyPair};
 pub use change_totals::{ChangeTotals, status_of_changes};
 pub use compared_at_once::{is_met, write_compared};
-pub use compared_capture::tell_changes;
 pub use expectation::{Expectation, Expected, Total, Wanted};
 pub use expectation_fault::{ExpectationFault, ExpectationReason};
 pub use expectation_file::read_expectations;
