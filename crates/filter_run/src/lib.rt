@@ -17,7 +17,7 @@ mod told_lines;
 
 pub use batch::Batch;
 pub use both::Both;
-pub use capture_report::{OpenCapture, ReportedCapture, report_capture};
+pub use capture_report::{OpenCapture, ReportedCapture, is_any_cut, report_capture};
 pub use judge::Judge;
 pub use observer::Observer;
 pub use one_capture::OneCapture;
