@@ -2,7 +2,7 @@
 use Rattle.std.proofs.Common.{◌≡◌, ◌∙◌, ◌≤◌, ◌<◌, ◌+◌, ◌-◌, ◌^◌, ◌++◌, ℕ, List, [], ◌∷◌, Option, ap, append-nil, append_assoc, arith, false, flat_map, length, map, refl, subst, sym}
 use Rattle.std.proofs.lemmas.List.{length-append, length-map}
 use Rattle.std.proofs.lemmas.List.Concat.{flat_map-append}
-use Rattle.std.proofs.KnownBytes.{Appends-nil, Appends-trans}
+use Rattle.std.proofs.KnownBytes.{Appends-trans}
 use Rattle.std.specs.Io.KnownBytes.{Appends}
 use Rattle.packet_view.specs.Captures.{PacketFacts}
 use Rattle.acl_policy.specs.Policies.{PolicyFacts}
@@ -13,6 +13,7 @@ use Rattle.racl_io.specs.Tellings.{IsTellingFault, with_write}
 use Rattle.filter_run.specs.Batches.{JudgedBatch, packets_in, said_of}
 use Rattle.filter_run.specs.Both.{firsts, seconds}
 use Rattle.filter_run.specs.Observers.{IsCutAt, MayHear, TellsMore}
+use Rattle.filter_run.proofs.RunLemmas.{flat_push}
 use Rattle.compared_verdicts.specs.Changes.{ChangeFacts, PairFacts, change_facts, changes_from, pair_facts}
 use Rattle.compared_verdicts.specs.ChangeReports.{totals_of, with_changes}
 use Rattle.compared_verdicts.specs.declared.change_lines.Change.{Change}
@@ -23,10 +24,6 @@ use Rattle.compared_verdicts.specs.inner.ChangesTold.{AreSame, HasCutChanges, Ha
 use Rattle.compared_verdicts.specs.inner.Totals.{HasRoom}
 use Rattle.compared_verdicts.proofs.ChangeLemmas.{few_changes, few_counted, told_by, totals_more}
 
--- what stands behind the last
-flat_push : {X A : Type 0} (f : X → List A) (xs : List X) (x : X) → flat_map f (xs ++ x ∷ []) ≡ flat_map f xs ++ f x
-flat_push f xs x = flat_map-append f xs (x ∷ []) ∙ ap (λ t. flat_map f xs ++ t) (append-nil (f x))
-
 -- the lines of some, and of those behind them
 lines_by_both : (policy : PolicyFacts) (xs ys : List ChangeFacts) → lines_by policy (xs ++ ys) ≡ lines_by policy xs ++ lines_by policy ys
 lines_by_both policy [] ys = refl
@@ -35,7 +32,7 @@ lines_by_both policy (x ∷ xs) ys =
 
 module _ (policies : PairFacts) where
   -- what is told of batches, and of one behind them
-  text_both : (judged : List (JudgedBatch (Verdict × Verdict))) (one : JudgedBatch (Verdict × Verdict))
+  pub text_both : (judged : List (JudgedBatch (Verdict × Verdict))) (one : JudgedBatch (Verdict × Verdict))
       → text_of policies (judged ++ one ∷ []) ≡ text_of policies judged ++ text_of policies (one ∷ [])
   text_both judged one =
       ap (lines_by policies.after) (flat_map-append (batch_changes policies) judged (one ∷ []))
@@ -65,16 +62,6 @@ module _ (policies : PairFacts) where
       told_by policies.after changes ∙ ap (lines_by policies.after) (are ∙ sym (append-nil (batch_changes policies one)))
 
 module _ {W : Type 0} (bytes : W → Option (List ℕ)) (failures : W → ℕ) where
-  -- nothing was told
-  pub changes_begun : (lines : ChangeLines W) → failures lines.writer.now < 2 ^ 64 - 1 → lines.totals ≡ totals_of [] 0 false → HasToldChanges bytes failures lines [] lines
-  changes_begun lines few none = record {
-    same = record { policies = refl; writer = refl };
-    text = Appends-nil (bytes lines.writer.now);
-    few = few;
-    sound = refl;
-    totals = none;
-  }
-
   module _ (old : ChangeLines W) where
     -- the counts are numbers of 64 bits
     pub changes_room : (one : JudgedBatch (Verdict × Verdict)) (changes : List Change) → map change_facts changes ≡ batch_changes (pair_facts old.policies) one

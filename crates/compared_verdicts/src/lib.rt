@@ -2,6 +2,7 @@
 #![tactic(auto)]
 
 mod change_lines;
+mod change_report;
 mod change_totals;
 mod changed_packets;
 mod changes_told;
@@ -19,6 +20,7 @@ mod verdict_words;
 mod wanted_words;
 
 pub use change_lines::{Change, PolicyPair};
+pub use change_report::report_changes;
 pub use change_totals::{ChangeTotals, status_of_changes};
 pub use compared_at_once::{is_met, write_compared};
 pub use expectation::{Expectation, Expected, Total, Wanted};
