@@ -87,11 +87,7 @@ pub fn report_changes<J: Judge + Drop, K: Judge + Drop, R: Source, W: Sink>(
         totals: no_changes(),
     };
     let told = tell_all(alloc, &mut source, &mut both, &mut lines);
-    let OneCapture {
-        reader: _reader, ..
-    } = source;
-    let ChangeLines {
-        writer: _writer, ..
-    } = lines;
+    let _reader = source.into_reader();
+    let _writer = lines.into_writer();
     told
 }

@@ -20,6 +20,19 @@ pub struct ChangeLines<'p, 'w, W> {
     pub totals: ChangeTotals,
 }
 
+impl<'p, 'w, W> ChangeLines<'p, 'w, W> {
+    ghost use Rattle.std.specs.Prelude.{◌≡◌};
+
+    /// Where it wrote.
+    pub fn into_writer(self) -> &'w mut W
+        ensures same { result.ghost_name ≡ self.entry.writer.ghost_name }
+        ensures behind { result.now ≡ self.entry.writer.now }
+    {
+        let ChangeLines { writer, .. } = self;
+        writer
+    }
+}
+
 impl<'p, 'w, W: Sink> Observer<(Verdict, Verdict)> for ChangeLines<'p, 'w, W> {
     ghost use Rattle.compared_verdicts.specs.inner.ChangesTold.{HasCutChanges, HasToldChanges};
 
