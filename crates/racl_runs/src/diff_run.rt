@@ -8,7 +8,7 @@ use crate::pace::Stopwatch;
 use crate::sized_tables_and_workers::{Manner, SizedWorkers, create_sized};
 use crate::workers_as_judges::HandingCrew;
 use acl_policy::{PolicyFault, read_policy};
-use compared_verdicts::{ChangeTotals, PolicyPair, tell_changes};
+use compared_verdicts::{ChangeTotals, PolicyPair, report_changes};
 use flow_filter::InterfaceFilters;
 use flow_workers::Filter;
 use packet_view::Order;
@@ -97,7 +97,7 @@ fn compare_capture<R: Source, W: Sink, T: Clock + Threads + Wait + Sync>(
         before: head.before.policy,
         after: head.after.policy,
     };
-    tell_changes(alloc, reader, writer, policies, judges, head.order)
+    report_changes(alloc, reader, writer, policies, judges, head.order)
 }
 
 /// Judges a capture by two policies with these texts while it comes, and writes a line for each packet on which they say more

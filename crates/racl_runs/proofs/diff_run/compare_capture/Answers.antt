@@ -20,14 +20,14 @@ returns-in_default-new-clause-told g c = none_judged c.args.head (g.R.Source.byt
 pub returns-in_default-new-2-clause-told : goal.returns-in_default-new-2-clause-told
 returns-in_default-new-2-clause-told g c = none_judged c.args.head (g.R.Source.bytes c.args.reader.now) (g.W.Sink.bytes c.args.writer.now)
 
-pub tell_changes-requires-clause-begun : goal.tell_changes-requires-clause-begun
-tell_changes-requires-clause-begun g c = (
+pub report_changes-requires-clause-begun : goal.report_changes-requires-clause-begun
+report_changes-requires-clause-begun g c = (
   (search rules, record { given = refl; rest = c.in-Ok-new.ensures.rest }),
   (search rules, record { given = refl; rest = c.in-Ok-new-2.ensures.rest }),
 )
 
-pub tell_changes-requires-clause-counts : goal.tell_changes-requires-clause-counts
-tell_changes-requires-clause-counts g c = (
+pub report_changes-requires-clause-counts : goal.report_changes-requires-clause-counts
+report_changes-requires-clause-counts g c = (
   λ begun packets said are. are.count,
   λ begun packets said are. are.count,
 )
@@ -38,7 +38,7 @@ returns-clause-told g c =
     let policies = policies_in c.args.head in
     let tells = by_lone_worker options c.args.head.before.now _ (orders_of c.in-Ok-new.workers) in
     let also = by_lone_worker options c.args.head.after.now _ (orders_of c.in-Ok-new-2.other_workers) in
-    MatchResult-weaker c.tell_changes.result c.tell_changes.ensures.told
+    MatchResult-weaker c.report_changes.result c.report_changes.ensures.told
     (λ totals told. all_as policies _ _ (ByLoneWorker options policies.before) (ByLoneWorker options policies.after)
     (λ packets verdicts judged. (tells packets verdicts c.in-Ok-new.ensures.given c.in-Ok.ensures.asked.four c.in-Ok.ensures.asked.size c.requires.sound.0.0 options.few.0 judged))
     (λ packets verdicts judged. (also packets verdicts c.in-Ok-new-2.ensures.given c.in-Ok-create_sized.ensures.asked.four c.in-Ok-create_sized.ensures.asked.size c.requires.sound.0.1 options.few.0 judged))
