@@ -8,7 +8,6 @@ use Rattle.packet_view.proofs.FrontLemmas.{records_appended, records_joined}
 use Rattle.packet_view.proofs.RecordListLemmas.{records_within}
 use Rattle.racl_io.specs.declared.fault.Fault.{Fault}
 use Rattle.racl_io.specs.declared.fault.Fault.TheVariants as fault
-use Rattle.racl_io.specs.Tellings.{with_write}
 use Rattle.capture_stream.specs.Feeding.{rest_in}
 use Rattle.capture_stream.specs.Lives.{most_live, with_read}
 use Rattle.capture_stream.specs.declared.arrivals.FaultAt.{FaultAt}
@@ -108,15 +107,6 @@ pub record StopsBehind (order : Order) (before after : Option (List ℕ)) (batch
 unread_by : (n m : ℕ) (found : Fault) → (found ≡ fault.Write) ⊎ (found ≡ fault.Memory) → m ≡ n → m ≡ with_read n found
 unread_by n m found (inl write) same = subst (λ (f : Fault). m ≡ with_read n f) (sym write) same
 unread_by n m found (inr memory) same = subst (λ (f : Fault). m ≡ with_read n f) (sym memory) same
-
--- one of the source is no write
-pub unwritten_by : (order : Order) (read : List ℕ) (all : List BatchFacts) (rest : List ℕ) (n m : ℕ) (found : Fault) → IsWhy order read all rest found → m ≡ n
-    → m ≡ with_write n found
-unwritten_by order read all rest n m fault.Memory why same = same
-unwritten_by order read all rest n m fault.Read why same = same
-unwritten_by order read all rest n m fault.TooLarge why same = same
-unwritten_by order read all rest n m (fault.LongRecord number) why same = same
-unwritten_by order read all rest n m found why same = absurd why
 
 module _ {R J O V : Type 0} (bytes : R → Option (List ℕ)) (failures : R → ℕ) (became : J → List PacketFacts → List V → J → Type 0)
     (told : O → List (JudgedBatch V) → O → Type 0) (cut : O → List (JudgedBatch V) → Fault → O → Type 0) (source then : OneCapture R) (judge : J) (observer after : O) where

@@ -1,23 +1,21 @@
 -- The report on one capture, whose packets are told in lines and saved: what the relation of its run says of what was read and
 -- written.
-use Rattle.std.proofs.Common.{◌≡◌, ◌≢◌, ◌∙◌, ◌≤◌, ◌+◌, ◌++◌, ◌⊎◌, ℕ, Bool, List, [], ◌∷◌, Option, ap, ap₂, append-nil, arith, inl, inr, length, refl, subst, sym}
+use Rattle.std.proofs.Common.{◌≡◌, ◌≢◌, ◌∙◌, ◌+◌, ◌++◌, ◌⊎◌, ℕ, Bool, List, [], ◌∷◌, Option, ap, ap₂, append-nil, arith, inl, inr, length, refl, subst, sym}
 use Rattle.std.proofs.lemmas.List.{length-map, same_from_push}
-use Rattle.std.proofs.lemmas.List.Sums.{count_by-le-length}
 use Rattle.std.specs.Io.KnownBytes.{Appends}
 use Rattle.packet_view.specs.Captures.{PacketFacts, packet_at, packets_at}
 use Rattle.packet_view.specs.declared.capture.Order.{Order}
-use Rattle.session_state.specs.Passes.{passes}
 use Rattle.session_state.specs.declared.verdict.Verdict.{Verdict}
 use Rattle.racl_io.specs.Reports.{is_truncated, totals_of}
 use Rattle.racl_io.specs.Sinks.{GotFront}
-use Rattle.racl_io.specs.Tellings.{Wording, lines_in, with_write}
+use Rattle.racl_io.specs.Tellings.{Wording, lines_in}
 use Rattle.racl_io.specs.declared.fault.Fault.{Fault}
 use Rattle.racl_io.specs.declared.fault.Fault.TheVariants as fault
 use Rattle.racl_io.specs.declared.totals_and_truncation.Captured.{Captured}
 use Rattle.racl_io.proofs.ReportLemmas.{totals_counted}
 use Rattle.racl_io.proofs.TellingLemmas.{lines_in_both}
 use Rattle.capture_stream.specs.Feeding.{rest_in}
-use Rattle.capture_stream.specs.Lives.{HaveFailed, with_read}
+use Rattle.capture_stream.specs.Lives.{with_read}
 use Rattle.capture_stream.specs.Savings.{Manner, Outputs, manner_of, outputs}
 use Rattle.capture_stream.specs.declared.arrivals.FaultAt.{FaultAt}
 use Rattle.filter_run.specs.Batches.{AreEach, JudgedBatch, batches_of, packets_in, packets_of, said_of}
@@ -34,7 +32,7 @@ use Rattle.filter_run.specs.declared.one_filter.OneFilter.{OneFilter}
 use Rattle.filter_run.specs.declared.saved_records.SavedRecords.{SavedRecords}
 use Rattle.filter_run.specs.declared.told_lines.ToldLines.{ToldLines}
 use Rattle.filter_run.proofs.OneLemmas.{count_one, each_front, one_earlier, one_read, one_stopped, one_words, packets_one, some_packets}
-use Rattle.filter_run.proofs.TellLemmas.{report_failed, saver_failed, totals_with}
+use Rattle.filter_run.proofs.TellLemmas.{totals_with}
 
 -- ---- What is told, and saved
 
@@ -52,12 +50,6 @@ lines_one wording n order (one ∷ others) (behind, same, at, are) (here, each) 
 pub of_numbered : (n : ℕ) (order : Order) (judged : List (JudgedBatch Verdict)) → AreNumbered n order (batches_of judged) → AreOf order judged
 of_numbered n order [] are = tt
 of_numbered n order (one ∷ others) (behind, same, at, are) = (same, of_numbered (n + length one.batch.records) order others are)
-
--- no more pass than were told
-pub lines_passing : {L W : Type 0} (wording : L → Wording) (bytes : W → Option (List ℕ)) (failures : W → ℕ) (begun now : ToldLines L W) (judged : List (JudgedBatch Verdict))
-    → HasToldLines wording bytes failures begun judged now → now.passed ≤ now.packets
-lines_passing wording bytes failures begun now judged told =
-    let few = count_by-le-length passes (said_of judged) in let passing = told.passing in let packets = told.packets in omega arith
 
 module _ {J L K R W : Type 0} (Became : J → List PacketFacts → List Verdict → J → Type 0) (Judged : J → List PacketFacts → List Verdict → Type 0)
     (wording : L → Wording) (saved : K → Order → List ℕ → List Verdict → K → Type 0) (saving : K → ℕ) (bytes : R → Option (List ℕ)) (failures : R → ℕ)
@@ -265,35 +257,6 @@ module _ {J L K R W : Type 0} (Became : J → List PacketFacts → List Verdict 
   unfolding which_cut
   report_read found wrong =
       one_read bytes failures said_so told_both cut_one source then (record { inner = judge }) old new found (which_cut found.fault) wrong
-
-  abbrev Failed : Fault → Type 0
-  Failed found = HaveFailed (writing old.0.writer.now) (writing new.0.writer.now) (saving old.1.saver.now) (saving new.1.saver.now) found
-
-  -- a fault that is of the source
-  unwritten : (order : Order) (read : List ℕ) (judged : List (JudgedBatch Verdict)) (rest : List ℕ) (found : Fault) → IsWhy order read (batches_of judged) rest found
-      → writing new.0.writer.now ≡ writing old.0.writer.now → saving new.1.saver.now ≡ saving old.1.saver.now → Failed found
-  unwritten order read judged rest fault.Memory why same kept = (same, kept)
-  unwritten order read judged rest fault.Read why same kept = (same, kept)
-  unwritten order read judged rest fault.TooLarge why same kept = (same, kept)
-  unwritten order read judged rest (fault.LongRecord number) why same kept = (same, kept)
-  unwritten order read judged rest found why same kept = absurd why
-
-  pub report_write : (found : FaultAt) → IsRunFault report_words source (record { inner = judge }) old then new found
-      → HaveFailed (writing old.0.writer.now) (writing new.0.writer.now) (saving old.1.saver.now) (saving new.1.saver.now) found.fault
-  unfolding unwritten
-  report_write found (inl stopped) =
-      let same = stopped.told.0.sound in
-      let kept = stopped.told.1.sound in
-      elim stopped.why [
-        | inl failed ↦ unwritten source.engine.order failed.some.read stopped.judged failed.rest found.fault failed.why same kept
-        | inr (inl (memory, gone, place, gave)) ↦ subst Failed (sym memory) (same, kept)
-        | inr (inr (large, gave, many)) ↦ subst (λ (f : FaultAt). Failed f.fault) (sym large) (same, kept)
-      ]
-  report_write found (inr cut) = elim cut.cut [
-    | inl (lines, kept) ↦ subst (λ n. HaveFailed (writing old.0.writer.now) (writing new.0.writer.now) (saving old.1.saver.now) n found.fault) (sym kept.told.sound)
-        (report_failed (writing old.0.writer.now) (writing new.0.writer.now) (saving old.1.saver.now) found.fault lines.failed)
-    | inr (told, saves) ↦ saver_failed (writing old.0.writer.now) (writing new.0.writer.now) (saving old.1.saver.now) (saving new.1.saver.now) found.fault told.sound saves.failed saves.write
-  ]
 
 -- ---- The same by what was lent
 

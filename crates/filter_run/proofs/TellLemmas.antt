@@ -1,5 +1,5 @@
 -- A report on one capture: how often devices failed, its totals, and the same by what else is known of verdicts.
-use Rattle.std.proofs.Common.{◌≡◌, ◌≢◌, ◌∙◌, ◌+◌, ◌-◌, ℕ, Bool, List, [], Option, ap, inl, inr, length, refl, subst, sym, true, false}
+use Rattle.std.proofs.Common.{◌≡◌, ◌∙◌, ◌+◌, ◌-◌, ℕ, Bool, List, [], Option, ap, inl, inr, length, refl, subst, sym, true, false}
 use Rattle.std.proofs.KnownBytes.{Appends-nil, Consumes-nil}
 use Rattle.packet_view.specs.Captures.{PacketFacts, packets_at}
 use Rattle.packet_view.specs.declared.capture.Order.{Order}

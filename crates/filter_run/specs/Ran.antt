@@ -1,5 +1,5 @@
 -- One run: what was told is what its source gave, as its judge said; or why it isn't (this project's profile).
-use Rattle.std.specs.Prelude.{◌≡◌, ◌≤◌, ◌++◌, ◌∷◌, ◌⊎◌, ℕ, List, [], None, Option, Some, length}
+use Rattle.std.specs.Prelude.{◌≡◌, ◌≤◌, ◌++◌, ◌∷◌, ◌⊎◌, ℕ, List, [], None, Some, length}
 use Rattle.packet_view.specs.Captures.{PacketFacts}
 use Rattle.racl_io.specs.declared.fault.Fault.{Fault}
 use Rattle.racl_io.specs.declared.fault.Fault.TheVariants.{Memory, TooLarge}

@@ -1,7 +1,6 @@
-use Rattle.std.proofs.Common.{rules, ap, refl}
-use Rattle.racl_io.specs.Reports.{is_truncated}
+use Rattle.std.proofs.Common.{rules, refl}
 use Rattle.filter_run.proofs.OneLemmas.{one_same}
-use Rattle.filter_run.proofs.ReportLemmas.{fault_lent, report_read, report_same, report_write, told_lent}
+use Rattle.filter_run.proofs.ReportLemmas.{fault_lent, report_read, report_same, told_lent}
 use Rattle.filter_run.proofs.capture_report.report_capture.Goals as goal
 
 pub returns-in-Ok-clause-told : goal.returns-in-Ok-clause-told
@@ -50,14 +49,5 @@ returns-in-Err-clause-read g c =
     let wrong = c.in-Err.ensures in
     let reads = one_same g.R.Source.bytes g.R.Source.failures _ _ _ c.new-source.result c.run-ran.new.source _ _ c.run-ran.new.observer c.in-Err.found wrong in
     let failed = report_read g.J.Judge.became g.J.Judge.judged g.L.Teller.wording g.K.Saver.saved g.K.Saver.failures g.R.Source.bytes g.R.Source.failures g.W.Sink.bytes
-    g.W.Sink.failures c.new-source.result c.run-ran.new.source c.args.capture.judges _ c.run-ran.new.observer c.in-Err.found wrong in
-    search rules
-
-pub returns-in-Err-clause-write : goal.returns-in-Err-clause-write
-returns-in-Err-clause-write g c =
-    let wrong = c.in-Err.ensures in
-    let same = report_same g.J.Judge.became g.J.Judge.judged g.L.Teller.wording g.K.Saver.saved g.K.Saver.failures g.R.Source.bytes g.R.Source.failures g.W.Sink.bytes
-    g.W.Sink.failures c.new-source.result c.run-ran.new.source c.args.capture.judges _ c.run-ran.new.observer c.in-Err.found wrong in
-    let failed = report_write g.J.Judge.became g.J.Judge.judged g.L.Teller.wording g.K.Saver.saved g.K.Saver.failures g.R.Source.bytes g.R.Source.failures g.W.Sink.bytes
     g.W.Sink.failures c.new-source.result c.run-ran.new.source c.args.capture.judges _ c.run-ran.new.observer c.in-Err.found wrong in
     search rules
