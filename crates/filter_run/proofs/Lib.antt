@@ -2,6 +2,6 @@ mod CaptureLemmas
 pub mod LineLemmas
 pub mod OneLemmas
 pub mod ReportLemmas
-mod RunLemmas
+pub mod RunLemmas
 pub mod SaveLemmas
 pub mod TellLemmas
