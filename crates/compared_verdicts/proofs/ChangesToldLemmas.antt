@@ -1,5 +1,5 @@
 -- Changed packets that are told while they come: what is written behind what was written.
-use Rattle.std.proofs.Common.{◌≡◌, ◌∙◌, ◌≤◌, ◌<◌, ◌+◌, ◌-◌, ◌^◌, ◌++◌, ℕ, List, [], ◌∷◌, Option, ap, append-nil, append_assoc, arith, false, flat_map, length, map, refl, subst, sym}
+use Rattle.std.proofs.Common.{◌≡◌, ◌∙◌, ◌≤◌, ◌+◌, ◌++◌, ℕ, List, [], ◌∷◌, Option, ap, append-nil, append_assoc, arith, false, length, map, refl, subst, sym}
 use Rattle.std.proofs.lemmas.List.{length-append, length-map}
 use Rattle.std.proofs.lemmas.List.Concat.{flat_map-append}
 use Rattle.std.proofs.KnownBytes.{Appends-trans}
@@ -8,7 +8,6 @@ use Rattle.packet_view.specs.Captures.{PacketFacts}
 use Rattle.acl_policy.specs.Policies.{PolicyFacts}
 use Rattle.session_state.specs.declared.verdict.Verdict.{Verdict}
 use Rattle.racl_io.specs.declared.fault.Fault.{Fault}
-use Rattle.racl_io.specs.declared.fault.Fault.TheVariants as fault
 use Rattle.racl_io.specs.Tellings.{IsTellingFault, with_write}
 use Rattle.filter_run.specs.Batches.{JudgedBatch, packets_in, said_of}
 use Rattle.filter_run.specs.Both.{firsts, seconds}
