@@ -1,6 +1,7 @@
 pub mod Batches
 pub mod Both
 pub mod CaptureReports
+pub mod ComingCaptures
 pub mod Filters
 pub mod Judges
 pub mod Lines
@@ -9,4 +10,5 @@ pub mod OneCapture
 pub mod Ran
 pub mod Saving
 pub mod Sources
+pub mod Turns
 pub mod inner

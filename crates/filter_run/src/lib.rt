@@ -3,7 +3,10 @@
 
 mod batch;
 mod both;
+mod capture_laws;
 mod capture_report;
+mod captures_report;
+mod coming_captures;
 mod judge;
 mod nobody;
 mod observer;
@@ -18,6 +21,10 @@ mod told_lines;
 pub use batch::Batch;
 pub use both::Both;
 pub use capture_report::{OpenCapture, ReportedCapture, is_any_cut, report_capture};
+pub use capture_laws::each_capture_comes_in_its_order;
+pub use capture_report::{OpenCapture, ReportedCapture, report_capture};
+pub use captures_report::{ReportedCaptures, report_captures};
+pub use coming_captures::{ComingCaptures, Lane};
 pub use judge::Judge;
 pub use observer::Observer;
 pub use one_capture::OneCapture;
