@@ -1,6 +1,11 @@
 mod CaptureLemmas
+pub mod ArrivalLemmas
+mod CaptureLemmas
+mod EndLemmas
+mod LaneLemmas
 pub mod LineLemmas
 pub mod OneLemmas
+mod OwnLemmas
 pub mod ReportLemmas
 pub mod RunLemmas
 pub mod SaveLemmas
