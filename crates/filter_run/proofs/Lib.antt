@@ -6,6 +6,7 @@ mod LaneLemmas
 pub mod LineLemmas
 pub mod OneLemmas
 mod OwnLemmas
+mod PartLemmas
 pub mod ReportLemmas
 pub mod RunLemmas
 pub mod SaveLemmas

@@ -1,5 +1,5 @@
 //! The packets of several captures that come together, each as its records become whole.
-ghost use Rattle.std.specs.Prelude.{◌≡◌, ◌⊎◌, ◌+◌, ◌<◌, ◌≤◌, ◌^◌, ◌++◌, ℕ, List, [], IfErr, IfOk, MatchResult, None, Option, length};
+ghost use Rattle.std.specs.Prelude.{◌≡◌, ◌⊎◌, ◌+◌, ◌-◌, ◌<◌, ◌≤◌, ◌^◌, ◌++◌, ℕ, List, [], IfErr, IfOk, MatchResult, None, Option, length};
 ghost use Rattle.packet_view.specs.Captures.{RecordFacts};
 ghost use Rattle.packet_view.specs.declared.capture.CaptureFault.{CaptureFault};
 ghost use Rattle.racl_io.specs.Buffers.{held_by};
