@@ -10,4 +10,5 @@ mod PartLemmas
 pub mod ReportLemmas
 pub mod RunLemmas
 pub mod SaveLemmas
+mod TakeLemmas
 pub mod TellLemmas
