@@ -213,11 +213,6 @@ module _ {A : Type 0} (turns : List Turn) (old : ComingCaptures A) (after : AreA
 
 -- ---- From one batch to the next
 
--- a record that is too long is no fault of a device
-long_is : (turns : List Turn) (found : FaultAt) → HasLongRecord turns found → (n : ℕ) × (found.fault ≡ fault.LongRecord n)
-long_is [] found long = absurd long
-long_is (turn ∷ turns) found long = (length (records_at turn.interface (turn ∷ turns)) + 1, long)
-
 -- nor is a part that can't be taken
 taken_fault : (arrival : Arrival) (turns : List Turn) (found : Fault) → IsPartFault arrival turns found → (n : ℕ) → n ≡ with_read n found
 taken_fault arrival turns found (inl memory) n = subst (λ f. n ≡ with_read n f) (sym memory) refl
@@ -241,59 +236,9 @@ module _ {A : Type 0} (parts : A → Option (List Part)) (failures : A → ℕ) 
   given_few few =
       let all = batches_total is.turns batches is.are in let packets = is.after.packets in omega arith
 
-  -- the record behind those that were given is too long
-  pub given_long : (found : FaultAt) → old.long ≡ Some found → HasFailedBehindTurns parts failures unread begun batches found old
-  given_long found long =
-      let (turns_are, last, number) = after_long is.turns old found is.after long in
-      let (n, which) = long_is is.turns found number in
-      record {
-        same = is.same;
-        turns = is.turns;
-        gone = [];
-        are = is.are;
-        given = subst (Gives (parts begun.arrivals.now) (parts old.arrivals.now)) (sym (append-nil (parts_of is.turns))) is.given;
-        why = inr (inr (inr (refl, turns_are, last, number)));
-        failed = subst (λ (f : Fault). failures old.arrivals.now ≡ with_read (failures begun.arrivals.now) f) (sym which) is.sound;
-        whose = λ read. absurd (unread_fault found.fault (λ m. subst (λ f. m ≡ with_read m f) (sym which) refl) read);
-      }
-
   module _ (open_all : old.long ≡ None) (new : ComingCaptures A) (name : new.arrivals.ghost_name ≡ old.arrivals.ghost_name) where
     gives_all : (gone : List Part) → Gives (parts old.arrivals.now) (parts new.arrivals.now) gone → Gives (parts begun.arrivals.now) (parts new.arrivals.now) (parts_of is.turns ++ gone)
     gives_all gone more = gives_both (parts begun.arrivals.now) (parts old.arrivals.now) (parts new.arrivals.now) (parts_of is.turns) gone is.given more
-
-    -- all captures have ended
-    pub given_all : (cuts : List Captured) → HasGiven (parts old.arrivals.now) (parts new.arrivals.now) None → HaveEnded (left old.arrivals.now) (left new.arrivals.now) None
-        → failures new.arrivals.now ≡ failures old.arrivals.now → cuts ≡ old.cuts.items → HasGivenAllTurns parts failures left begun batches cuts new
-    unfolding gives_all
-    given_all cuts (none, ended) (none_left, same_left) sound told = record {
-      same = name ∙ is.same;
-      turns = is.turns;
-      right = (after_open is.turns old is.after open_all).0;
-      are = is.are;
-      given = subst (Gives (parts begun.arrivals.now) (parts new.arrivals.now)) (append-nil (parts_of is.turns)) (gives_all [] none);
-      ended = ended;
-      none_left = subst HaveAllEnded (sym same_left) none_left;
-      told = told ∙ is.after.cuts;
-      sound = sound ∙ is.sound;
-    }
-
-    -- the next part couldn't be had
-    pub given_unread : (found : FaultAt) → IsNotGiven (parts old.arrivals.now) (parts new.arrivals.now) found
-        → failures new.arrivals.now ≡ with_read (failures old.arrivals.now) found.fault → (found.fault ≡ fault.Read → found.interface ≡ unread new.arrivals.now)
-        → HasFailedBehindTurns parts failures unread begun batches found new
-    unfolding gives_all
-    given_unread found (none, which) failed whose =
-        let right = (after_open is.turns old is.after open_all).0 in
-        record {
-          same = name ∙ is.same;
-          turns = is.turns;
-          gone = [];
-          are = is.are;
-          given = gives_all [] none;
-          why = elim which [ inl (memory, placeless) ↦ inl (memory, placeless, right) | inr (read, named) ↦ inr (inl (read, named, refl, right)) ];
-          failed = failed ∙ ap (λ n. with_read n found.fault) is.sound;
-          whose = whose;
-        }
 
     module _ (arrival : Arrival) (gives : Gives (parts old.arrivals.now) (parts new.arrivals.now) (part_in arrival ∷ [])) (sound : failures new.arrivals.now ≡ failures old.arrivals.now)
         (last : ComingCaptures A) (same : last.arrivals ≡ new.arrivals) where
