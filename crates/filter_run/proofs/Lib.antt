@@ -1,6 +1,7 @@
 mod CaptureLemmas
 pub mod ArrivalLemmas
 mod CaptureLemmas
+mod CapturesReportLemmas
 mod EndLemmas
 mod LaneLemmas
 pub mod LineLemmas

@@ -5,6 +5,7 @@ ghost use Rattle.racl_io.specs.declared.fault.Fault.TheVariants.{Read};
 ghost use Rattle.capture_stream.specs.Arrivals.{HaveAllEnded};
 ghost use Rattle.capture_stream.specs.Lives.{AreCounted, with_read};
 ghost use Rattle.filter_run.specs.ComingCaptures.{HasToldCaptures, IsFaultOfComing};
+ghost use Rattle.filter_run.specs.inner.Parts.{or_long_at};
 
 use crate::capture_report::is_any_cut;
 use crate::coming_captures::{ComingCaptures, new_lanes};
@@ -24,6 +25,16 @@ pub struct ReportedCaptures<J> {
     pub totals: Totals,
     /// The captures that end within a record, in the order in which they ended.
     pub cuts: Vec<Captured>,
+}
+
+// Why a run ended: before it was known that too much came, the record behind the last batch's was too long.
+fn or_long(long: Option<FaultAt>, found: FaultAt) -> FaultAt
+    ensures { result ≡ or_long_at long found }
+{
+    match (found.fault, long) {
+        (Fault::TooLarge, Some(long)) => long,
+        _ => found,
+    }
 }
 
 /// Judges the packets of several captures as their records become whole, each capture in its own order. After each part what is
@@ -59,7 +70,10 @@ pub fn report_captures<J: Judge + Drop, L: Teller, A: Arrivals, W: Sink>(
     let mut source = ComingCaptures::new(alloc, arrivals, lanes);
     let mut judge = OneFilter { inner: judges };
     let mut lines = ToldLines::new(teller, writer);
-    match run(alloc, &mut source, &mut judge, &mut lines) {
+    let ran = run(alloc, &mut source, &mut judge, &mut lines);
+    let long = source.long;
+    let _arrivals = source.into_arrivals();
+    match ran {
         Ok(cuts) => {
             let totals = lines.totals(is_any_cut(&cuts));
             let OneFilter { inner } = judge;
@@ -69,6 +83,6 @@ pub fn report_captures<J: Judge + Drop, L: Teller, A: Arrivals, W: Sink>(
                 cuts,
             })
         }
-        Err(found) => Err(source.or_long(found)),
+        Err(found) => Err(or_long(long, found)),
     }
 }

@@ -241,7 +241,7 @@ impl<'a, A> ComingCaptures<'a, A> {
     ghost use Rattle.filter_run.specs.Turns.{Turn};
     ghost use Rattle.filter_run.specs.inner.GivenTurns.{AreAfter};
     ghost use Rattle.filter_run.specs.inner.Lanes.{AreLanes};
-    ghost use Rattle.filter_run.specs.inner.Parts.{HasTakenPart, IsPartFault, or_long_at};
+    ghost use Rattle.filter_run.specs.inner.Parts.{HasTakenPart, IsPartFault};
 
     /// Of which no byte came.
     pub fn new(alloc: Global, arrivals: &'a mut A, lanes: Vec<Lane>) -> ComingCaptures<'a, A>
@@ -258,6 +258,15 @@ impl<'a, A> ComingCaptures<'a, A> {
             packets: 0,
             long: None,
         }
+    }
+
+    /// Where they come from, behind all that came.
+    pub fn into_arrivals(self) -> &'a mut A
+        ensures same { result.ghost_name ≡ self.entry.arrivals.ghost_name }
+        ensures behind { result.now ≡ self.entry.arrivals.now }
+    {
+        let ComingCaptures { arrivals, .. } = self;
+        arrivals
     }
 
     // A part came: the records that it makes whole are a batch, which has none where it is its capture's end.
@@ -283,16 +292,6 @@ impl<'a, A> ComingCaptures<'a, A> {
         self.long = long_behind(batch.found.stop, interface, lane.packets);
         self.packets += batch.found.count;
         Ok(batch)
-    }
-
-    /// Why a run over them ended: where too much came, the record behind the last batch's may be too long.
-    pub fn or_long(&self, found: FaultAt) -> FaultAt
-        ensures { result ≡ or_long_at self.now.long found }
-    {
-        match (found.fault, self.long) {
-            (Fault::TooLarge, Some(long)) => long,
-            _ => found,
-        }
     }
 }
 
