@@ -20,7 +20,7 @@ use Rattle.capture_stream.specs.Arrivals.{AreWhole, Gives, Part}
 use Rattle.capture_stream.specs.Lives.{with_read}
 use Rattle.capture_stream.specs.declared.arrivals.FaultAt.{FaultAt}
 use Rattle.filter_run.specs.Batches.{AreEach, BatchFacts, JudgedBatch, batches_of, packets_in, packets_of, said_of, total}
-use Rattle.filter_run.specs.ComingCaptures.{HasToldCaptures, HasToldFront, HasToldTurns, IsFaultOfComing}
+use Rattle.filter_run.specs.ComingCaptures.{HasLongRecord, HasToldCaptures, HasToldFront, HasToldTurns, IsFaultOfComing, IsOfLast}
 use Rattle.filter_run.specs.Filters.{HasSaid}
 use Rattle.filter_run.specs.Lines.{HasCutLines, HasToldLines, text_of}
 use Rattle.filter_run.specs.Ran.{HasCutRun, HasStopped, IsRunFault, Ran, Words, most, words_of}
@@ -106,15 +106,18 @@ last_turn (turn ∷ before) batches batch (earlier, last, all, is, are) =
 
 -- ---- Which faults there are
 
+-- a record that is too long
+long_is : (turns : List Turn) (found : FaultAt) → HasLongRecord turns found → (n : ℕ) × (found.fault ≡ fault.LongRecord n)
+long_is [] found long = absurd long
+long_is (turn ∷ before) found long = (length (come.records_at turn.interface (turn ∷ before)) + 1, long)
+
 -- one of the source
 of_source : (turns : List Turn) (gone : List Part) (found : FaultAt) → IsWhyNoTurn turns gone found
     → (found.fault ≡ fault.Read) ⊎ ((cause : CaptureFault) × (found.fault ≡ capture_fault cause))
 of_source turns gone found (inl (memory, lost, are)) = inr (capture.Memory, memory)
 of_source turns gone found (inr (inl (read, named, none, are))) = inl read
 of_source turns gone found (inr (inr (inl (part, one, are, wrong)))) = inr (wrong.cause, wrong.same)
-of_source [] gone found (inr (inr (inr (none, are, last, long)))) = absurd last
-of_source (turn ∷ before) gone found (inr (inr (inr (none, are, last, long)))) =
-    inr (capture.LongRecord (length (come.records_at turn.interface (turn ∷ before)) + 1), long)
+of_source turns gone found (inr (inr (inr (none, are, last, long)))) = let (n, same) = long_is turns found long in inr (capture.LongRecord n, same)
 
 -- is no write
 unwritten_of : (n : ℕ) (found : Fault) → (found ≡ fault.Read) ⊎ ((cause : CaptureFault) × (found ≡ capture_fault cause)) → n ≡ with_write n found
@@ -154,6 +157,24 @@ write_first (Some long) found write =
     subst (λ (f : Fault). or_long_at (Some long) (record { fault = f; interface = found.interface }) ≡ record { fault = f; interface = found.interface }) (sym write) refl
 
 -- ---- What is told of turns
+
+-- nothing came
+pub none_came : {J : Type 0} (Judged : J → List PacketFacts → List Verdict → Type 0) (wording : Wording) (begun : J) (before : Option (List Part)) (old : Option (List ℕ))
+    → IsFaultOfComing Judged wording begun before before old old (record { fault = fault.Memory; interface = None })
+none_came Judged wording begun before old = inl (
+  refl,
+  [],
+  refl,
+  record {
+    turns = [];
+    are = tt;
+    given = gives_none before;
+    verdicts = [];
+    judged = λ some. absurd (some refl);
+    count = refl;
+    text = Appends-nil old;
+  },
+)
 
 module _ {J L W A : Type 0} (Became : J → List PacketFacts → List Verdict → J → Type 0) (Judged : J → List PacketFacts → List Verdict → Type 0)
     (wording : L → Wording) (written : W → Option (List ℕ)) (writing : W → ℕ) (parts : A → Option (List Part)) (failures : A → ℕ) (left unread : A → Option ℕ)
@@ -232,3 +253,244 @@ module _ {J L W A : Type 0} (Became : J → List PacketFacts → List Verdict �
       count = turns_count;
       front = subst (GotFront began became) turns_text front;
     }
+
+  -- ---- Why not all was told
+
+  -- the source failed
+  ended_failed : (judged : List (JudgedBatch Verdict)) → AreEach judged → (now : J) → HasSaid Became Judged judge (packets_of judged) (said_of judged) now
+      → HasToldLines wording written writing old judged new → (found : FaultAt) → HasFailedBehindTurns parts failures unread source (batches_of judged) found then → IsEnded found
+  unfolding told_turns
+  ended_failed judged each now said lines found failed = record {
+    why = by failed.gone failed.given failed.why;
+    read = failed.failed;
+    whose = failed.whose;
+    write = lines.sound ∙ unwritten_of (writing old.writer.now) found.fault (of_source failed.turns failed.gone found failed.why);
+  }
+    where
+      by : (gone : List Part) → Gives before after (parts_of failed.turns ++ gone) → IsWhyNoTurn failed.turns gone found
+          → IsFaultOfComing Judged words_in judge before after began became found
+      by gone given (inl (memory, lost, right)) =
+          inl (memory, gone, lost, told_turns judged each failed.turns failed.are AreTurns right gone given now said lines.text)
+      by gone given (inr (inl (read, named, none, right))) =
+          inr (inl (
+            read,
+            named,
+            told_turns judged each failed.turns failed.are AreTurns right [] (subst (λ (ps : List Part). Gives before after (parts_of failed.turns ++ ps)) none given) now said lines.text,
+          ))
+      by gone given (inr (inr (inl (part, one, right, wrong)))) =
+          inr (inr (inl (
+            part,
+            told_turns judged each failed.turns failed.are AreTurns right (part ∷ []) (subst (λ (ps : List Part). Gives before after (parts_of failed.turns ++ ps)) one given) now said lines.text,
+            wrong,
+          )))
+      by gone given (inr (inr (inr (none, right, last, long)))) =
+          inr (inr (inr (inl (
+            told_turns judged each failed.turns failed.are AreTurnsToLong right [] (subst (λ (ps : List Part). Gives before after (parts_of failed.turns ++ ps)) none given) now said lines.text,
+            last,
+            long,
+          ))))
+
+  -- a batch came, and memory ran out before it was told
+  ended_lost : (judged : List (JudgedBatch Verdict)) → AreEach judged → (now : J) → HasSaid Became Judged judge (packets_of judged) (said_of judged) now
+      → Appends began became (text_of words_in judged) → writing new.writer.now ≡ writing old.writer.now → (found : FaultAt) (gone : BatchFacts) → found.fault ≡ fault.Memory
+      → found.interface ≡ Some gone.interface → HasGivenTurns parts failures source (batches_of judged ++ gone ∷ []) then → IsEnded found
+  unfolding told_turns
+  ended_lost judged each now said text sound found gone memory place gave =
+      let last = last_turn gave.turns (batches_of judged) gone gave.are in
+      let part : Part = record { interface = last.turn.interface; bytes = last.turn.bytes } in
+      let stand = subst (λ (ts : List Turn). StandSo then.long ts then.lanes.items) last.all gave.after.stand in
+      let given = subst (λ (ts : List Turn). Gives before after (parts_of ts)) last.all gave.given in
+      record {
+        why = inl (
+          memory,
+          part ∷ [],
+          (place ∙ ap Some last.is.interface, refl),
+          told_turns judged each last.before last.are AreTurns (right then.long last.turn last.before stand) (part ∷ []) given now said text,
+        );
+        read = subst (λ (f : Fault). failures then.arrivals.now ≡ with_read (failures source.arrivals.now) f) (sym memory) gave.sound;
+        whose = λ read. absurd cc;
+        write = subst (λ (f : Fault). writing new.writer.now ≡ with_write (writing old.writer.now) f) (sym memory) sound;
+      }
+    where
+      right : (long : Option FaultAt) (turn : Turn) (earlier : List Turn) → StandSo long (turn ∷ earlier) then.lanes.items → AreTurns earlier
+      right None turn earlier ((are, is), lanes) = are
+      right (Some long) turn earlier ((are, is), last, number) = are
+
+  -- too much came
+  ended_large : (judged : List (JudgedBatch Verdict)) → AreEach judged → (now : J) → HasSaid Became Judged judge (packets_of judged) (said_of judged) now
+      → HasToldLines wording written writing old judged new → HasGivenTurns parts failures source (batches_of judged) then
+      → (most ≤ length judged) ⊎ (most ≤ length (said_of judged)) → IsEnded (or_long_at then.long (record { fault = fault.TooLarge; interface = None }))
+  unfolding told_turns turns_count
+  ended_large judged each now said lines gave many = by then.long gave.after.stand
+    where
+      given : Gives before after (parts_of gave.turns ++ [])
+      given = subst (Gives before after) (sym (append-nil (parts_of gave.turns))) gave.given
+
+      so_many : (most ≤ length judged) ⊎ (most ≤ length (said_of judged)) → (most ≤ length gave.turns) ⊎ (most ≤ length (come.packets_of gave.turns))
+      so_many (inl p) =
+          let batches = turns_many gave.turns (batches_of judged) gave.are in let listed = length-map judged (λ (one : JudgedBatch Verdict). one.batch) in inl (omega arith)
+      so_many (inr p) = let count = turns_count judged each gave.turns gave.are in inr (omega arith)
+
+      by : (long : Option FaultAt) → StandSo long gave.turns then.lanes.items → IsEnded (or_long_at long (record { fault = fault.TooLarge; interface = None }))
+      by None (right, lanes) = record {
+        why = inr (inr (inr (inr (inl (refl, refl, told_turns judged each gave.turns gave.are AreTurns right [] given now said lines.text, so_many many)))));
+        read = gave.sound;
+        whose = λ read. absurd cc;
+        write = lines.sound;
+      }
+      by (Some long) (right, last, number) =
+          let which = of_source gave.turns [] long (inr (inr (inr (refl, right, last, number)))) in
+          let n = long_is gave.turns long number in
+          record {
+            why = inr (inr (inr (inl (told_turns judged each gave.turns gave.are AreTurnsToLong right [] given now said lines.text, last, number))));
+            read = subst (λ (f : Fault). failures then.arrivals.now ≡ with_read (failures source.arrivals.now) f) (sym n.1) gave.sound;
+            whose = λ read. let e : fault.LongRecord n.0 ≡ fault.Read = sym n.1 ∙ read in absurd cc;
+            write = lines.sound ∙ unwritten_of (writing old.writer.now) long.fault which;
+          }
+
+  -- the report's device failed
+  ended_cut : (earlier : List (JudgedBatch Verdict)) (last : JudgedBatch Verdict) → AreEach (earlier ++ last ∷ []) → (now : J)
+      → HasSaid Became Judged judge (packets_of (earlier ++ last ∷ [])) (said_of (earlier ++ last ∷ [])) now
+      → GotFront began became (text_of words_in (earlier ++ last ∷ [])) → (found : FaultAt) → found.fault ≡ fault.Write → found.interface ≡ Some last.batch.interface
+      → writing new.writer.now ≡ with_write (writing old.writer.now) found.fault → HasGivenTurns parts failures source (batches_of (earlier ++ last ∷ [])) then → IsEnded found
+  unfolding told_front
+  ended_cut earlier last each now said front found write place failed gave =
+      let behind = last_turn gave.turns (batches_of earlier) last.batch
+      (subst (AreBatches gave.turns) (map-append (λ (one : JudgedBatch Verdict). one.batch) earlier (last ∷ [])) gave.are) in
+      record {
+        why = inr (inr (inr (inr (inr (
+          write,
+          told_front (earlier ++ last ∷ []) each gave.turns gave.are (right then.long gave.turns gave.after.stand) gave.given now said front,
+          of_last gave.turns behind.turn behind.before behind.all (place ∙ ap Some behind.is.interface),
+        )))));
+        read = subst (λ (f : Fault). failures then.arrivals.now ≡ with_read (failures source.arrivals.now) f) (sym write) gave.sound;
+        whose = λ read. absurd cc;
+        write = failed;
+      }
+    where
+      right : (long : Option FaultAt) (turns : List Turn) → StandSo long turns then.lanes.items → AreTurns turns ⊎ AreTurnsToLong turns
+      right None turns (are, lanes) = inl are
+      right (Some long) turns (are, last, number) = inr are
+
+      of_last : (turns : List Turn) (turn : Turn) (front : List Turn) → turns ≡ turn ∷ front → found.interface ≡ Some turn.interface → IsOfLast turns found.interface
+      of_last turns turn front all named = subst (λ (ts : List Turn). IsOfLast ts found.interface) (sym all) named
+
+  -- each_front
+  first_each : (xs ys : List (JudgedBatch Verdict)) → AreEach (xs ++ ys) → AreEach xs
+  first_each [] ys each = tt
+  first_each (x ∷ xs) ys (here, behind) = (here, first_each xs ys behind)
+
+  -- the lines were cut
+  ended_lines : (found : FaultAt) (which : Fault) (cut : HasCutRun captures_words source (record { inner = judge }) old then new found) → found.fault ≡ which
+      → HasCutLines wording written writing old (cut.earlier ++ cut.last ∷ []) which new → IsEnded (or_long_at then.long found)
+  unfolding ended_lost ended_cut first_each
+  ended_lines found fault.Memory cut memory lines =
+      let same = same_from_push cut.earlier lines.earlier cut.last lines.last lines.all in
+      subst IsEnded (sym (source_first then.long found (inr (capture.Memory, memory))))
+      (ended_lost cut.earlier (first_each cut.earlier (cut.last ∷ []) cut.each) cut.before.0.inner cut.before.1
+      (subst (λ (js : List (JudgedBatch Verdict)). Appends began became (text_of words_in js)) (sym same.0) lines.text) lines.failed found cut.last.batch memory cut.place
+      (subst (λ (bs : List BatchFacts). HasGivenTurns parts failures source bs then) (map-append (λ (one : JudgedBatch Verdict). one.batch) cut.earlier (cut.last ∷ [])) cut.gave))
+  ended_lines found fault.Write cut write lines =
+      subst IsEnded (sym (write_first then.long found write))
+      (ended_cut cut.earlier cut.last cut.each cut.said.0.inner cut.said.1 lines.text found write cut.place
+      (lines.failed ∙ ap (with_write (writing old.writer.now)) (sym write)) cut.gave)
+  ended_lines found which cut same lines = absurd lines.text
+
+  -- why not all was told
+  ended_run : (found : FaultAt) → IsRunFault captures_words source (record { inner = judge }) old then new found → IsEnded (or_long_at then.long found)
+  unfolding ended_failed ended_lost ended_large ended_lines
+  ended_run found (inl stopped) = elim stopped.why [
+    | inl failed ↦ subst IsEnded (sym (source_first then.long found (of_source failed.turns failed.gone found failed.why)))
+        (ended_failed stopped.judged stopped.each stopped.said.0.inner stopped.said.1 stopped.told found failed)
+    | inr (inl (memory, gone, place, gave)) ↦ subst IsEnded (sym (source_first then.long found (inr (capture.Memory, memory))))
+        (ended_lost stopped.judged stopped.each stopped.said.0.inner stopped.said.1 stopped.told.text stopped.told.sound found gone memory place gave)
+    | inr (inr (large, gave, many)) ↦ subst (λ (f : FaultAt). IsEnded (or_long_at then.long f)) (sym large)
+        (ended_large stopped.judged stopped.each stopped.said.0.inner stopped.said.1 stopped.told gave many)
+  ]
+  ended_run found (inr cut) = ended_lines found found.fault cut refl cut.cut
+
+  -- which arrivals and what it writes to it has
+  pub captures_same : (found : FaultAt) → IsRunFault captures_words source (record { inner = judge }) old then new found
+      → (then.arrivals.ghost_name ≡ source.arrivals.ghost_name) × (new.writer.ghost_name ≡ old.writer.ghost_name)
+  captures_same found (inl stopped) = (
+    elim stopped.why [ inl failed ↦ failed.same | inr (inl (memory, gone, place, gave)) ↦ gave.same | inr (inr (large, gave, many)) ↦ gave.same ],
+    stopped.told.same.writer,
+  )
+  captures_same found (inr cut) = (cut.gave.same, cut.cut.same.writer)
+
+  pub captures_fault : (found : FaultAt) → IsRunFault captures_words source (record { inner = judge }) old then new found
+      → IsFaultOfComing Judged (wording old.teller.now) judge (parts source.arrivals.now) (parts then.arrivals.now) (written old.writer.now) (written new.writer.now)
+      (or_long_at then.long found)
+  unfolding ended_run
+  captures_fault found wrong = (ended_run found wrong).why
+
+  pub captures_read : (found : FaultAt) → IsRunFault captures_words source (record { inner = judge }) old then new found
+      → failures then.arrivals.now ≡ with_read (failures source.arrivals.now) (or_long_at then.long found).fault
+  unfolding ended_run
+  captures_read found wrong = (ended_run found wrong).read
+
+  pub captures_whose : (found : FaultAt) → IsRunFault captures_words source (record { inner = judge }) old then new found
+      → (or_long_at then.long found).fault ≡ fault.Read → (or_long_at then.long found).interface ≡ unread then.arrivals.now
+  unfolding ended_run
+  captures_whose found wrong = (ended_run found wrong).whose
+
+  pub captures_write : (found : FaultAt) → IsRunFault captures_words source (record { inner = judge }) old then new found
+      → writing new.writer.now ≡ with_write (writing old.writer.now) (or_long_at then.long found).fault
+  unfolding ended_run
+  captures_write found wrong = (ended_run found wrong).write
+
+  -- ---- All was told
+
+  pub captures_told : (at : OneFilter J) (captures : List Captured) (ended : ReportedCaptures J) (truncated : Bool) → AreWhole before
+      → Ran captures_words source (record { inner = judge }) old then at new captures → truncated ≡ is_truncated captures
+      → ended.totals ≡ totals_with new.packets new.passed new.without_pages truncated → ended.judges ≡ at.inner → ended.cuts.items ≡ captures
+      → HasToldCaptures Became Judged (wording old.teller.now) judge (parts source.arrivals.now) (parts then.arrivals.now) (written old.writer.now) (written new.writer.now) ended
+  unfolding told_turns turns_packets
+  captures_told at captures ended truncated whole ran cut totals judges cuts =
+      let judged = ran.judged in
+      let over = ran.over in
+      let lines = ran.told in
+      let given = subst (Gives before after) (sym (append-nil (parts_of over.turns))) over.given in
+      record {
+        all = told_turns judged ran.each over.turns over.are AreTurns over.right [] given at.inner ran.became lines.text;
+        ended = over.ended;
+        whole = whole_given before after (parts_of over.turns) over.given over.ended whole;
+        stand = subst (λ (j : J). Became judge (come.packets_of over.turns) (said_of judged) j) (sym judges)
+            (subst (λ (ps : List PacketFacts). Became judge ps (said_of judged) at.inner) (turns_packets judged ran.each over.turns over.are) ran.became.stand);
+        cuts = cuts ∙ over.told;
+        totals = totals ∙ ap (λ n. totals_with n new.passed new.without_pages truncated) lines.packets
+            ∙ totals_counted new.passed new.without_pages (said_of judged) (cuts_of over.turns) truncated lines.passing lines.lacking (cut ∙ ap is_truncated over.told);
+      }
+
+-- ---- The same by what was lent
+
+-- what the source and the lines had when they began, and when they ended
+pub record LentCaptures {L W A : Type 0} (source then : ComingCaptures A) (old new : ToldLines L W) (arrivals left : A) (teller : L) (writer wrote : W) : Type 0 where
+  pub comes : source.arrivals.now ≡ arrivals
+  pub words : old.teller.now ≡ teller
+  pub writes : old.writer.now ≡ writer
+  pub left_is : then.arrivals.now ≡ left
+  pub wrote_is : new.writer.now ≡ wrote
+
+module _ {J L W A : Type 0} (Became : J → List PacketFacts → List Verdict → J → Type 0) (Judged : J → List PacketFacts → List Verdict → Type 0)
+    (wording : L → Wording) (written : W → Option (List ℕ)) (writing : W → ℕ) (parts : A → Option (List Part)) (failures : A → ℕ) (left unread : A → Option ℕ)
+    (source then : ComingCaptures A) (judge : J) (old new : ToldLines L W) (arrivals last : A) (teller : L) (writer wrote : W) where
+  abbrev pub lent_words : Words (ComingCaptures A) (OneFilter J) (ToldLines L W) Verdict
+  lent_words = captures_words Became Judged wording written writing parts failures left unread source then judge old new
+
+  pub lent_fault : (found answer : FaultAt) → IsRunFault lent_words source (record { inner = judge }) old then new found → answer ≡ or_long_at then.long found
+      → LentCaptures source then old new arrivals last teller writer wrote
+      → IsFaultOfComing Judged (wording teller) judge (parts arrivals) (parts last) (written writer) (written wrote) answer
+  lent_fault found answer wrong same lent =
+      rw (same, ← lent.wrote_is, ← lent.left_is, ← lent.writes, ← lent.words, ← lent.comes)
+      (captures_fault Became Judged wording written writing parts failures left unread source then judge old new found wrong)
+
+  pub lent_told : (at : OneFilter J) (captures : List Captured) (ended : ReportedCaptures J) (truncated : Bool) → AreWhole (parts arrivals)
+      → Ran lent_words source (record { inner = judge }) old then at new captures → truncated ≡ is_truncated captures
+      → ended.totals ≡ totals_with new.packets new.passed new.without_pages truncated → ended.judges ≡ at.inner → ended.cuts.items ≡ captures
+      → LentCaptures source then old new arrivals last teller writer wrote
+      → HasToldCaptures Became Judged (wording teller) judge (parts arrivals) (parts last) (written writer) (written wrote) ended
+  lent_told at captures ended truncated whole ran cut totals judges cuts lent =
+      rw (← lent.wrote_is, ← lent.left_is, ← lent.writes, ← lent.words, ← lent.comes)
+      (captures_told Became Judged wording written writing parts failures left unread source then judge old new at captures ended truncated
+      (subst (λ (a : A). AreWhole (parts a)) (sym lent.comes) whole) ran cut totals judges cuts)
