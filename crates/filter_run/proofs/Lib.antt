@@ -1,4 +1,3 @@
-mod CaptureLemmas
 pub mod ArrivalLemmas
 mod CaptureLemmas
 mod CapturesReportLemmas

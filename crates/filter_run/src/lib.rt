@@ -20,9 +20,8 @@ mod told_lines;
 
 pub use batch::Batch;
 pub use both::Both;
-pub use capture_report::{OpenCapture, ReportedCapture, is_any_cut, report_capture};
 pub use capture_laws::each_capture_comes_in_its_order;
-pub use capture_report::{OpenCapture, ReportedCapture, report_capture};
+pub use capture_report::{OpenCapture, ReportedCapture, is_any_cut, report_capture};
 pub use captures_report::{ReportedCaptures, report_captures};
 pub use coming_captures::{ComingCaptures, Lane};
 pub use judge::Judge;
