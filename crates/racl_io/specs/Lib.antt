@@ -3,7 +3,6 @@ pub mod Devices
 pub mod Faults
 pub mod Fronts
 pub mod Inputs
-pub mod Joined
 pub mod Others
 pub mod Reports
 pub mod ShownReports

@@ -1,8 +1,6 @@
-//! A policy's text and a capture as one source, and what files are that are no captures of Ethernet.
+//! What files are that are no captures of Ethernet.
 
-use super::racl_test_refused;
-use racl_io::{Joined, Other, other_file, read_until};
-use std::test::Fail;
+use racl_io::{Other, other_file};
 
 // For tests of first bytes: 24 bytes that begin with these and have this link field.
 fn first_bytes(magic: [u8; 4], link: [u8; 4]) -> [u8; 24] {
@@ -15,23 +13,6 @@ fn first_bytes(magic: [u8; 4], link: [u8; 4]) -> [u8; 24] {
 // For tests of first bytes: what is told where 23 of these bytes are there.
 fn told_of_fewer(bytes: &[u8]) -> Option<Other> {
     other_file(&bytes[..bytes.len().min(23)])
-}
-
-/// A policy's text and then a capture, with a marker line between them.
-#[test]
-fn readers_are_one_source(rt: HostRuntime) -> Result<(), Fail> {
-    let Ok(text) = Vec::from_slice(rt.alloc(), b"mac") else {
-        return racl_test_refused();
-    };
-    let mut joined = Joined::new(text, b"\xd4\xc3\x0a".as_slice());
-    let mut all = Vec::new(rt.alloc());
-    assert!(rt; read_until(&mut joined, &mut all, 10) == Ok(false));
-    assert!(rt; joined.front() == b"\xd4".as_slice());
-    assert!(rt; read_until(&mut joined, &mut all, 100) == Ok(true));
-    assert!(rt; all.as_slice() == b"mac\npcap\n\xd4\xc3\x0a".as_slice());
-    assert!(rt; joined.front() == b"\xd4\xc3\x0a".as_slice());
-    assert!(rt; joined.text() == b"mac".as_slice());
-    Ok(())
 }
 
 #[test]
