@@ -17,7 +17,9 @@ use Rattle.racl_io.specs.Sinks.{GotFront}
 use Rattle.racl_io.specs.Tellings.{IsTellingFault, Wording, lines_in, told_alone, with_write}
 use Rattle.racl_io.proofs.TellingLemmas.{alone_truncated, front_on}
 use Rattle.capture_stream.specs.Lives.{HaveFailed}
-use Rattle.filter_run.specs.CaptureReports.{HasJudgedAll, HasToldSome, IsLiveFault}
+use Rattle.capture_stream.specs.Savings.{Manner, Outputs}
+use Rattle.filter_run.specs.CaptureReports.{HasJudgedAll, HasToldAll, HasToldSome, IsLiveFault}
+use Rattle.filter_run.specs.declared.capture_report.ReportedCapture.{ReportedCapture}
 use Rattle.compared_verdicts.specs.Meeting.{are_met, end_of, met_told, told_of, unmet_wording}
 use Rattle.compared_verdicts.specs.declared.expectation.Expectation.{Expectation}
 use Rattle.compared_verdicts.proofs.MeetingLemmas.{lines_told}
@@ -33,6 +35,24 @@ write_failed written writing saved fault.Write (inl failed) = failed.0
 write_failed written writing saved fault.Write (inr failed) = let more = failed.1 in absurd (omega (arith, more))
 write_failed written writing saved fault.Memory failed = failed.0
 write_failed written writing saved found failed = failed.0
+
+-- what is told of all packets is told of some
+pub all_is_some : {J K : Type 0} {Became : J → List PacketFacts → List Verdict → J → Type 0} {Judged : J → List PacketFacts → List Verdict → Type 0} {manner : Manner K} {begun : J}
+    {order : Order} {before after : Option (List ℕ)} {old new : Outputs K} {told : ReportedCapture J} (all : HasToldAll Became Judged manner begun order before after old new told)
+    → HasToldSome Judged manner begun order before after old new all.all.rest
+all_is_some all = record {
+  read = all.all.read;
+  consumed = all.all.consumed;
+  packets = all.all.packets;
+  records = all.all.records;
+  verdicts = all.all.verdicts;
+  judged = all.all.judged;
+  count = all.all.count;
+  text = all.text;
+  whole = all.whole;
+  spelt = all.spelt;
+  saved = all.saved;
+}
 
 -- ---- The end, where all packets were judged
 

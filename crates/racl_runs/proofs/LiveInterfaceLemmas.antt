@@ -56,7 +56,7 @@ module _ {I J : Type 0} {A : I → List PacketFacts → List Verdict → Type 0}
     are = told.are;
     given = told.given;
     verdicts = told.verdicts;
-    judged = known (packets_of told.turns) told.verdicts told.judged;
+    judged = λ some. known (packets_of told.turns) told.verdicts (told.judged some);
     count = told.count;
     front = told.front;
   }

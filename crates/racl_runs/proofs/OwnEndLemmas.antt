@@ -21,8 +21,7 @@ use Rattle.capture_stream.specs.Lives.{AreCounted}
 use Rattle.filter_run.specs.CaptureReports.{HasToldAll, HasToldSome, IsLiveFault}
 use Rattle.capture_stream.specs.Savings.{Outputs, manner_of, outputs}
 use Rattle.filter_run.specs.declared.capture_report.ReportedCapture.{ReportedCapture}
-use Rattle.capture_stream.specs.inner.Tellings.{totals_with}
-use Rattle.filter_run.proofs.TellLemmas.{fault_as, totals_alone}
+use Rattle.filter_run.proofs.TellLemmas.{fault_as, totals_alone, totals_with}
 use Rattle.capture_shards.specs.Shards.{Own, own_packets}
 use Rattle.capture_shards.specs.Sharing.{AreShared, HaveShared, IsSpread, lines_at, own_numbers, shard_wording}
 use Rattle.capture_shards.specs.declared.shard_judge.ShardJudge.{ShardJudge}

@@ -5,14 +5,14 @@ use Rattle.acl_policy.specs.Policies.{policy_facts}
 use Rattle.packet_view.specs.Captures.{packets_at}
 use Rattle.racl_io.specs.Tellings.{lines_in}
 use Rattle.filter_run.specs.CaptureReports.{IsLiveFault}
-use Rattle.filter_run.proofs.TellLemmas.{all_is_some, fault_as, none_told}
+use Rattle.filter_run.proofs.TellLemmas.{fault_as, none_told}
 use Rattle.racl_io.specs.declared.fault.Fault.TheVariants.{Memory}
 use Rattle.compared_verdicts.specs.Meeting.{are_met, unmet_wording}
 use Rattle.compared_verdicts.specs.declared.expectation.Expectation.{Expectation}
 use Rattle.racl_runs.specs.Crews.{orders_of, views_with}
 use Rattle.racl_runs.specs.ExpectingRuns.{manner_by, output}
 use Rattle.racl_runs.specs.LiveRuns.{ByLoneWorker}
-use Rattle.racl_runs.proofs.ExpectingLemmas.{end_fault, end_told}
+use Rattle.racl_runs.proofs.ExpectingLemmas.{all_is_some, end_fault, end_told}
 use Rattle.racl_runs.proofs.LiveLemmas.{by_lone, by_lone_worker}
 use Rattle.racl_runs.proofs.expecting_run.compare_all.Goals as goal
 
