@@ -35,8 +35,9 @@ use Rattle.filter_run.specs.inner.GivenTurns.{AreBatches, HasFailedBehindTurns, 
 use Rattle.filter_run.specs.inner.Parts.{or_long_at}
 use Rattle.filter_run.proofs.ArrivalLemmas.{gives_none}
 use Rattle.filter_run.proofs.EndLemmas.{whole_given}
+use Rattle.filter_run.proofs.OneLemmas.{each_front}
 use Rattle.filter_run.proofs.RunLemmas.{each_total, flat_push}
-use Rattle.filter_run.proofs.TakeLemmas.{batches_total}
+use Rattle.filter_run.proofs.TakeLemmas.{batches_total, by_cause}
 use Rattle.filter_run.proofs.TellLemmas.{totals_with}
 
 -- ---- Batches of turns
@@ -122,39 +123,24 @@ of_source turns gone found (inr (inr (inr (none, are, last, long)))) = let (n, s
 -- is no write
 unwritten_of : (n : ℕ) (found : Fault) → (found ≡ fault.Read) ⊎ ((cause : CaptureFault) × (found ≡ capture_fault cause)) → n ≡ with_write n found
 unwritten_of n found (inl read) = subst (λ f. n ≡ with_write n f) (sym read) refl
-unwritten_of n found (inr (cause, same)) = subst (λ f. n ≡ with_write n f) (sym same) (by cause)
-  where
-    by : (cause : CaptureFault) → n ≡ with_write n (capture_fault cause)
-    by capture.Short = refl
-    by capture.Magic = refl
-    by capture.Version = refl
-    by capture.LinkType = refl
-    by (capture.LongRecord number) = refl
-    by capture.Memory = refl
+unwritten_of n found (inr (cause, same)) =
+    subst (λ f. n ≡ with_write n f) (sym same) (by_cause (λ f. n ≡ with_write n f) refl refl refl refl (λ number. refl) refl cause)
+
+-- it is answered as it is, though a record is too long
+abbrev IsAnswered : FaultAt → Option ℕ → Fault → Type 0
+IsAnswered long interface found = or_long_at (Some long) (record { fault = found; interface = interface }) ≡ record { fault = found; interface = interface }
 
 -- and isn't that too much came
 source_first : (long : Option FaultAt) (found : FaultAt) → (found.fault ≡ fault.Read) ⊎ ((cause : CaptureFault) × (found.fault ≡ capture_fault cause)) → or_long_at long found ≡ found
 source_first None found which = refl
-source_first (Some long) found (inl read) = first_so found.fault found.interface read
-  where
-    first_so : (which : Fault) (interface : Option ℕ) → which ≡ fault.Read → or_long_at (Some long) (record { fault = which; interface = interface }) ≡ record { fault = which; interface = interface }
-    first_so which interface same = subst (λ (f : Fault). or_long_at (Some long) (record { fault = f; interface = interface }) ≡ record { fault = f; interface = interface }) (sym same) refl
+source_first (Some long) found (inl read) = subst (IsAnswered long found.interface) (sym read) refl
 source_first (Some long) found (inr (cause, same)) =
-    subst (λ (f : Fault). or_long_at (Some long) (record { fault = f; interface = found.interface }) ≡ record { fault = f; interface = found.interface }) (sym same) (by cause)
-  where
-    by : (cause : CaptureFault) → or_long_at (Some long) (record { fault = capture_fault cause; interface = found.interface }) ≡ record { fault = capture_fault cause; interface = found.interface }
-    by capture.Short = refl
-    by capture.Magic = refl
-    by capture.Version = refl
-    by capture.LinkType = refl
-    by (capture.LongRecord number) = refl
-    by capture.Memory = refl
+    subst (IsAnswered long found.interface) (sym same) (by_cause (IsAnswered long found.interface) refl refl refl refl (λ number. refl) refl cause)
 
 -- nor is a write
 write_first : (long : Option FaultAt) (found : FaultAt) → found.fault ≡ fault.Write → or_long_at long found ≡ found
 write_first None found write = refl
-write_first (Some long) found write =
-    subst (λ (f : Fault). or_long_at (Some long) (record { fault = f; interface = found.interface }) ≡ record { fault = f; interface = found.interface }) (sym write) refl
+write_first (Some long) found write = subst (IsAnswered long found.interface) (sym write) refl
 
 -- ---- What is told of turns
 
@@ -203,11 +189,11 @@ module _ {J L W A : Type 0} (Became : J → List PacketFacts → List Verdict �
   became = written new.writer.now
 
   -- a fault of the report, whose it is, and how often devices failed
-  record IsEnded (found : FaultAt) : Type 0 where
-    why : IsFaultOfComing Judged words_in judge before after began became found
-    read : failures then.arrivals.now ≡ with_read (failures source.arrivals.now) found.fault
-    whose : found.fault ≡ fault.Read → found.interface ≡ unread then.arrivals.now
-    write : writing new.writer.now ≡ with_write (writing old.writer.now) found.fault
+  pub record IsEnded (found : FaultAt) : Type 0 where
+    pub why : IsFaultOfComing Judged words_in judge before after began became found
+    pub read : failures then.arrivals.now ≡ with_read (failures source.arrivals.now) found.fault
+    pub whose : found.fault ≡ fault.Read → found.interface ≡ unread then.arrivals.now
+    pub write : writing new.writer.now ≡ with_write (writing old.writer.now) found.fault
 
   module _ (judged : List (JudgedBatch Verdict)) (each : AreEach judged) (turns : List Turn) (are : AreBatches turns (batches_of judged)) where
     turns_packets : packets_of judged ≡ come.packets_of turns
@@ -375,19 +361,14 @@ module _ {J L W A : Type 0} (Became : J → List PacketFacts → List Verdict �
       of_last : (turns : List Turn) (turn : Turn) (front : List Turn) → turns ≡ turn ∷ front → found.interface ≡ Some turn.interface → IsOfLast turns found.interface
       of_last turns turn front all named = subst (λ (ts : List Turn). IsOfLast ts found.interface) (sym all) named
 
-  -- each_front
-  first_each : (xs ys : List (JudgedBatch Verdict)) → AreEach (xs ++ ys) → AreEach xs
-  first_each [] ys each = tt
-  first_each (x ∷ xs) ys (here, behind) = (here, first_each xs ys behind)
-
   -- the lines were cut
   ended_lines : (found : FaultAt) (which : Fault) (cut : HasCutRun captures_words source (record { inner = judge }) old then new found) → found.fault ≡ which
       → HasCutLines wording written writing old (cut.earlier ++ cut.last ∷ []) which new → IsEnded (or_long_at then.long found)
-  unfolding ended_lost ended_cut first_each
+  unfolding ended_lost ended_cut
   ended_lines found fault.Memory cut memory lines =
       let same = same_from_push cut.earlier lines.earlier cut.last lines.last lines.all in
       subst IsEnded (sym (source_first then.long found (inr (capture.Memory, memory))))
-      (ended_lost cut.earlier (first_each cut.earlier (cut.last ∷ []) cut.each) cut.before.0.inner cut.before.1
+      (ended_lost cut.earlier (each_front cut.earlier (cut.last ∷ []) cut.each) cut.before.0.inner cut.before.1
       (subst (λ (js : List (JudgedBatch Verdict)). Appends began became (text_of words_in js)) (sym same.0) lines.text) lines.failed found cut.last.batch memory cut.place
       (subst (λ (bs : List BatchFacts). HasGivenTurns parts failures source bs then) (map-append (λ (one : JudgedBatch Verdict). one.batch) cut.earlier (cut.last ∷ [])) cut.gave))
   ended_lines found fault.Write cut write lines =
@@ -397,9 +378,9 @@ module _ {J L W A : Type 0} (Became : J → List PacketFacts → List Verdict �
   ended_lines found which cut same lines = absurd lines.text
 
   -- why not all was told
-  ended_run : (found : FaultAt) → IsRunFault captures_words source (record { inner = judge }) old then new found → IsEnded (or_long_at then.long found)
+  pub captures_ended : (found : FaultAt) → IsRunFault captures_words source (record { inner = judge }) old then new found → IsEnded (or_long_at then.long found)
   unfolding ended_failed ended_lost ended_large ended_lines
-  ended_run found (inl stopped) = elim stopped.why [
+  captures_ended found (inl stopped) = elim stopped.why [
     | inl failed ↦ subst IsEnded (sym (source_first then.long found (of_source failed.turns failed.gone found failed.why)))
         (ended_failed stopped.judged stopped.each stopped.said.0.inner stopped.said.1 stopped.told found failed)
     | inr (inl (memory, gone, place, gave)) ↦ subst IsEnded (sym (source_first then.long found (inr (capture.Memory, memory))))
@@ -407,7 +388,7 @@ module _ {J L W A : Type 0} (Became : J → List PacketFacts → List Verdict �
     | inr (inr (large, gave, many)) ↦ subst (λ (f : FaultAt). IsEnded (or_long_at then.long f)) (sym large)
         (ended_large stopped.judged stopped.each stopped.said.0.inner stopped.said.1 stopped.told gave many)
   ]
-  ended_run found (inr cut) = ended_lines found found.fault cut refl cut.cut
+  captures_ended found (inr cut) = ended_lines found found.fault cut refl cut.cut
 
   -- which arrivals and what it writes to it has
   pub captures_same : (found : FaultAt) → IsRunFault captures_words source (record { inner = judge }) old then new found
@@ -417,27 +398,6 @@ module _ {J L W A : Type 0} (Became : J → List PacketFacts → List Verdict �
     stopped.told.same.writer,
   )
   captures_same found (inr cut) = (cut.gave.same, cut.cut.same.writer)
-
-  pub captures_fault : (found : FaultAt) → IsRunFault captures_words source (record { inner = judge }) old then new found
-      → IsFaultOfComing Judged (wording old.teller.now) judge (parts source.arrivals.now) (parts then.arrivals.now) (written old.writer.now) (written new.writer.now)
-      (or_long_at then.long found)
-  unfolding ended_run
-  captures_fault found wrong = (ended_run found wrong).why
-
-  pub captures_read : (found : FaultAt) → IsRunFault captures_words source (record { inner = judge }) old then new found
-      → failures then.arrivals.now ≡ with_read (failures source.arrivals.now) (or_long_at then.long found).fault
-  unfolding ended_run
-  captures_read found wrong = (ended_run found wrong).read
-
-  pub captures_whose : (found : FaultAt) → IsRunFault captures_words source (record { inner = judge }) old then new found
-      → (or_long_at then.long found).fault ≡ fault.Read → (or_long_at then.long found).interface ≡ unread then.arrivals.now
-  unfolding ended_run
-  captures_whose found wrong = (ended_run found wrong).whose
-
-  pub captures_write : (found : FaultAt) → IsRunFault captures_words source (record { inner = judge }) old then new found
-      → writing new.writer.now ≡ with_write (writing old.writer.now) (or_long_at then.long found).fault
-  unfolding ended_run
-  captures_write found wrong = (ended_run found wrong).write
 
   -- ---- All was told
 
@@ -483,7 +443,7 @@ module _ {J L W A : Type 0} (Became : J → List PacketFacts → List Verdict �
       → IsFaultOfComing Judged (wording teller) judge (parts arrivals) (parts last) (written writer) (written wrote) answer
   lent_fault found answer wrong same lent =
       rw (same, ← lent.wrote_is, ← lent.left_is, ← lent.writes, ← lent.words, ← lent.comes)
-      (captures_fault Became Judged wording written writing parts failures left unread source then judge old new found wrong)
+      (captures_ended Became Judged wording written writing parts failures left unread source then judge old new found wrong).why
 
   pub lent_told : (at : OneFilter J) (captures : List Captured) (ended : ReportedCaptures J) (truncated : Bool) → AreWhole (parts arrivals)
       → Ran lent_words source (record { inner = judge }) old then at new captures → truncated ≡ is_truncated captures

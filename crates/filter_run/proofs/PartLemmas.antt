@@ -83,33 +83,3 @@ empty_count interface others batch is =
 pub empty_records : (interface others : ℕ) (batch : Batch) → IsEmptyBatch interface others batch → (batch_facts batch).records ≡ []
 empty_records interface others batch is =
     none_in (batch_facts batch).records (sym (packets_count batch.order batch.found.count (held_by batch.bytes)) ∙ empty_count interface others batch is)
-
-short_so : (stop_at : Stop) (order : Order) (rest waits : List ℕ) → Stops order rest stop_at → length rest ≡ 0 → length waits < 24 → WaitsSo stop_at None waits
-short_so stop.End order rest waits stops none short = short
-short_so stop.Truncated order rest waits stops none short = short
-short_so stop.TooLong order rest waits (long, large) none short = absurd (omega (arith, long, none))
-
--- of a capture whose header isn't whole some bytes came
-pub bytes_short : (arrival : Arrival) (bytes : List ℕ) (records : List RecordFacts) (others : ℕ) (lane ready : Lane) (batch : Batch) (waits : List ℕ) → ready.order ≡ None
-    → held_by ready.window ≡ waits → length waits < 24 → HasWaiting None (bytes ++ arrival.bytes.items) records waits → lane.packets ≡ length records
-    → ready.packets ≡ lane.packets → IsEmptyBatch arrival.interface others batch → HasTakenBytes arrival bytes records others ready batch
-bytes_short arrival bytes records others lane ready batch waits none window short are count packets is =
-    let more = (batch_facts batch).records in
-    let empty = empty_records arrival.interface others batch is in
-    let same : records ≡ records ++ more = sym (append-nil records) ∙ ap (λ (rs : List RecordFacts). records ++ rs) (sym empty) in
-    let from = length (held_by batch.bytes) - batch.found.behind in
-    let behind = length-drop from (held_by batch.bytes) in
-    let size = ap length is.held in
-    record {
-      found = is.found;
-      at = is.at;
-      behind = is.behind;
-      few = let few = empty_count arrival.interface others batch is in omega arith;
-      waiting = subst (λ (o : Option Order). HasWaiting o (bytes ++ arrival.bytes.items) (records ++ more) (held_by ready.window)) (sym none)
-          (subst (λ (rs : List RecordFacts). HasWaiting None (bytes ++ arrival.bytes.items) rs (held_by ready.window)) same
-          (subst (HasWaiting None (bytes ++ arrival.bytes.items) records) (sym window) are));
-      waits = subst (λ (o : Option Order). WaitsSo batch.found.stop o (held_by ready.window)) (sym none)
-          (short_so batch.found.stop batch.order (behind_of (held_by batch.bytes) batch.found) (held_by ready.window) is.found.stop (omega arith)
-          (let few = ap length window in omega arith));
-      count = packets ∙ count ∙ ap length same;
-    }

@@ -36,11 +36,6 @@ pub after_open : {A : Type 0} (turns : List Turn) (captures : ComingCaptures A) 
     → AreTurns turns × AreLanes turns captures.lanes.items
 after_open turns captures after open_all = subst (λ (l : Option FaultAt). StandSo l turns captures.lanes.items) open_all after.stand
 
--- the last part's capture has one that is too long
-pub after_long : {A : Type 0} (turns : List Turn) (captures : ComingCaptures A) (found : FaultAt) → AreAfter turns captures → captures.long ≡ Some found
-    → StandSo (Some found) turns captures.lanes.items
-after_long turns captures found after long = subst (λ (l : Option FaultAt). StandSo l turns captures.lanes.items) long after.stand
-
 -- where nothing that they have changes but where their parts come from
 pub after_same : {A : Type 0} (turns : List Turn) (old new : ComingCaptures A) → new.long ≡ old.long → new.lanes ≡ old.lanes → new.cuts ≡ old.cuts → new.packets ≡ old.packets
     → AreAfter turns old → AreAfter turns new
@@ -87,14 +82,6 @@ module _ {A : Type 0} (turns : List Turn) (old : ComingCaptures A) (after : AreA
       omega arith
 
   -- ---- A capture has ended
-
-  pub end_fault : (arrival : Arrival) (found : Fault) → arrival.bytes.items ≡ []
-      → (found ≡ fault.Memory) ⊎ ((found ≡ fault.Short) × (length (bytes_at arrival.interface turns) < 24)) → IsPartFault arrival turns found
-  end_fault arrival found none (inl memory) = inl memory
-  end_fault arrival found none (inr (is_it, less)) =
-      let both = length-append (bytes_at arrival.interface turns) arrival.bytes.items in
-      let zero : length arrival.bytes.items ≡ 0 = ap length none in
-      inr (record { named = refl; cause = capture.Short; wrong = omega arith; same = is_it; short = λ _. none })
 
   still_lanes : (turn : Turn) → turn.interface < 256 → turn.bytes ≡ [] → turn.records ≡ [] → (other : Lane) → AreLanes (turn ∷ turns) old.lanes.items
   still_lanes turn within none empty other =
@@ -145,11 +132,6 @@ module _ {A : Type 0} (turns : List Turn) (old : ComingCaptures A) (after : AreA
       }
 
   -- ---- Some bytes of it came
-
-  pub bytes_fault : (arrival : Arrival) (found : Fault) → IsHeadFault (bytes_at arrival.interface turns ++ arrival.bytes.items) found → IsPartFault arrival turns found
-  bytes_fault arrival found (inl memory) = inl memory
-  bytes_fault arrival found (inr (long, cause, wrong, is_it)) =
-      inr (record { named = refl; cause = cause; wrong = wrong; same = is_it; short = λ less. absurd (omega (arith, long, less)) })
 
   module _ (arrival : Arrival) (ready : Lane) (batch : Batch) (some : arrival.bytes.items ≢ []) (within : arrival.interface < 256)
       (taken : HasTakenBytes arrival (bytes_at arrival.interface turns) (records_at arrival.interface turns) old.packets ready batch) where
@@ -213,18 +195,21 @@ module _ {A : Type 0} (turns : List Turn) (old : ComingCaptures A) (after : AreA
 
 -- ---- From one batch to the next
 
--- nor is a part that can't be taken
+-- what holds of these faults holds of a capture's
+pub by_cause : (P : Fault → Type 0) → P fault.Short → P fault.Magic → P fault.Version → P fault.LinkType → ((n : ℕ) → P (fault.LongRecord n)) → P fault.Memory
+    → (cause : CaptureFault) → P (capture_fault cause)
+by_cause P short magic version link long memory capture.Short = short
+by_cause P short magic version link long memory capture.Magic = magic
+by_cause P short magic version link long memory capture.Version = version
+by_cause P short magic version link long memory capture.LinkType = link
+by_cause P short magic version link long memory (capture.LongRecord number) = long number
+by_cause P short magic version link long memory capture.Memory = memory
+
+-- where a part can't be taken, no capture couldn't be read
 taken_fault : (arrival : Arrival) (turns : List Turn) (found : Fault) → IsPartFault arrival turns found → (n : ℕ) → n ≡ with_read n found
 taken_fault arrival turns found (inl memory) n = subst (λ f. n ≡ with_read n f) (sym memory) refl
-taken_fault arrival turns found (inr wrong) n = subst (λ f. n ≡ with_read n f) (sym wrong.same) (by wrong.cause)
-  where
-    by : (cause : CaptureFault) → n ≡ with_read n (capture_fault cause)
-    by capture.Short = refl
-    by capture.Magic = refl
-    by capture.Version = refl
-    by capture.LinkType = refl
-    by (capture.LongRecord number) = refl
-    by capture.Memory = refl
+taken_fault arrival turns found (inr wrong) n =
+    subst (λ f. n ≡ with_read n f) (sym wrong.same) (by_cause (λ f. n ≡ with_read n f) refl refl refl refl (λ number. refl) refl wrong.cause)
 
 unread_fault : (found : Fault) → ((n : ℕ) → n ≡ with_read n found) → found ≢ fault.Read
 unread_fault found same = λ read. let more : 0 ≡ 0 + 1 = subst (λ f. 0 ≡ with_read 0 f) read (same 0) in absurd (omega arith)

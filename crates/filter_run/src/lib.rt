@@ -23,7 +23,7 @@ pub use both::Both;
 pub use capture_laws::each_capture_comes_in_its_order;
 pub use capture_report::{OpenCapture, ReportedCapture, is_any_cut, report_capture};
 pub use captures_report::{ReportedCaptures, report_captures};
-pub use coming_captures::{ComingCaptures, Lane};
+pub use coming_captures::{ComingCaptures, Lane, new_lanes};
 pub use judge::Judge;
 pub use observer::Observer;
 pub use one_capture::OneCapture;

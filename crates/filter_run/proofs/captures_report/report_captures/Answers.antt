@@ -1,6 +1,6 @@
 use Rattle.std.proofs.Common.{rules, ◌∙◌, ap, refl}
 use Rattle.racl_io.specs.Reports.{is_truncated}
-use Rattle.filter_run.proofs.CapturesReportLemmas.{captures_read, captures_same, captures_whose, captures_write, lent_fault, lent_told, none_came}
+use Rattle.filter_run.proofs.CapturesReportLemmas.{captures_ended, captures_same, lent_fault, lent_told, none_came}
 use Rattle.filter_run.proofs.captures_report.report_captures.Goals as goal
 
 pub returns-in_default-clause-told : goal.returns-in_default-clause-told
@@ -42,8 +42,9 @@ returns-in-Err-clause-read g c =
     let wrong = c.in-Err.ensures in
     let same = captures_same g.J.Judge.became g.J.Judge.judged g.L.Teller.wording g.W.Sink.bytes g.W.Sink.failures g.A.Arrivals.parts g.A.Arrivals.failures g.A.Arrivals.left
     g.A.Arrivals.unread c.new-source.result c.run-ran.new.source c.args.judges c.new-lines.result c.run-ran.new.observer c.in-Err.found wrong in
-    let failed = captures_read g.J.Judge.became g.J.Judge.judged g.L.Teller.wording g.W.Sink.bytes g.W.Sink.failures g.A.Arrivals.parts g.A.Arrivals.failures g.A.Arrivals.left
+    let ended = captures_ended g.J.Judge.became g.J.Judge.judged g.L.Teller.wording g.W.Sink.bytes g.W.Sink.failures g.A.Arrivals.parts g.A.Arrivals.failures g.A.Arrivals.left
     g.A.Arrivals.unread c.new-source.result c.run-ran.new.source c.args.judges c.new-lines.result c.run-ran.new.observer c.in-Err.found wrong in
+    let read = ended.read in
     search rules
 
 pub returns-in-Err-clause-whose : goal.returns-in-Err-clause-whose
@@ -51,8 +52,9 @@ returns-in-Err-clause-whose g c =
     let wrong = c.in-Err.ensures in
     let same = captures_same g.J.Judge.became g.J.Judge.judged g.L.Teller.wording g.W.Sink.bytes g.W.Sink.failures g.A.Arrivals.parts g.A.Arrivals.failures g.A.Arrivals.left
     g.A.Arrivals.unread c.new-source.result c.run-ran.new.source c.args.judges c.new-lines.result c.run-ran.new.observer c.in-Err.found wrong in
-    let whose = captures_whose g.J.Judge.became g.J.Judge.judged g.L.Teller.wording g.W.Sink.bytes g.W.Sink.failures g.A.Arrivals.parts g.A.Arrivals.failures g.A.Arrivals.left
+    let ended = captures_ended g.J.Judge.became g.J.Judge.judged g.L.Teller.wording g.W.Sink.bytes g.W.Sink.failures g.A.Arrivals.parts g.A.Arrivals.failures g.A.Arrivals.left
     g.A.Arrivals.unread c.new-source.result c.run-ran.new.source c.args.judges c.new-lines.result c.run-ran.new.observer c.in-Err.found wrong in
+    let whose = ended.whose in
     search rules
 
 pub returns-in-Err-clause-write : goal.returns-in-Err-clause-write
@@ -60,6 +62,7 @@ returns-in-Err-clause-write g c =
     let wrong = c.in-Err.ensures in
     let same = captures_same g.J.Judge.became g.J.Judge.judged g.L.Teller.wording g.W.Sink.bytes g.W.Sink.failures g.A.Arrivals.parts g.A.Arrivals.failures g.A.Arrivals.left
     g.A.Arrivals.unread c.new-source.result c.run-ran.new.source c.args.judges c.new-lines.result c.run-ran.new.observer c.in-Err.found wrong in
-    let failed = captures_write g.J.Judge.became g.J.Judge.judged g.L.Teller.wording g.W.Sink.bytes g.W.Sink.failures g.A.Arrivals.parts g.A.Arrivals.failures g.A.Arrivals.left
+    let ended = captures_ended g.J.Judge.became g.J.Judge.judged g.L.Teller.wording g.W.Sink.bytes g.W.Sink.failures g.A.Arrivals.parts g.A.Arrivals.failures g.A.Arrivals.left
     g.A.Arrivals.unread c.new-source.result c.run-ran.new.source c.args.judges c.new-lines.result c.run-ran.new.observer c.in-Err.found wrong in
+    let write = ended.write in
     search rules
