@@ -1,5 +1,5 @@
 -- Parts that come, where they are known.
-use Rattle.std.proofs.Common.{◌≡◌, ◌∙◌, List, [], ◌++◌, Option, Some, None, ap, append_assoc, refl, sym}
+use Rattle.std.proofs.Common.{◌∙◌, List, [], ◌++◌, Option, Some, None, ap, append_assoc, refl, sym}
 use Rattle.capture_stream.specs.Arrivals.{Gives, Part}
 
 pub gives_both : (before mid after : Option (List Part)) (xs ys : List Part) → Gives before mid xs → Gives mid after ys → Gives before after (xs ++ ys)

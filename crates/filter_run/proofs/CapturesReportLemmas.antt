@@ -23,12 +23,11 @@ use Rattle.filter_run.specs.Batches.{AreEach, BatchFacts, JudgedBatch, batches_o
 use Rattle.filter_run.specs.ComingCaptures.{HasLongRecord, HasToldCaptures, HasToldFront, HasToldTurns, IsFaultOfComing, IsOfLast}
 use Rattle.filter_run.specs.Filters.{HasSaid}
 use Rattle.filter_run.specs.Lines.{HasCutLines, HasToldLines, text_of}
-use Rattle.filter_run.specs.Ran.{HasCutRun, HasStopped, IsRunFault, Ran, Words, most, words_of}
+use Rattle.filter_run.specs.Ran.{HasCutRun, IsRunFault, Ran, Words, most, words_of}
 use Rattle.filter_run.specs.Turns.{AreTurns, AreTurnsToLong, Turn, cuts_of, parts_of}
 use Rattle.filter_run.specs.Turns as come
 use Rattle.filter_run.specs.declared.captures_report.ReportedCaptures.{ReportedCaptures}
 use Rattle.filter_run.specs.declared.coming_captures.ComingCaptures.{ComingCaptures}
-use Rattle.filter_run.specs.declared.coming_captures.Lane.{Lane}
 use Rattle.filter_run.specs.declared.one_filter.OneFilter.{OneFilter}
 use Rattle.filter_run.specs.declared.told_lines.ToldLines.{ToldLines}
 use Rattle.filter_run.specs.inner.GivenTurns.{AreBatches, HasFailedBehindTurns, HasGivenAllTurns, HasGivenTurns, IsBatch, IsWhyNoTurn, StandSo}

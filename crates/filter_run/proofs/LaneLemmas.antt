@@ -1,15 +1,11 @@
 -- One of several captures that come: what waits of it.
-use Rattle.std.proofs.Common.{◌≡◌, ◌≢◌, ◌∙◌, ◌≤◌, ◌<◌, ◌+◌, ◌-◌, ◌^◌, ◌⊎◌, ℕ, Bool, List, [], ◌∷◌, ◌++◌, Option, Some, None, ap, append-nil, append_assoc, arith, drop, inl, inr, length, refl, subst, sym, take, true, false}
-use Rattle.std.proofs.lemmas.List.{length-append, length-take-le, take-append-drop}
-use Rattle.std.proofs.lemmas.Option.{none-some}
-use Rattle.packet_view.specs.Captures.{AreRecords, HasFileHeader, IsCutRecord, IsEnd, RecordFacts, end_of}
-use Rattle.packet_view.specs.Fronts.{Stops}
+use Rattle.std.proofs.Common.{◌≡◌, ◌∙◌, ◌≤◌, ℕ, List, ◌++◌, Option, Some, None, ap, append_assoc, arith, drop, inl, inr, length, refl, subst, sym, take, true, false}
+use Rattle.std.proofs.lemmas.List.{length-take-le, take-append-drop}
+use Rattle.packet_view.specs.Captures.{AreRecords, HasFileHeader, RecordFacts}
 use Rattle.packet_view.specs.declared.capture.Order.{Order}
-use Rattle.packet_view.specs.declared.records_at_front.Stop.{Stop}
-use Rattle.packet_view.specs.declared.records_at_front.Stop.TheVariants as stop
 use Rattle.packet_view.proofs.FrontLemmas.{head_appended, header_too, records_appended, records_joined}
 use Rattle.racl_io.specs.Buffers.{held_by}
-use Rattle.filter_run.specs.Turns.{AreHeaded, HasCaptureEnded, HaveCome, HaveComeToLong}
+use Rattle.filter_run.specs.Turns.{AreHeaded, HaveCome}
 use Rattle.filter_run.specs.declared.coming_captures.Lane.{Lane}
 use Rattle.filter_run.specs.inner.Lanes.{HasWaiting, IsLane, IsShort}
 

@@ -1,5 +1,5 @@
 -- Several captures that come: the lanes after a turn, and each capture's own records and packets.
-use Rattle.std.proofs.Common.{◌≡◌, ◌≢◌, ◌∙◌, ◌≤◌, ◌<◌, ◌+◌, ◌⊎◌, ℕ, Bool, List, [], ◌∷◌, ◌++◌, ap, ap₂, append-nil, arith, eq-eqb, eqb-true, inl, inr, length, refl, subst, sym, true, false, true≢false}
+use Rattle.std.proofs.Common.{◌≡◌, ◌≢◌, ◌∙◌, ◌≤◌, ◌<◌, ℕ, Bool, List, [], ◌∷◌, ◌++◌, ap, ap₂, append-nil, arith, eq-eqb, eqb-true, inl, length, refl, subst, sym, true, false, true≢false}
 use Rattle.std.specs.Prelude.{get_or, if◌then◌else◌, nat_eq, set}
 use Rattle.std.proofs.lemmas.List.{get_or-set_other, get_or-set_same, length-append, length-map, length-set}
 use Rattle.std.proofs.lemmas.List.Elements.{filter-append}

@@ -1,6 +1,6 @@
 -- A part of one of several captures: the batch that it makes whole, and what it adds to the capture's lane.
-use Rattle.std.proofs.Common.{◌≡◌, ◌∙◌, ◌≤◌, ◌<◌, ◌+◌, ◌-◌, ℕ, List, [], ◌∷◌, ◌++◌, Option, Some, None, ap, append-nil, arith, drop, inl, inr, length, refl, subst, sym}
-use Rattle.std.proofs.lemmas.List.{length-append, length-drop}
+use Rattle.std.proofs.Common.{◌≡◌, ◌∙◌, ◌≤◌, ◌<◌, ◌+◌, ℕ, List, [], ◌∷◌, ◌++◌, Option, Some, ap, arith, inl, inr, length, refl, subst, sym}
+use Rattle.std.proofs.lemmas.List.{length-append}
 use Rattle.packet_view.specs.Captures.{AreRecords, RecordFacts}
 use Rattle.packet_view.specs.Fronts.{Stops}
 use Rattle.packet_view.specs.RecordLists.{records_from}
@@ -16,7 +16,7 @@ use Rattle.filter_run.specs.Batches.{batch_facts}
 use Rattle.filter_run.specs.declared.batch.Batch.{Batch}
 use Rattle.filter_run.specs.declared.coming_captures.Lane.{Lane}
 use Rattle.filter_run.specs.declared.coming_captures.Waiting.{Waiting}
-use Rattle.filter_run.specs.inner.Lanes.{HasWaiting, IsShort}
+use Rattle.filter_run.specs.inner.Lanes.{HasWaiting}
 use Rattle.filter_run.specs.inner.Parts.{HasPartedLane, HasTakenBytes, IsEmptyBatch, WaitsSo}
 use Rattle.filter_run.proofs.LaneLemmas.{headed_joined}
 

@@ -1,8 +1,8 @@
 -- Several captures that come: all of them after each part, at their end and at a fault.
-use Rattle.std.proofs.Common.{◌≡◌, ◌≢◌, ◌∙◌, ◌≤◌, ◌<◌, ◌+◌, ◌-◌, ◌^◌, ◌⊎◌, ℕ, List, [], ◌∷◌, ◌++◌, Option, Some, None, ap, append-nil, append_assoc, arith, inl, inr, length, refl, subst, sym}
+use Rattle.std.proofs.Common.{◌≡◌, ◌≢◌, ◌∙◌, ◌≤◌, ◌<◌, ◌+◌, ℕ, List, [], ◌∷◌, ◌++◌, Option, Some, None, ap, append-nil, arith, inl, inr, length, refl, subst, sym}
 use Rattle.std.specs.Prelude.{get_or, set}
 use Rattle.std.proofs.lemmas.List.{length-append, length-map, set-get_or}
-use Rattle.packet_view.specs.Captures.{PacketFacts, RecordFacts, packet_at, packets_at}
+use Rattle.packet_view.specs.Captures.{RecordFacts, packet_at, packets_at}
 use Rattle.packet_view.specs.declared.capture.CaptureFault.{CaptureFault}
 use Rattle.packet_view.specs.declared.capture.CaptureFault.TheVariants as capture
 use Rattle.packet_view.specs.declared.records_at_front.Stop.{Stop}
@@ -13,18 +13,17 @@ use Rattle.racl_io.specs.Faults.{capture_fault}
 use Rattle.racl_io.specs.declared.fault.Fault.{Fault}
 use Rattle.racl_io.specs.declared.fault.Fault.TheVariants as fault
 use Rattle.racl_io.specs.declared.totals_and_truncation.Captured.{Captured}
-use Rattle.capture_stream.specs.Arrivals.{Gives, HasGiven, HaveAllEnded, HaveEnded, IsNotGiven, Part, part_in}
+use Rattle.capture_stream.specs.Arrivals.{Gives, Part, part_in}
 use Rattle.capture_stream.specs.Lives.{with_read}
 use Rattle.capture_stream.specs.declared.arrivals.Arrival.{Arrival}
 use Rattle.capture_stream.specs.declared.arrivals.FaultAt.{FaultAt}
 use Rattle.filter_run.specs.Batches.{BatchFacts, batch_facts, total}
-use Rattle.filter_run.specs.ComingCaptures.{HasLongRecord}
 use Rattle.filter_run.specs.Turns.{AreTurns, HasCaptureEnded, HaveCome, IsTurn, Turn, bytes_at, cuts_of, packets_of, parts_of, records_at}
 use Rattle.filter_run.specs.declared.batch.Batch.{Batch}
 use Rattle.filter_run.specs.declared.coming_captures.ComingCaptures.{ComingCaptures}
 use Rattle.filter_run.specs.declared.coming_captures.Lane.{Lane}
-use Rattle.filter_run.specs.inner.GivenTurns.{AreAfter, AreBatches, HasFailedBehindTurns, HasGivenAllTurns, HasGivenTurns, StandSo}
-use Rattle.filter_run.specs.inner.Lanes.{AreLanes, HasWaiting, IsHeadFault, IsLane, IsShort}
+use Rattle.filter_run.specs.inner.GivenTurns.{AreAfter, AreBatches, HasFailedBehindTurns, HasGivenTurns, StandSo}
+use Rattle.filter_run.specs.inner.Lanes.{AreLanes, HasWaiting, IsLane, IsShort}
 use Rattle.filter_run.specs.inner.Parts.{HasTakenBytes, HasTakenPart, IsEmptyBatch, IsPartFault, WaitsSo, long_at, turn_of}
 use Rattle.filter_run.proofs.ArrivalLemmas.{gives_both}
 use Rattle.filter_run.proofs.LaneLemmas.{lane_come}

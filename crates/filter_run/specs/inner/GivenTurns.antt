@@ -1,6 +1,5 @@
 -- Several captures that come together: the turns that were given, how they end, and how they fail.
-use Rattle.std.specs.Prelude.{◌≡◌, ◌+◌, ◌-◌, ◌<◌, ◌⊎◌, ◌++◌, ◌^◌, ℕ, List, [], ◌∷◌, None, Option, Some, length}
-use Rattle.racl_io.specs.declared.fault.Fault.{Fault}
+use Rattle.std.specs.Prelude.{◌≡◌, ◌-◌, ◌<◌, ◌⊎◌, ◌++◌, ◌^◌, ℕ, List, [], ◌∷◌, None, Option, Some, length}
 use Rattle.racl_io.specs.declared.fault.Fault.TheVariants.{Memory, Read}
 use Rattle.racl_io.specs.declared.totals_and_truncation.Captured.{Captured}
 use Rattle.capture_stream.specs.Arrivals.{AreAllGiven, Gives, HaveAllEnded, IsNamed, Part}
