@@ -65,7 +65,7 @@ returns-in_default-end-clause-told g c =
     c.in-Ok.ensures
     (fault_as _ (ByLoneWorker options) (unmet_wording c.in-Ok.teller.expectations.now) _ (λ begun order records verdicts now. ⊤) _ (policy_facts ready.policy.now)
     (λ packets verdicts judged. tells packets verdicts c.in-Ok-new-2.ensures.given c.in-Ok-create_sized.ensures.asked.four c.in-Ok-create_sized.ensures.asked.size c.requires.times options.few.0 judged)
-    _ _ _ _ _ _ _ tt tt (λ whole verdicts saved. tt) Memory (all_is_some told)))
+    _ _ _ _ _ _ _ tt tt (λ whole verdicts saved. tt) Memory (told.all.rest, all_is_some told)))
 
 pub returns-in-Ok-tell_last-clause-told : goal.returns-in-Ok-tell_last-clause-told
 returns-in-Ok-tell_last-clause-told g c =
