@@ -70,7 +70,6 @@ class Saved(Case):
         self.compare({"capture": held(f"{self.folder}/names")}, {"capture": CAPTURE}, "of two names")
 
     def test_file_that_cant_be_made(self):
-        report = self.program.run(self.files)
         got = self.program.run(["--passes", f"{self.folder}/none/passes", *self.files])
         told = f"racl: {self.folder}/none/passes: No such file or directory (os error 2)\n"
-        self.compare(got, wanted(report["stdout"], told, 4))
+        self.compare(got, wanted(stderr=told, status=4))

@@ -99,9 +99,9 @@ class SavedNames(Case):
 
     def test_standard_output_that_is_a_pipe(self):
         got = self.program.run(["--drops", "/dev/stdout", self.policy, self.capture], cwd=self.folder)
-        self.compare(got, wanted(REFLECTED + header()))
+        self.compare(got, wanted(header() + REFLECTED))
 
     @each((f"{it} can't be saved to", it, told) for it, told in UNSAVED)
     def unsaved(self, name, told):
         got = self.program.run(["--drops", name, self.policy, self.capture], cwd=self.folder)
-        self.compare(got, wanted(REFLECTED, f"racl: {name}: {told}\n", 4))
+        self.compare(got, wanted(stderr=f"racl: {name}: {told}\n", status=4))

@@ -84,4 +84,4 @@ class ShortWrites(Case):
 
     def test_full_device(self):
         got = self.program.run(["--passes", "/dev/full", *self.words[4:]])
-        self.compare(got, wanted(self.report, "racl: /dev/full: No space left on device (os error 28)\n", 4))
+        self.compare(got, wanted(stderr="racl: /dev/full: No space left on device (os error 28)\n", status=4))
