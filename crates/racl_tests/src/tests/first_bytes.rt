@@ -1,6 +1,6 @@
-//! What files are that are no captures of Ethernet.
+//! The first bytes of files, and what those are that are no captures of Ethernet.
 
-use racl_io::{Other, other_file};
+use racl_io::{Device, FrontKept, Other, other_file, read_until};
 
 // For tests of first bytes: 24 bytes that begin with these and have this link field.
 fn first_bytes(magic: [u8; 4], link: [u8; 4]) -> [u8; 24] {
@@ -13,6 +13,17 @@ fn first_bytes(magic: [u8; 4], link: [u8; 4]) -> [u8; 24] {
 // For tests of first bytes: what is told where 23 of these bytes are there.
 fn told_of_fewer(bytes: &[u8]) -> Option<Other> {
     other_file(&bytes[..bytes.len().min(23)])
+}
+
+/// What was read first of a file, as far as it was read.
+#[test]
+fn first_bytes_are_kept(rt: HostRuntime) {
+    let mut reader = Device::new(FrontKept::new(b"\xd4\xc3\x0a".as_slice()));
+    let mut all = Vec::new(rt.alloc());
+    assert!(rt; read_until(&mut reader, &mut all, 1) == Ok(false));
+    assert!(rt; reader.inner.front() == b"\xd4".as_slice());
+    assert!(rt; read_until(&mut reader, &mut all, 100) == Ok(true));
+    assert!(rt; reader.inner.front() == b"\xd4\xc3\x0a".as_slice());
 }
 
 #[test]
