@@ -84,7 +84,8 @@ find_stream() {
         --drops | --passes) return ;;
     esac
     if [ "$file" = - ]; then
-        input=$readable
+        # a regular file isn't waited for, and the program is to see which one it is
+        [ -f /dev/stdin ] || input=$readable
     elif [ -p "$file" ] && make_room; then
         pipe=$room/$(stat -Lc %d.%i -- "$file") links=$((links + 1))
         link=$room/$links/${file##*/}

@@ -70,6 +70,7 @@ class SavedNames(Case):
             with open(f"{self.folder}/{name}", "rb") as file:
                 told = f"same/{name}: the same file as standard input, which is read"
                 self.refused(["--drops", f"same/{name}", *words], told, name, stdin=file)
+                self.refused(["--live", "--drops", f"same/{name}", *words], told, name, "live", stdin=file)
 
     def test_standard_output(self):
         with open(f"{self.folder}/report", "wb") as file:
