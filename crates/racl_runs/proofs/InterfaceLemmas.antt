@@ -23,7 +23,7 @@ use Rattle.racl_report.specs.declared.interface_captures.PlacedFault.{PlacedFaul
 use Rattle.racl_report.specs.RunReports.{JudgedFacts, Outcome, sessions_behind, told_facts}
 use Rattle.racl_report.specs.WrittenReports.{HasTold}
 use Rattle.racl_report.proofs.InterfaceLaws.{fault_not_write, found_at, no_fault_apart, one_fault_apart, one_read_apart, read_or_fault}
-use Rattle.racl_report.proofs.ViewLemmas.{outcome_of}
+use Rattle.racl_runs.proofs.OutcomeLemmas.{outcome_of}
 use Rattle.racl_runs.specs.InterfaceRuns.{HasOutcomeApart, HasRunApart, IsSystemApart}
 use Rattle.racl_runs.specs.Reads.{IsReached}
 use Rattle.racl_runs.specs.Runs.{AgeInTime, ByOneThread, layout_for}
