@@ -22,12 +22,12 @@ use std::time::Clock;
 
 /// Workers judge the packets of captures, one after the other, by this way, and the report on them is written. This is told of each
 /// capture. Nothing is written before all packets were judged.
-pub fn report_at_hand<W: Sink, T: Clock + Threads + Wait + Sync>(
+pub fn report_at_hand<'a, W: Sink, T: Clock + Threads + Wait + Sync>(
     rt: &T,
     alloc: Global,
-    way: LiveWay<'_, '_>,
-    captures: &[CaptureBytes],
-    told: &[Captured],
+    way: LiveWay<'a, 'a>,
+    captures: &'a [CaptureBytes],
+    told: &'a [Captured],
     writer: &mut W,
 ) -> Result<Totals, Fault>
     requires says { IsPolicyText way.text.now (policy_facts way.filter.now.policy.now) }
