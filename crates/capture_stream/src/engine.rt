@@ -3,7 +3,7 @@ ghost use Rattle.std.specs.Prelude.{◌<◌, ◌^◌, MatchResult};
 ghost use Rattle.capture_stream.specs.inner.Feedings.{IsCutAt, IsLongAt};
 
 use crate::judge::Judge;
-use crate::live_read_sizes::{FIRST_READ, ReadSize, read_behind};
+use crate::live_read_sizes::{ReadSize, read_behind};
 use crate::windows_of_records::{
     Found, NextWindow, find_records, found_records, judge_beside_reading, read_and_find,
 };
@@ -54,11 +54,11 @@ impl<J: Judge> Engine<J> {
     ghost use Rattle.capture_stream.specs.Lives.{with_read};
     ghost use Rattle.capture_stream.specs.inner.Feedings.{HasFed, HasGot, IsBegun, IsUnread};
 
-    /// One that was fed no byte, of a capture that was taken at this interface.
-    pub fn new(alloc: Global, judges: J, order: Order, interface: u8) -> Engine<J>
-        ensures { IsBegun judges order interface result }
+    /// One of a capture that was taken at this interface, where these bytes wait, and nothing was judged.
+    pub fn new(alloc: Global, judges: J, order: Order, interface: u8, front: Vec<u8>) -> Engine<J>
+        ensures { IsBegun judges order interface front.items result }
     {
-        let window = ReadBuffer::new(Vec::new(alloc));
+        let window = ReadBuffer::new(front);
         let found = find_records(window.bytes(), order);
         Engine {
             judges,
@@ -117,11 +117,11 @@ impl<J: Judge> Engine<J> {
     ) -> Result<usize, Fault>
         requires few { length (rest_in self.old) + 8388608 < 2 ^ 63 }
         requires sound { R.failures reader.old < 2 ^ 64 - 1 }
-        ensures got { MatchResult result (HasGot (R.bytes reader.old) (R.bytes reader.new) self.old self.new 8388608) (IsUnread (R.bytes reader.old) (R.bytes reader.new)) }
+        ensures got { MatchResult result (HasGot (R.bytes reader.old) (R.bytes reader.new) self.old self.new size.bytes) (IsUnread (R.bytes reader.old) (R.bytes reader.new)) }
         ensures failures { MatchResult result (λ _. R.failures reader.new ≡ R.failures reader.old) (λ fault. R.failures reader.new ≡ with_read (R.failures reader.old) fault) }
     {
         if size.many.is_none() {
-            return self.read_some(reader, FIRST_READ);
+            return self.read_some(reader, size.bytes);
         }
         // (the room of what was judged is given back first, so that there is never room for two such reads)
         self.spare = ReadBuffer::new(Vec::new(alloc));

@@ -9,7 +9,7 @@ use racl_io::{Fault, Source};
 use std::alloc::{AllocError, Global};
 
 /// How many bytes the first read asks for: what a pipe holds.
-pub const FIRST_READ: usize = 65_536;
+const FIRST_READ: usize = 65_536;
 
 /// How many bytes a read asks for at most.
 const MOST_READ: usize = 8_388_608;
@@ -61,6 +61,18 @@ impl ReadSize {
         }
         ReadSize {
             bytes: (2 * self.bytes).min(MOST_READ),
+            many: self.many,
+        }
+    }
+
+    /// This one, but of so many bytes at most.
+    pub fn within(self, most: usize) -> ReadSize
+        requires { 1 ≤ most }
+        ensures bytes { result.bytes ≡ min self.bytes most }
+        ensures many { result.many ≡ self.many }
+    {
+        ReadSize {
+            bytes: self.bytes.min(most),
             many: self.many,
         }
     }

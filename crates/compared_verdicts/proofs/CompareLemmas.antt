@@ -1,5 +1,5 @@
 -- A capture whose packets are compared while they come: what the relation of its run says of what was read and written.
-use Rattle.std.proofs.Common.{◌≡◌, ◌≢◌, ◌∙◌, ◌+◌, ◌++◌, ℕ, Bool, List, [], ◌∷◌, Option, ap, ap₂, arith, inl, inr, length, refl, subst, sym}
+use Rattle.std.proofs.Common.{◌≡◌, ◌≢◌, ◌∙◌, ◌+◌, ◌++◌, ◌⊎◌, ℕ, Bool, List, [], ◌∷◌, Option, ap, ap₂, arith, inl, inr, length, refl, subst, sym}
 use Rattle.std.proofs.lemmas.List.{length-map, map-append, same_from_push}
 use Rattle.std.proofs.KnownBytes.{Appends-nil, Appends-trans, Consumes-nil}
 use Rattle.std.specs.Io.KnownBytes.{Appends}
@@ -9,20 +9,23 @@ use Rattle.packet_view.specs.declared.capture.Order.{Order}
 use Rattle.session_state.specs.declared.verdict.Verdict.{Verdict}
 use Rattle.racl_io.specs.Reports.{is_truncated}
 use Rattle.racl_io.specs.Sinks.{GotFront}
+use Rattle.racl_io.specs.Tellings.{IsTellingFault}
 use Rattle.racl_io.specs.declared.fault.Fault.{Fault}
 use Rattle.racl_io.specs.declared.fault.Fault.TheVariants as fault
 use Rattle.racl_io.specs.declared.totals_and_truncation.Captured.{Captured}
 use Rattle.racl_io.proofs.TellingLemmas.{alone_truncated, front_on}
 use Rattle.capture_stream.specs.Feeding.{rest_in}
+use Rattle.capture_stream.specs.Lives.{with_read}
 use Rattle.capture_stream.specs.declared.arrivals.FaultAt.{FaultAt}
 use Rattle.filter_run.specs.Batches.{AreEach, JudgedBatch, batches_of, packets_in, packets_of, said_of}
 use Rattle.filter_run.specs.Both.{firsts, seconds}
-use Rattle.filter_run.specs.OneCapture.{AreNumbered, HasGivenSome, IsWhy, records_of}
+use Rattle.filter_run.specs.OneCapture.{AreNumbered, HasGivenSome, IsWhy, records_of, start_of}
 use Rattle.filter_run.specs.Ran.{HasCutRun, HasStopped, IsRunFault, Ran, Words}
+use Rattle.filter_run.specs.Starts.{Start, behind_header}
 use Rattle.filter_run.specs.declared.both.Both.{Both}
 use Rattle.filter_run.specs.declared.one_capture.OneCapture.{OneCapture}
 use Rattle.filter_run.specs.declared.one_filter.OneFilter.{OneFilter}
-use Rattle.filter_run.proofs.OneLemmas.{count_one, each_front, one_earlier, one_stopped, one_words, packets_one}
+use Rattle.filter_run.proofs.OneLemmas.{StopsBehind, count_one, each_front, one_earlier, one_read, one_stopped, one_words, packets_one}
 use Rattle.compared_verdicts.specs.Changes.{ChangeFacts, PairFacts, changes_from, pair_facts}
 use Rattle.compared_verdicts.specs.ChangeReports.{end_of_report, totals_of}
 use Rattle.compared_verdicts.specs.Comparing.{HasToldAll, HasToldPart, HasToldSome, HaveCompared, IsComparingFault, changes_in}
@@ -79,7 +82,7 @@ module _ {J K R W : Type 0} (Became : J → List PacketFacts → List Verdict �
 
     module _ (judged : List (JudgedBatch (Verdict × Verdict))) (each : AreEach judged) (numbered : AreNumbered 0 source.engine.order (batches_of judged))
         (at : Both (OneFilter J) (OneFilter K)) (said : HaveSaid Became Judged Also AlsoJudged judges (packets_of judged) (said_of judged) at) (rest : List ℕ)
-        (given : HasGivenSome source.engine.order (bytes source.reader.now) (bytes then.reader.now) (batches_of judged) rest) where
+        (given : HasGivenSome (behind_header source.engine.order) (bytes source.reader.now) (bytes then.reader.now) (batches_of judged) rest) where
       compared_so : Compared rest
       compared_so =
           let packets = packets_one 0 source.engine.order judged numbered in
@@ -125,54 +128,76 @@ module _ {J K R W : Type 0} (Became : J → List PacketFacts → List Verdict �
 
       -- the source failed
       why_so : Appends (written old.writer.now) (written new.writer.now) (text_of facts judged) → (found : Fault)
-          → IsWhy source.engine.order given.read (batches_of judged) rest found → Fails (written new.writer.now) found
+          → IsWhy (behind_header source.engine.order) given.read (bytes then.reader.now) (batches_of judged) rest found → Fails (written new.writer.now) found
       unfolding compared_so told_so
       why_so text fault.Memory why = (rest, told_so text)
       why_so text fault.Read why = (rest, told_so text, why.0, why.1)
-      why_so text fault.TooLarge why = (rest, told_so text, why)
+      why_so text fault.TooLarge why = (rest, told_so text, omega (arith, why))
       why_so text (fault.LongRecord number) why = (rest, told_so text, why.0, why.1)
       why_so text found why = absurd why
 
     -- ---- Why not all was told
 
-    stopped_so : (found : FaultAt) → HasStopped compared_words source judges old then new found → Fails (written new.writer.now) found.fault
+    stopped_so : start_of source ≡ behind_header source.engine.order → (found : FaultAt) → HasStopped compared_words source judges old then new found → Fails (written new.writer.now) found.fault
     unfolding why_so
-    stopped_so found stopped =
-        let behind = one_stopped bytes failures (HaveSaid Became Judged Also AlsoJudged) (HasToldChanges written writing) (HasCutChanges written writing) source then judges old new found stopped in
+    stopped_so alone found stopped =
+        let behind = subst (λ (start : Start). StopsBehind start (bytes source.reader.now) (bytes then.reader.now) (batches_of stopped.judged) found.fault) alone
+        (one_stopped bytes failures (HaveSaid Became Judged Also AlsoJudged) (HasToldChanges written writing) (HasCutChanges written writing) source then judges old new found stopped) in
         why_so stopped.judged stopped.each behind.numbered stopped.said.0 stopped.said.1 behind.rest behind.some stopped.told.text found.fault behind.why
 
-    run_cut : (found : FaultAt) (which : Fault) (ended : HasCutRun compared_words source judges old then new found)
+    run_cut : start_of source ≡ behind_header source.engine.order → (found : FaultAt) (which : Fault) (ended : HasCutRun compared_words source judges old then new found)
         → HasCutChanges written writing old (ended.earlier ++ ended.last ∷ []) which new → Fails (written new.writer.now) which
     unfolding told_so cut_so
-    run_cut found fault.Memory ended cut =
-        let behind = one_earlier bytes failures (HaveSaid Became Judged Also AlsoJudged) (HasToldChanges written writing) (HasCutChanges written writing) source then judges old new found ended in
+    run_cut alone found fault.Memory ended cut =
+        let behind = subst (λ (start : Start). StopsBehind start (bytes source.reader.now) (bytes then.reader.now) (batches_of ended.earlier) fault.Memory) alone
+        (one_earlier bytes failures (HaveSaid Became Judged Also AlsoJudged) (HasToldChanges written writing) (HasCutChanges written writing) source then judges old new found ended) in
         let text = subst (λ (js : List (JudgedBatch (Verdict × Verdict))). Appends (written old.writer.now) (written new.writer.now) (text_of facts js))
         (sym (same_from_push ended.earlier cut.earlier ended.last cut.last cut.all).0)
         (subst (λ (b : Option (List ℕ)). Appends (written old.writer.now) b (text_of facts cut.earlier)) (sym cut.front) cut.text) in
         (behind.rest, told_so ended.earlier (each_front ended.earlier (ended.last ∷ []) ended.each) behind.numbered ended.before.0 ended.before.1 behind.rest behind.some text)
-    run_cut found fault.Write ended cut =
+    run_cut alone found fault.Write ended cut =
+        let some = subst (λ (start : Start). HasGivenSome start (bytes source.reader.now) (bytes then.reader.now) (batches_of (ended.earlier ++ ended.last ∷ [])) (rest_in then.engine)) alone
+        ended.gave.some in
         let front = front_on (written old.writer.now) cut.before (written new.writer.now) (text_of facts cut.earlier) (text_of facts (cut.last ∷ [])) cut.text cut.front in
-        cut_so (ended.earlier ++ ended.last ∷ []) ended.each ended.gave.numbered ended.said.0 ended.said.1 (rest_in then.engine) ended.gave.some
+        cut_so (ended.earlier ++ ended.last ∷ []) ended.each ended.gave.numbered ended.said.0 ended.said.1 (rest_in then.engine) some
         (subst (GotFront (written old.writer.now) (written new.writer.now)) (sym (text_both facts cut.earlier cut.last) ∙ ap (text_of facts) (sym cut.all)) front)
-    run_cut found which ended cut = absurd cut.front
+    run_cut alone found which ended cut = absurd cut.front
 
-    pub compared_fault : (found : FaultAt) → IsRunFault compared_words source judges old then new found
+    pub compared_fault : start_of source ≡ behind_header source.engine.order → (found : FaultAt) → IsRunFault compared_words source judges old then new found
         → IsComparingFault (pair_facts old.policies) (Judged judges.first.inner) (AlsoJudged judges.second.inner) source.engine.order (bytes source.reader.now) (bytes then.reader.now)
         (written old.writer.now) (written new.writer.now) found.fault
     unfolding stopped_so run_cut
-    compared_fault found (inl stopped) = stopped_so found stopped
-    compared_fault found (inr ended) = run_cut found found.fault ended ended.cut
+    compared_fault alone found (inl stopped) = stopped_so alone found stopped
+    compared_fault alone found (inr ended) = run_cut alone found found.fault ended ended.cut
+
+    -- ---- How often the reader failed
+
+    cut_why : (was is : Option (List ℕ)) (text : List ℕ) (found : Fault) → IsTellingFault was is text found → (found ≡ fault.Write) ⊎ (found ≡ fault.Memory)
+    cut_why was is text fault.Memory front = inr refl
+    cut_why was is text fault.Write front = inl refl
+    cut_why was is text found front = absurd front
+
+    pub compared_read : (found : FaultAt) → IsRunFault compared_words source judges old then new found
+        → failures then.reader.now ≡ with_read (failures source.reader.now) found.fault
+    unfolding cut_why
+    compared_read found wrong =
+        one_read bytes failures (HaveSaid Became Judged Also AlsoJudged) (HasToldChanges written writing) (HasCutChanges written writing) source then judges old new found
+        (λ batches cut. cut_why cut.before (written new.writer.now) (text_of facts (cut.last ∷ [])) found.fault cut.front) wrong
 
     -- ---- All was compared
 
     module _ (at : Both (OneFilter J) (OneFilter K)) (captures : List Captured) (ran : Ran compared_words source judges old then at new captures) (truncated : Bool)
-        (cut : truncated ≡ is_truncated captures) (totals : ChangeTotals) (are : totals ≡ record new.totals { truncated = truncated }) (last : Option (List ℕ)) where
+        (cut : truncated ≡ is_truncated captures) (totals : ChangeTotals) (are : totals ≡ record new.totals { truncated = truncated }) (alone : start_of source ≡ behind_header source.engine.order)
+        (last : Option (List ℕ)) where
+      some_all : HasGivenSome (behind_header source.engine.order) (bytes source.reader.now) (bytes then.reader.now) (batches_of ran.judged) ran.over.rest
+      some_all = subst (λ (start : Start). HasGivenSome start (bytes source.reader.now) (bytes then.reader.now) (batches_of ran.judged) ran.over.rest) alone ran.over.some
+
       compared_all : Compared ran.over.rest
-      compared_all = compared_so ran.judged ran.each ran.over.numbered at ran.became ran.over.rest ran.over.some
+      compared_all = compared_so ran.judged ran.each ran.over.numbered at ran.became ran.over.rest some_all
 
       changes_all : changes_of facts ran.judged ≡ changes_in facts compared_all
       unfolding compared_all
-      changes_all = changes_so ran.judged ran.each ran.over.numbered at ran.became ran.over.rest ran.over.some
+      changes_all = changes_so ran.judged ran.each ran.over.numbered at ran.became ran.over.rest some_all
 
       counted_all : totals ≡ totals_of (changes_in facts compared_all) (length compared_all.packets) ran.over.truncated
       unfolding compared_all compared_so

@@ -2,8 +2,9 @@
 ghost use Rattle.std.specs.Prelude.{◌≡◌, ◌-◌, ◌<◌, ◌^◌, [], MatchResult};
 ghost use Rattle.racl_io.specs.Tellings.{with_write};
 ghost use Rattle.capture_stream.specs.Lives.{AreCounted, with_read};
-ghost use Rattle.filter_run.specs.OneCapture.{HasGiven};
+ghost use Rattle.filter_run.specs.OneCapture.{HasGiven, start_of};
 ghost use Rattle.filter_run.specs.Ran.{IsBegun};
+ghost use Rattle.filter_run.specs.Starts.{behind_header};
 ghost use Rattle.compared_verdicts.specs.Changes.{pair_facts};
 ghost use Rattle.compared_verdicts.specs.Comparing.{HasToldAll, IsComparingFault};
 ghost use Rattle.compared_verdicts.specs.inner.ChangesTold.{HasToldChanges};
@@ -13,7 +14,7 @@ use crate::change_lines::PolicyPair;
 use crate::change_totals::{ChangeTotals, no_changes, write_end_of_report};
 use crate::changes_told::ChangeLines;
 use capture_stream::Judge;
-use filter_run::{Both, OneCapture, OneFilter, is_any_cut, run};
+use filter_run::{Both, CaptureStart, OneCapture, OneFilter, is_any_cut, run};
 use packet_view::Order;
 use racl_io::{Fault, Piece, Sink, Source};
 use std::alloc::Global;
@@ -25,7 +26,8 @@ fn tell_all<J: Judge, K: Judge, R: Source, W: Sink>(
     judges: &mut Both<OneFilter<J>, OneFilter<K>>,
     lines: &mut ChangeLines<'_, '_, W>,
 ) -> Result<ChangeTotals, Fault>
-    requires { IsBegun (HasGiven R.bytes R.failures) (HaveSaid J.became J.judged K.became K.judged) (HasToldChanges W.bytes W.failures) source.old judges.old lines.old }
+    requires begun { IsBegun (HasGiven R.bytes R.failures) (HaveSaid J.became J.judged K.became K.judged) (HasToldChanges W.bytes W.failures) source.old judges.old lines.old }
+    requires alone { start_of source.old ≡ behind_header source.old.engine.order }
     ensures same_reader { source.new.reader.ghost_name ≡ source.old.reader.ghost_name }
     ensures same_writer { lines.new.writer.ghost_name ≡ lines.old.writer.ghost_name }
     ensures told { let facts = pair_facts lines.old.policies in let before = R.bytes source.old.reader.now in let after = R.bytes source.new.reader.now in
@@ -73,7 +75,8 @@ pub fn report_changes<J: Judge + Drop, K: Judge + Drop, R: Source, W: Sink>(
         return Err(Fault::Memory);
     };
     let (before, after) = judges;
-    let mut source = OneCapture::new(alloc, reader, order, None);
+    let start = CaptureStart::behind_header(alloc, order);
+    let mut source = OneCapture::new(alloc, reader, start, None);
     let mut both = Both {
         first: OneFilter { inner: before },
         second: OneFilter { inner: after },

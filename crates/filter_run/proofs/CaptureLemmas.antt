@@ -1,29 +1,36 @@
 -- One capture behind its header: what is known after each read.
-use Rattle.std.proofs.Common.{◌≡◌, ◌≢◌, ◌∙◌, ◌≤◌, ◌<◌, ◌+◌, ◌-◌, ◌^◌, ℕ, Bool, List, [], ◌∷◌, ◌++◌, None, Option, ap, append-nil, append_assoc, arith, inl, inr, length, refl, subst, sym}
+use Rattle.std.proofs.Common.{◌≡◌, ◌≢◌, ◌∙◌, ◌≤◌, ◌<◌, ◌+◌, ◌-◌, ◌^◌, ℕ, Bool, false, true, true≢false, ltb, List, [], ◌∷◌, ◌++◌, IfSome, None, Option, Some, ap, append-nil, append_assoc, arith, inl, inr, length, refl, subst, sym}
+use Rattle.std.proofs.lemmas.Bool.{ltb-false, ltb-true}
 use Rattle.std.proofs.lemmas.List.{length-append}
 use Rattle.std.proofs.KnownBytes.{Consumes-kept, Consumes-nil, Consumes-trans}
-use Rattle.std.specs.Io.KnownBytes.{Consumes, IsAtEnd}
-use Rattle.packet_view.specs.Captures.{AreRecords, RecordFacts}
+use Rattle.std.specs.Io.KnownBytes.{Consumes}
+use Rattle.packet_view.specs.Captures.{AreRecords, IsEnd, IsTooLong, RecordFacts, end_of, kept_length, kept_limit}
 use Rattle.packet_view.specs.Fronts.{Stops}
 use Rattle.packet_view.specs.declared.capture.Order.{Order}
 use Rattle.packet_view.specs.declared.records_at_front.Stop.{Stop}
-use Rattle.packet_view.specs.declared.records_at_front.Stop.TheVariants.{End}
+use Rattle.packet_view.specs.declared.records_at_front.Stop.TheVariants.{End, TooLong}
 use Rattle.packet_view.proofs.FrontLemmas.{records_appended, records_joined}
+use Rattle.packet_view.proofs.RecordLemmas.{number_from-append}
 use Rattle.packet_view.proofs.RecordListLemmas.{packets_count, records_within}
 use Rattle.racl_io.specs.Buffers.{held_by}
+use Rattle.racl_io.specs.Inputs.{most_bytes}
 use Rattle.racl_io.specs.Tellings.{told_alone}
+use Rattle.racl_io.specs.Transfers.{GaveAtMost}
 use Rattle.racl_io.specs.declared.fault.Fault.{Fault}
 use Rattle.racl_io.specs.declared.fault.Fault.TheVariants as fault
 use Rattle.racl_io.specs.declared.totals_and_truncation.Captured.{Captured}
+use Rattle.racl_io.proofs.TransferLemmas.{gave_more}
 use Rattle.capture_stream.specs.Feeding.{rest_in}
-use Rattle.capture_stream.specs.Lives.{most_live, with_read}
+use Rattle.capture_stream.specs.Lives.{with_read}
 use Rattle.capture_stream.specs.inner.Feedings.{HasGot, IsBegun, IsCutAt, IsUnread}
 use Rattle.capture_stream.specs.declared.engine.Engine.{Engine}
 use Rattle.filter_run.specs.Batches.{BatchFacts, IsWhole, batch_facts}
-use Rattle.filter_run.specs.OneCapture.{AreNumbered, HasFailedBehind, HasGiven, HasGivenAll, HasGivenSome, HasParted, IsWhy, bytes_of, records_of}
+use Rattle.filter_run.specs.OneCapture.{AreNumbered, GaveWithin, HasFailedBehind, HasGiven, HasGivenAll, HasGivenSome, HasParted, IsWhy, bytes_of, records_of, start_of}
+use Rattle.filter_run.specs.Starts.{IsInputOut, IsUnreadRest, most_at}
 use Rattle.filter_run.specs.declared.batch.Batch.{Batch}
 use Rattle.filter_run.specs.declared.nobody.Nobody.{Nobody}
 use Rattle.filter_run.specs.declared.one_capture.OneCapture.{OneCapture}
+use Rattle.filter_run.specs.inner.Reads.{HasReadOut, IsOutFault}
 use Rattle.filter_run.proofs.RunLemmas.{flat_push}
 
 -- the next batch follows
@@ -38,209 +45,359 @@ numbered_push n order (first ∷ batches) batch (behind, same_first, at_first, a
 abbrev pub behind_read : {R : Type 0} → OneCapture R → R → Engine Nobody → OneCapture R
 behind_read old reader engine = record old { reader = record old.reader { now = reader }; engine = engine }
 
--- nothing was read
-pub given_none : {R : Type 0} (bytes : R → Option (List ℕ)) (failures : R → ℕ) (capture : OneCapture R) (nobody : Nobody) (order : Order)
-    → IsBegun nobody order 0 capture.engine → capture.read ≡ 0 → capture.stop ≡ End → failures capture.reader.now < 2 ^ 64 - 1 → HasGiven bytes failures capture [] capture
-given_none bytes failures capture nobody order is size stop few = record {
-  same = refl;
-  some = record { read = []; consumed = Consumes-nil (bytes capture.reader.now); records = sym is.waits; spelt = sym is.waits };
-  numbered = tt;
-  packets = is.packets;
-  order = refl;
-  interface = is.interface_is;
-  size = size;
-  parts = omega arith;
-  bound = omega arith;
-  found = is.found;
-  stops = subst (λ (s : Stop). Stops capture.engine.order (rest_in capture.engine) s) (sym stop) is.waits;
-  few = few;
-  sound = refl;
-}
+-- ---- How much may come
+
+pub most_few : (input : Option ℕ) → most_at input ≤ 4611686018427387903
+most_few None = omega arith
+most_few (Some before) = omega arith
+
+pub within_most : (input : Option ℕ) (read : ℕ) → IfSome input (λ before. before ≤ most_bytes) → read ≤ most_at input → IfSome input (λ before. before + read ≤ most_bytes)
+within_most None read within few = tt
+within_most (Some before) read within few = omega (arith, within, few)
+
+-- the rest where a read failed
+unread_rest : (input : Option ℕ) (order : Order) (rest : List ℕ) (truncated : Bool) → IsEnd order rest (end_of truncated) → IsUnreadRest input order rest
+unread_rest None order rest truncated end = (truncated, end)
+unread_rest (Some before) order rest truncated end = inl (truncated, end)
+
+unread_long : (input : Option ℕ) (order : Order) (rest : List ℕ) (n : ℕ) → input ≡ Some n → IsTooLong order rest → IsUnreadRest input order rest
+unread_long None order rest n part long = cc
+unread_long (Some before) order rest n part long = inr long
+
+-- a record that is too long is so with more bytes behind it
+long_appended : (order : Order) (bytes more : List ℕ) → IsTooLong order bytes → IsTooLong order (bytes ++ more)
+long_appended order bytes more long =
+    let size = length-append bytes more in
+    let same : kept_length order (bytes ++ more) ≡ kept_length order bytes = number_from-append order 8 4 bytes more (omega (arith, long.0)) in
+    (omega (arith, long.0), subst (λ (n : ℕ). kept_limit < n) (sym same) long.1)
+
+-- ---- Nothing was given
+
+pub given_none : {R : Type 0} (bytes : R → Option (List ℕ)) (failures : R → ℕ) (capture : OneCapture R) (nobody : Nobody) (order : Order) (front : List ℕ)
+    → IsBegun nobody order 0 front capture.engine → capture.read ≡ length front → capture.waits ≡ ltb 0 capture.read → capture.stop ≡ End
+    → length front ≤ most_at capture.input → IfSome capture.input (λ before. before ≤ most_bytes) → failures capture.reader.now < 2 ^ 64 - 1
+    → HasGiven bytes failures capture [] capture
+given_none bytes failures capture nobody order front is size waits stop fits within few =
+    let all = ap length is.waits in
+    let same = append-nil (rest_in capture.engine) in
+    record {
+      same = refl;
+      some = record { read = []; consumed = Consumes-nil (bytes capture.reader.now); records = same; spelt = same };
+      numbered = tt;
+      packets = is.packets;
+      order = refl;
+      interface = is.interface_is;
+      input = refl;
+      within = within;
+      size = let long = ap length same in omega arith;
+      parts = omega arith;
+      more = λ wait. ltb-true 0 capture.read (sym waits ∙ wait);
+      bound = omega arith;
+      found = is.found;
+      stops = λ none. subst (λ (s : Stop). Stops capture.engine.order (rest_in capture.engine) s) (sym stop)
+          (empty (rest_in capture.engine) (let none_read = ltb-false 0 capture.read (sym waits ∙ none) in omega arith));
+      few = few;
+      sound = refl;
+    }
+  where
+    empty : (xs : List ℕ) → length xs ≡ 0 → xs ≡ []
+    empty [] size = refl
+    empty (x ∷ xs) size = absurd (omega arith)
 
 module _ {R : Type 0} (bytes : R → Option (List ℕ)) (failures : R → ℕ) (begun : OneCapture R) (batches : List BatchFacts) (old : OneCapture R)
     (is : HasGiven bytes failures begun batches old) where
   -- no more packets were given than bytes were read
   given_few : old.engine.packets + length (rest_in old.engine) ≤ old.read
   given_few =
-      let within = records_within begun.engine.order is.some.read (records_of batches) (rest_in old.engine) is.some.records in
+      let within = records_within begun.engine.order (rest_in begun.engine ++ is.some.read) (records_of batches) (rest_in old.engine) is.some.records in
       let e = is.packets in let f = is.size in omega arith
 
-  pub given_bound : old.read < most_live → old.engine.packets + length (rest_in old.engine) < most_live
+  pub given_bound : old.engine.packets + length (rest_in old.engine) ≤ 4611686018427387904
   unfolding given_few
-  given_bound below = let few = given_few in omega arith
+  given_bound = let few = given_few in let bound = is.bound in let most = most_few begun.input in omega arith
 
   pub given_packets : old.engine.packets < 2 ^ 63
-  unfolding given_few
-  given_packets = let few = given_few in let bound = is.bound in omega arith
+  unfolding given_bound
+  given_packets = let few = given_bound in omega arith
 
-  -- so much was read that no more is
-  pub given_large : most_live ≤ old.read → HasFailedBehind bytes failures begun batches (record { fault = fault.TooLarge; interface = None }) old
+  pub given_within : IfSome old.input (λ before. before ≤ most_bytes)
+  given_within = subst (λ (input : Option ℕ). IfSome input (λ before. before ≤ most_bytes)) (sym is.input) is.within
+
+  -- ---- How far the reader was read
+
+  far_on : (after : Option (List ℕ)) (more : ℕ) → old.read + more ≤ most_at begun.input + 1 → GaveAtMost (bytes old.reader.now) after more
+      → GaveAtMost (bytes begun.reader.now) after (most_at begun.input + 1 - length (rest_in begun.engine))
+  far_on after more fits (given, consumed, few) =
+      let size = is.size in
+      let both = length-append (rest_in begun.engine) is.some.read in
+      gave_more (bytes begun.reader.now) (bytes old.reader.now) after is.some.read given (most_at begun.input + 1 - length (rest_in begun.engine)) (omega (arith, few, fits))
+      is.some.consumed consumed
+
+  pub given_far : GaveWithin bytes begun old
+  given_far =
+      let size = is.size in let both = length-append (rest_in begun.engine) is.some.read in let bound = is.bound in
+      (is.some.read, is.some.consumed, omega arith)
+
+  -- ---- Bytes behind those that were read
+
+  abbrev then_some : (after : Option (List ℕ)) (gone rest : List ℕ) → Consumes (bytes old.reader.now) after gone → rest ≡ rest_in old.engine ++ gone
+      → HasGivenSome (start_of begun) (bytes begun.reader.now) after batches rest
+  then_some after gone rest consumed same =
+      let front = rest_in begun.engine in
+      let parts : (front ++ is.some.read) ++ gone ≡ front ++ (is.some.read ++ gone) = append_assoc front is.some.read gone in
+      record {
+        read = is.some.read ++ gone;
+        consumed = Consumes-trans (bytes begun.reader.now) (bytes old.reader.now) after is.some.read gone is.some.consumed consumed;
+        records = subst (AreRecords begun.engine.order (front ++ (is.some.read ++ gone)) (records_of batches)) (sym same)
+            (subst (λ (b : List ℕ). AreRecords begun.engine.order b (records_of batches) (rest_in old.engine ++ gone)) parts
+            (records_appended begun.engine.order (front ++ is.some.read) gone (records_of batches) (rest_in old.engine) is.some.records));
+        spelt = sym parts ∙ ap (λ (b : List ℕ). b ++ gone) is.some.spelt ∙ append_assoc (bytes_of batches) (rest_in old.engine) gone
+            ∙ ap (λ (b : List ℕ). bytes_of batches ++ b) (sym same);
+      }
+
+  then_size : (gone : List ℕ) → length (rest_in begun.engine ++ (is.some.read ++ gone)) ≡ old.read + length gone
+  then_size gone =
+      let size = is.size in
+      let one = length-append (rest_in begun.engine) is.some.read in
+      let two = length-append is.some.read gone in
+      let three = length-append (rest_in begun.engine) (is.some.read ++ gone) in
+      omega arith
+
+  -- ---- Why no more is read
+
+  -- too much was read
+  pub given_large : most_at old.input < old.read → HasFailedBehind bytes failures begun batches (record { fault = fault.TooLarge; interface = None }) old
+  unfolding given_far
   given_large many = record {
     same = is.same;
     rest = rest_in old.engine;
     some = is.some;
     numbered = is.numbered;
+    far = given_far;
     place = refl;
-    why = let size = is.size in omega arith;
+    why = let size = is.size in let input = ap most_at is.input in omega arith;
     failed = is.sound;
   }
 
+  -- the record behind the whole ones is too long
+  module _ (new : OneCapture R) (name : new.reader.ghost_name ≡ old.reader.ghost_name) (parted : old.waits ≡ false) (long : old.stop ≡ TooLong)
+      (few : old.read ≤ most_at old.input) (far : GaveAtMost (bytes old.reader.now) (bytes new.reader.now) (most_at old.input + 1 - old.read)) where
+    rest_long : IsTooLong begun.engine.order (rest_in old.engine)
+    rest_long = subst (λ (o : Order). IsTooLong o (rest_in old.engine)) is.order (subst (Stops old.engine.order (rest_in old.engine)) long (is.stops parted))
+
+    far_out : GaveWithin bytes begun new
+    unfolding far_on
+    far_out = let input = ap most_at is.input in far_on (bytes new.reader.now) (most_at old.input + 1 - old.read) (omega arith) far
+
+    -- and its input was read to its end
+    pub given_long : HasReadOut old.input old.read (bytes old.reader.now) (bytes new.reader.now) → failures new.reader.now ≡ failures old.reader.now
+        → HasFailedBehind bytes failures begun batches (record { fault = fault.LongRecord (old.engine.packets + 1); interface = None }) new
+    unfolding rest_long far_out then_size
+    given_long out sound = record {
+      same = name ∙ is.same;
+      rest = rest_in old.engine ++ out.gone;
+      some = then_some (bytes new.reader.now) out.gone (rest_in old.engine ++ out.gone) out.consumed refl;
+      numbered = is.numbered;
+      far = far_out;
+      place = refl;
+      why = (
+        long_appended begun.engine.order (rest_in old.engine) out.gone rest_long,
+        ap (λ n. n + 1) is.packets,
+        subst (λ (input : Option ℕ). IsInputOut input (length (rest_in begun.engine ++ (is.some.read ++ out.gone))) (bytes new.reader.now)) is.input
+            (subst (λ n. IsInputOut old.input n (bytes new.reader.now)) (sym (then_size out.gone)) out.out),
+      );
+      failed = sound ∙ is.sound;
+    }
+
+    -- or it couldn't be
+    pub given_not_out : (found : Fault) → IsOutFault old.input old.read (bytes old.reader.now) (bytes new.reader.now) found
+        → failures new.reader.now ≡ with_read (failures old.reader.now) found → HasFailedBehind bytes failures begun batches (record { fault = found; interface = None }) new
+    unfolding rest_long far_out then_size
+    given_not_out found out failed =
+        let read = is.some.read ++ out.gone in
+        let rest = rest_in old.engine ++ out.gone in
+        record {
+          same = name ∙ is.same;
+          rest = rest;
+          some = then_some (bytes new.reader.now) out.gone rest out.consumed refl;
+          numbered = is.numbered;
+          far = far_out;
+          place = refl;
+          why = elim out.why [
+            | inl unread ↦ subst (IsWhy (start_of begun) read (bytes new.reader.now) batches rest) (sym unread)
+                (unread_long begun.input begun.engine.order rest out.part.0 (sym is.input ∙ out.part.1)
+                (long_appended begun.engine.order (rest_in old.engine) out.gone rest_long))
+            | inr (large, many) ↦ subst (IsWhy (start_of begun) read (bytes new.reader.now) batches rest) (sym large)
+                (let size = then_size out.gone in let input = ap most_at is.input in omega arith)
+          ];
+          failed = failed ∙ ap (λ n. with_read n found) is.sound;
+        }
+
   -- a read failed
-  pub given_unread : (new : OneCapture R) (truncated : Bool) (found : Fault) → new.reader.ghost_name ≡ old.reader.ghost_name → IsCutAt old.stop truncated
+  pub given_unread : (new : OneCapture R) (truncated : Bool) (found : Fault) → new.reader.ghost_name ≡ old.reader.ghost_name → old.waits ≡ false → IsCutAt old.stop truncated
       → IsUnread (bytes old.reader.now) (bytes new.reader.now) found
       → failures new.reader.now ≡ with_read (failures old.reader.now) found → HasFailedBehind bytes failures begun batches (record { fault = found; interface = None }) new
-  given_unread new truncated found name ends (kept, which) failed =
-      let some : HasGivenSome begun.engine.order (bytes begun.reader.now) (bytes new.reader.now) batches (rest_in old.engine) = record {
-        read = is.some.read;
-        consumed = Consumes-kept (bytes begun.reader.now) (bytes old.reader.now) (bytes new.reader.now) is.some.read is.some.consumed kept;
-        records = is.some.records;
-        spelt = is.some.spelt;
-      } in
+  given_unread new truncated found name parted ends (kept, which) failed =
+      let consumed = Consumes-kept (bytes begun.reader.now) (bytes old.reader.now) (bytes new.reader.now) is.some.read is.some.consumed kept in
+      let size = is.size in
+      let both = length-append (rest_in begun.engine) is.some.read in
+      let bound = is.bound in
       record {
         same = name ∙ is.same;
         rest = rest_in old.engine;
-        some = some;
+        some = record { read = is.some.read; consumed = consumed; records = is.some.records; spelt = is.some.spelt };
         numbered = is.numbered;
+        far = (is.some.read, consumed, omega arith);
         place = refl;
         why = elim which [
-          | inl memory ↦ subst (IsWhy begun.engine.order is.some.read batches (rest_in old.engine)) (sym memory) tt
-          | inr read ↦ subst (IsWhy begun.engine.order is.some.read batches (rest_in old.engine)) (sym read)
-              (truncated, ends begun.engine.order (rest_in old.engine) (subst (λ (o : Order). Stops o (rest_in old.engine) old.stop) is.order is.stops))
+          | inl memory ↦ subst (IsWhy (start_of begun) is.some.read (bytes new.reader.now) batches (rest_in old.engine)) (sym memory) tt
+          | inr read ↦ subst (IsWhy (start_of begun) is.some.read (bytes new.reader.now) batches (rest_in old.engine)) (sym read)
+              (unread_rest begun.input begun.engine.order (rest_in old.engine) truncated
+              (ends begun.engine.order (rest_in old.engine) (subst (λ (o : Order). Stops o (rest_in old.engine) old.stop) is.order (is.stops parted))))
         ];
         failed = failed ∙ ap (λ n. with_read n found) is.sound;
       }
 
-  -- some bytes were read
-  module _ (new : OneCapture R) (n : ℕ) (name : new.reader.ghost_name ≡ old.reader.ghost_name)
-      (got : HasGot (bytes old.reader.now) (bytes new.reader.now) old.engine new.engine 8388608 n)
-      (sound : failures new.reader.now ≡ failures old.reader.now) where
-    then_read : List ℕ
-    then_read = is.some.read ++ got.read
+  -- ---- Some bytes were read
 
-    then_consumed : Consumes (bytes begun.reader.now) (bytes new.reader.now) then_read
-    unfolding then_read
-    then_consumed = Consumes-trans (bytes begun.reader.now) (bytes old.reader.now) (bytes new.reader.now) is.some.read got.read is.some.consumed got.consumed
-
-    then_records : AreRecords begun.engine.order then_read (records_of batches) (rest_in new.engine)
-    unfolding then_read
-    then_records = subst (AreRecords begun.engine.order (is.some.read ++ got.read) (records_of batches)) (sym got.longer.waits)
-        (records_appended begun.engine.order is.some.read got.read (records_of batches) (rest_in old.engine) is.some.records)
-
-    then_spelt : then_read ≡ bytes_of batches ++ rest_in new.engine
-    unfolding then_read
-    then_spelt = ap (λ (b : List ℕ). b ++ got.read) is.some.spelt ∙ append_assoc (bytes_of batches) (rest_in old.engine) got.read
-        ∙ ap (λ (b : List ℕ). bytes_of batches ++ b) (sym got.longer.waits)
+  module _ (new : OneCapture R) (n most : ℕ) (name : new.reader.ghost_name ≡ old.reader.ghost_name)
+      (got : HasGot (bytes old.reader.now) (bytes new.reader.now) old.engine new.engine most n)
+      (sound : failures new.reader.now ≡ failures old.reader.now) (fits : old.read + most ≤ most_at old.input + 1) where
+    -- they wait
+    pub given_on : n ≢ 0 → new.read ≡ old.read + n → new.input ≡ old.input → new.waits ≡ true → HasGiven bytes failures begun batches new
+    unfolding then_size
+    given_on some_read read input waits = record {
+      same = name ∙ is.same;
+      some = then_some (bytes new.reader.now) got.read (rest_in new.engine) got.consumed got.longer.waits;
+      numbered = is.numbered;
+      packets = got.longer.packets ∙ is.packets;
+      order = got.longer.order ∙ is.order;
+      interface = got.longer.interface ∙ is.interface;
+      input = input ∙ is.input;
+      within = is.within;
+      size = let size = then_size got.read in let count = got.size in omega arith;
+      parts = let before = is.parts in omega arith;
+      more = λ wait. let before = is.parts in omega arith;
+      bound = let few = got.few in let same = ap most_at is.input in omega arith;
+      found = got.longer.found;
+      stops = λ parted. absurd (true≢false (sym waits ∙ parted));
+      few = is.few;
+      sound = sound ∙ is.sound;
+    }
 
     -- memory ran out then
-    pub given_unparted : (last : OneCapture R) → last.reader ≡ new.reader → HasFailedBehind bytes failures begun batches (record { fault = fault.Memory; interface = None }) last
-    unfolding then_read then_consumed then_records then_spelt
-    given_unparted last same = record {
-      same = ap (λ r. r.ghost_name) same ∙ name ∙ is.same;
+    pub given_unheld : HasFailedBehind bytes failures begun batches (record { fault = fault.Memory; interface = None }) new
+    unfolding far_on
+    given_unheld = record {
+      same = name ∙ is.same;
       rest = rest_in new.engine;
-      some = record {
-        read = then_read;
-        consumed = subst (λ r. Consumes (bytes begun.reader.now) (bytes r.now) then_read) (sym same) then_consumed;
-        records = then_records;
-        spelt = then_spelt;
-      };
+      some = then_some (bytes new.reader.now) got.read (rest_in new.engine) got.consumed got.longer.waits;
       numbered = is.numbered;
+      far = far_on (bytes new.reader.now) most (let same = ap most_at is.input in omega arith) (got.read, got.consumed, let count = got.size in let few = got.few in omega arith);
       place = refl;
       why = tt;
-      failed = ap (λ r. failures r.now) same ∙ sound ∙ is.sound;
+      failed = sound ∙ is.sound;
     }
 
     -- none was there
-    pub given_all : (last : OneCapture R) (truncated : Bool) (captures : List Captured) → n ≡ 0 → last.reader ≡ new.reader → IsCutAt old.stop truncated
-        → captures ≡ told_alone old.engine.packets truncated
-        → HasGivenAll bytes failures begun batches captures last
-    unfolding then_read then_consumed then_records then_spelt
-    given_all last truncated captures none same ends told = record {
-      same = ap (λ r. r.ghost_name) same ∙ name ∙ is.same;
+    pub given_all : (truncated : Bool) (captures : List Captured) → n ≡ 0 → old.waits ≡ false → old.read ≤ most_at old.input → IsCutAt old.stop truncated
+        → captures ≡ told_alone old.engine.packets truncated → HasGivenAll bytes failures begun batches captures new
+    given_all truncated captures none parted few ends told = record {
+      same = name ∙ is.same;
       rest = rest_in old.engine;
       some = record {
         read = is.some.read;
-        consumed = subst (λ (b : List ℕ). Consumes (bytes begun.reader.now) (bytes last.reader.now) b)
+        consumed = subst (Consumes (bytes begun.reader.now) (bytes new.reader.now))
             (ap (λ (b : List ℕ). is.some.read ++ b) (empty got.read (sym got.size ∙ none)) ∙ append-nil is.some.read)
-            (subst (λ r. Consumes (bytes begun.reader.now) (bytes r.now) then_read) (sym same) then_consumed);
+            (Consumes-trans (bytes begun.reader.now) (bytes old.reader.now) (bytes new.reader.now) is.some.read got.read is.some.consumed got.consumed);
         records = is.some.records;
         spelt = is.some.spelt;
       };
       numbered = is.numbered;
-      ended = subst (λ r. IsAtEnd (bytes r.now)) (sym same) (got.ended none);
+      ended = got.ended none;
+      few = let size = is.size in let same = ap most_at is.input in omega arith;
       truncated = truncated;
-      end = ends begun.engine.order (rest_in old.engine) (subst (λ (o : Order). Stops o (rest_in old.engine) old.stop) is.order is.stops);
+      end = ends begun.engine.order (rest_in old.engine) (subst (λ (o : Order). Stops o (rest_in old.engine) old.stop) is.order (is.stops parted));
       told = told ∙ ap (λ packets. told_alone packets truncated) is.packets;
-      sound = ap (λ r. failures r.now) same ∙ sound ∙ is.sound;
+      sound = sound ∙ is.sound;
     }
       where
         empty : (xs : List ℕ) → length xs ≡ 0 → xs ≡ []
         empty [] size = refl
         empty (x ∷ xs) size = absurd (omega arith)
 
-    -- the records that they made whole were given
-    module _ (last : OneCapture R) (batch : Batch) (parted : HasParted new last batch) (below : old.read < most_live) where
-      parted_records : AreRecords begun.engine.order then_read (records_of (batches ++ batch_facts batch ∷ [])) (rest_in last.engine)
-      unfolding then_read then_records
-      parted_records =
-          subst (λ (rs : List RecordFacts). AreRecords begun.engine.order then_read rs (rest_in last.engine))
-          (sym (flat_push (λ (b : BatchFacts). b.records) batches (batch_facts batch)))
-          (records_joined begun.engine.order then_read (records_of batches) (batch_facts batch).records (rest_in new.engine) (rest_in last.engine) then_records
-          (subst (λ (o : Order). AreRecords o (rest_in new.engine) (batch_facts batch).records (rest_in last.engine)) (got.longer.order ∙ is.order) parted.records))
+  -- ---- What waits is parted
 
-      parted_spelt : then_read ≡ bytes_of (batches ++ batch_facts batch ∷ []) ++ rest_in last.engine
-      unfolding then_read then_spelt
-      parted_spelt =
-          then_spelt ∙ ap (λ (b : List ℕ). bytes_of batches ++ b) parted.spelt ∙ sym (append_assoc (bytes_of batches) (batch_facts batch).bytes (rest_in last.engine))
-          ∙ ap (λ (b : List ℕ). b ++ rest_in last.engine) (sym (flat_push (λ (b : BatchFacts). b.bytes) batches (batch_facts batch)))
+  -- memory ran out then
+  pub given_unparted : (last : OneCapture R) → last.reader ≡ old.reader → HasFailedBehind bytes failures begun batches (record { fault = fault.Memory; interface = None }) last
+  unfolding given_far
+  given_unparted last same = record {
+    same = ap (λ r. r.ghost_name) same ∙ is.same;
+    rest = rest_in old.engine;
+    some = subst (λ r. HasGivenSome (start_of begun) (bytes begun.reader.now) (bytes r.now) batches (rest_in old.engine)) (sym same) is.some;
+    numbered = is.numbered;
+    far = subst (λ r. GaveAtMost (bytes begun.reader.now) (bytes r.now) (most_at begun.input + 1 - length (rest_in begun.engine))) (sym same) given_far;
+    place = refl;
+    why = tt;
+    failed = ap (λ r. failures r.now) same ∙ is.sound;
+  }
 
-      -- and no more than bytes were read
-      parted_few : batch.others + batch.found.count ≤ old.read + n
-      unfolding given_few
-      parted_few =
-          let few = given_few in
-          let within = records_within new.engine.order (rest_in new.engine) (batch_facts batch).records (rest_in last.engine) parted.records in
-          let count = packets_count batch.order batch.found.count (held_by batch.bytes) in
-          let longer = ap length got.longer.waits in
-          let both = length-append (rest_in old.engine) got.read in
-          let size = got.size in let packets = got.longer.packets in let others = parted.others in
-          omega arith
+  -- the whole records were given
+  module _ (last : OneCapture R) (batch : Batch) (parted : HasParted old last batch) where
+    parted_records : AreRecords begun.engine.order (rest_in begun.engine ++ is.some.read) (records_of (batches ++ batch_facts batch ∷ [])) (rest_in last.engine)
+    parted_records =
+        subst (λ (rs : List RecordFacts). AreRecords begun.engine.order (rest_in begun.engine ++ is.some.read) rs (rest_in last.engine))
+        (sym (flat_push (λ (b : BatchFacts). b.records) batches (batch_facts batch)))
+        (records_joined begun.engine.order (rest_in begun.engine ++ is.some.read) (records_of batches) (batch_facts batch).records (rest_in old.engine) (rest_in last.engine)
+        is.some.records (subst (λ (o : Order). AreRecords o (rest_in old.engine) (batch_facts batch).records (rest_in last.engine)) is.order parted.records))
 
-      pub parted_whole : IsWhole batch
-      unfolding parted_few
-      parted_whole = record {
-        found = parted.whole;
-        before = let few = parted_few in let most = got.few in omega arith;
-        few = let few = parted_few in let most = got.few in omega arith;
-      }
+    parted_spelt : rest_in begun.engine ++ is.some.read ≡ bytes_of (batches ++ batch_facts batch ∷ []) ++ rest_in last.engine
+    parted_spelt =
+        is.some.spelt ∙ ap (λ (b : List ℕ). bytes_of batches ++ b) parted.spelt ∙ sym (append_assoc (bytes_of batches) (batch_facts batch).bytes (rest_in last.engine))
+        ∙ ap (λ (b : List ℕ). b ++ rest_in last.engine) (sym (flat_push (λ (b : BatchFacts). b.bytes) batches (batch_facts batch)))
 
-      pub parted_gave : n ≢ 0 → last.read ≡ old.read + n → HasGiven bytes failures begun (batches ++ batch_facts batch ∷ []) last
-      unfolding then_read then_consumed parted_records parted_spelt
-      parted_gave some_read size = record {
-        same = ap (λ r. r.ghost_name) parted.reader ∙ name ∙ is.same;
-        some = record {
-          read = then_read;
-          consumed = subst (λ r. Consumes (bytes begun.reader.now) (bytes r.now) then_read) (sym parted.reader) then_consumed;
-          records = parted_records;
-          spelt = parted_spelt;
-        };
-        numbered = numbered_push 0 begun.engine.order batches (batch_facts batch) is.numbered
-            (let e = parted.others in let f = got.longer.packets in let g = is.packets in omega arith)
-            (parted.order ∙ got.longer.order ∙ is.order) (parted.interface ∙ got.longer.interface ∙ is.interface);
-        packets =
-            let listed = ap length (flat_push (λ (b : BatchFacts). b.records) batches (batch_facts batch)) in
-            let both = length-append (records_of batches) (batch_facts batch).records in
-            let more = parted.packets in let same = got.longer.packets in let before = is.packets in
-            omega arith;
-        order = parted.same_order ∙ got.longer.order ∙ is.order;
-        interface = parted.same_interface ∙ got.longer.interface ∙ is.interface;
-        size = let both = length-append is.some.read got.read in let before = is.size in let more = got.size in omega arith;
-        parts =
-            let both = length-append is.some.read got.read in
-            let before = is.parts in let more = got.size in let pushed = length-append batches (batch_facts batch ∷ []) in
-            omega arith;
-        bound = let few = got.few in omega arith;
-        found = parted.found;
-        stops = parted.stops;
-        few = is.few;
-        sound = ap (λ r. failures r.now) parted.reader ∙ sound ∙ is.sound;
-      }
+    -- and no more than bytes were read
+    pub parted_whole : IsWhole batch
+    unfolding given_bound
+    parted_whole =
+        let few = given_bound in
+        let within = records_within old.engine.order (rest_in old.engine) (batch_facts batch).records (rest_in last.engine) parted.records in
+        let count = packets_count batch.order batch.found.count (held_by batch.bytes) in
+        let others = parted.others in
+        record { found = parted.whole; before = omega arith; few = omega arith }
+
+    pub parted_gave : old.waits ≡ true → HasGiven bytes failures begun (batches ++ batch_facts batch ∷ []) last
+    unfolding parted_records parted_spelt
+    parted_gave waits =
+        let pushed = length-append batches (batch_facts batch ∷ []) in
+        let more = is.more waits in
+        let read = parted.read in
+        record {
+          same = ap (λ r. r.ghost_name) parted.reader ∙ is.same;
+          some = record {
+            read = is.some.read;
+            consumed = subst (λ r. Consumes (bytes begun.reader.now) (bytes r.now) is.some.read) (sym parted.reader) is.some.consumed;
+            records = parted_records;
+            spelt = parted_spelt;
+          };
+          numbered = numbered_push 0 begun.engine.order batches (batch_facts batch) is.numbered
+              (let others = parted.others in let packets = is.packets in omega arith)
+              (parted.order ∙ is.order) (parted.interface ∙ is.interface);
+          packets =
+              let listed = ap length (flat_push (λ (b : BatchFacts). b.records) batches (batch_facts batch)) in
+              let both = length-append (records_of batches) (batch_facts batch).records in
+              let packets = parted.packets in let before = is.packets in
+              omega arith;
+          order = parted.same_order ∙ is.order;
+          interface = parted.same_interface ∙ is.interface;
+          input = parted.same_input ∙ is.input;
+          within = is.within;
+          size = parted.read ∙ is.size;
+          parts = omega arith;
+          more = λ wait. absurd (true≢false (sym wait ∙ parted.parted));
+          bound = let bound = is.bound in omega arith;
+          found = parted.found;
+          stops = λ none. parted.stops;
+          few = is.few;
+          sound = ap (λ r. failures r.now) parted.reader ∙ is.sound;
+        }

@@ -1,6 +1,6 @@
 -- A run over one capture: what its relation says of the capture's bytes and records, whatever the verdicts are.
-use Rattle.std.proofs.Common.{◌≡◌, ◌≢◌, ◌∙◌, ◌+◌, ◌≤◌, ◌++◌, ◌⊎◌, ℕ, List, [], ◌∷◌, Option, ap, ap₂, append_assoc, arith, inl, inr, length, refl, subst, sym}
-use Rattle.std.proofs.lemmas.List.{length-map, map-append}
+use Rattle.std.proofs.Common.{◌≡◌, ◌≢◌, ◌∙◌, ◌+◌, ◌≤◌, ◌<◌, ◌++◌, ◌⊎◌, ℕ, List, [], ◌∷◌, Option, ap, ap₂, append_assoc, arith, inl, inr, length, refl, subst, sym}
+use Rattle.std.proofs.lemmas.List.{length-append, length-map, map-append}
 use Rattle.std.proofs.lemmas.List.Concat.{flat_map-append}
 use Rattle.packet_view.specs.Captures.{AreRecords, PacketFacts, RecordFacts, packet_at, packets_at}
 use Rattle.packet_view.specs.declared.capture.Order.{Order}
@@ -8,13 +8,16 @@ use Rattle.packet_view.proofs.FrontLemmas.{records_appended, records_joined}
 use Rattle.packet_view.proofs.RecordListLemmas.{records_within}
 use Rattle.racl_io.specs.declared.fault.Fault.{Fault}
 use Rattle.racl_io.specs.declared.fault.Fault.TheVariants as fault
+use Rattle.racl_io.specs.declared.totals_and_truncation.Captured.{Captured}
 use Rattle.capture_stream.specs.Feeding.{rest_in}
-use Rattle.capture_stream.specs.Lives.{most_live, with_read}
+use Rattle.capture_stream.specs.Lives.{with_read}
 use Rattle.capture_stream.specs.declared.arrivals.FaultAt.{FaultAt}
 use Rattle.filter_run.specs.Batches.{AreAllWhole, AreEach, BatchFacts, JudgedBatch, batches_of, packets_of, said_of}
-use Rattle.filter_run.specs.OneCapture.{AreNumbered, HasFailedBehind, HasGiven, HasGivenAll, HasGivenSome, IsWhy, bytes_of, records_of}
+use Rattle.filter_run.specs.OneCapture.{AreNumbered, GaveWithin, HasFailedBehind, HasGiven, HasGivenAll, HasGivenSome, IsWhy, bytes_of, records_of, start_of}
 use Rattle.filter_run.specs.Ran.{HasCutRun, HasStopped, IsRunFault, Words, most, words_of}
+use Rattle.filter_run.specs.Starts.{Start, most_at}
 use Rattle.filter_run.specs.declared.one_capture.OneCapture.{OneCapture}
+use Rattle.filter_run.proofs.CaptureLemmas.{given_far, most_few}
 use Rattle.filter_run.proofs.RunLemmas.{each_total}
 
 -- ---- Packets
@@ -67,16 +70,16 @@ records_parted n order (batch ∷ batches) rest (behind, same, at, are) (here, o
     (records_appended order batch.bytes (bytes_of batches ++ rest) batch.records [] first) (records_parted (n + length batch.records) order batches rest are others))
 
 -- what was read is their records, and what was given behind them
-pub given_front : (order : Order) (before after : Option (List ℕ)) (batches gone : List BatchFacts) (rest : List ℕ) → AreNumbered 0 order batches → AreAllWhole batches
-    → HasGivenSome order before after (batches ++ gone) rest → HasGivenSome order before after batches (bytes_of gone ++ rest)
-given_front order before after batches gone rest are whole given =
-    let spelt : given.read ≡ bytes_of batches ++ (bytes_of gone ++ rest) =
+pub given_front : (start : Start) (before after : Option (List ℕ)) (batches gone : List BatchFacts) (rest : List ℕ) → AreNumbered 0 start.order batches → AreAllWhole batches
+    → HasGivenSome start before after (batches ++ gone) rest → HasGivenSome start before after batches (bytes_of gone ++ rest)
+given_front start before after batches gone rest are whole given =
+    let spelt : start.front ++ given.read ≡ bytes_of batches ++ (bytes_of gone ++ rest) =
     given.spelt ∙ ap (λ (b : List ℕ). b ++ rest) (flat_map-append (λ (batch : BatchFacts). batch.bytes) batches gone) ∙ append_assoc (bytes_of batches) (bytes_of gone) rest in
     record {
       read = given.read;
       consumed = given.consumed;
-      records = subst (λ (b : List ℕ). AreRecords order b (records_of batches) (bytes_of gone ++ rest)) (sym spelt)
-          (records_parted 0 order batches (bytes_of gone ++ rest) are whole);
+      records = subst (λ (b : List ℕ). AreRecords start.order b (records_of batches) (bytes_of gone ++ rest)) (sym spelt)
+          (records_parted 0 start.order batches (bytes_of gone ++ rest) are whole);
       spelt = spelt;
     }
 
@@ -85,11 +88,13 @@ given_front order before after batches gone rest are whole given =
 -- many batches or packets have many bytes
 pub many_read : {V R : Type 0} (bytes : R → Option (List ℕ)) (failures : R → ℕ) (begun then : OneCapture R) (judged : List (JudgedBatch V))
     → (gave : HasGiven bytes failures begun (batches_of judged) then) → AreEach judged → (most ≤ length judged) ⊎ (most ≤ length (said_of judged))
-    → most_live ≤ length gave.some.read
+    → most_at begun.input < length (rest_in begun.engine ++ gave.some.read)
 many_read bytes failures begun then judged gave each many =
     let order = begun.engine.order in
-    let within = records_within order gave.some.read (records_of (batches_of judged)) (rest_in then.engine) gave.some.records in
+    let within = records_within order (rest_in begun.engine ++ gave.some.read) (records_of (batches_of judged)) (rest_in then.engine) gave.some.records in
     let parts = gave.parts in
+    let size = gave.size in
+    let few = most_few begun.input in
     let listed = length-map judged (λ (one : JudgedBatch _). one.batch) in
     let count = count_one 0 order judged gave.numbered each in
     elim many [ inl p ↦ omega arith | inr p ↦ omega arith ]
@@ -97,11 +102,11 @@ many_read bytes failures begun then judged gave each many =
 -- ---- Where a run ended early
 
 -- what was given then, and why no more was
-pub record StopsBehind (order : Order) (before after : Option (List ℕ)) (batches : List BatchFacts) (found : Fault) : Type 0 where
+pub record StopsBehind (start : Start) (before after : Option (List ℕ)) (batches : List BatchFacts) (found : Fault) : Type 0 where
   pub rest : List ℕ
-  pub some : HasGivenSome order before after batches rest
-  pub numbered : AreNumbered 0 order batches
-  pub why : IsWhy order some.read batches rest found
+  pub some : HasGivenSome start before after batches rest
+  pub numbered : AreNumbered 0 start.order batches
+  pub why : IsWhy start some.read after batches rest found
 
 -- a fault that is no read's
 unread_by : (n m : ℕ) (found : Fault) → (found ≡ fault.Write) ⊎ (found ≡ fault.Memory) → m ≡ n → m ≡ with_read n found
@@ -115,7 +120,7 @@ module _ {R J O V : Type 0} (bytes : R → Option (List ℕ)) (failures : R → 
   one_words = words_of (HasGiven bytes failures) (HasGivenAll bytes failures) (HasFailedBehind bytes failures) became told cut
 
   pub one_stopped : (found : FaultAt) (stopped : HasStopped one_words source judge observer then after found)
-      → StopsBehind source.engine.order (bytes source.reader.now) (bytes then.reader.now) (batches_of stopped.judged) found.fault
+      → StopsBehind (start_of source) (bytes source.reader.now) (bytes then.reader.now) (batches_of stopped.judged) found.fault
   one_stopped found stopped =
       let order = source.engine.order in
       let batches = batches_of stopped.judged in
@@ -123,14 +128,14 @@ module _ {R J O V : Type 0} (bytes : R → Option (List ℕ)) (failures : R → 
         | inl failed ↦ record { rest = failed.rest; some = failed.some; numbered = failed.numbered; why = failed.why }
         | inr (inl (memory, gone, place, gave)) ↦
             let numbered = numbered_front 0 order batches (gone ∷ []) gave.numbered in
-            subst (StopsBehind order (bytes source.reader.now) (bytes then.reader.now) batches) (sym memory) (record {
+            subst (StopsBehind (start_of source) (bytes source.reader.now) (bytes then.reader.now) batches) (sym memory) (record {
               rest = bytes_of (gone ∷ []) ++ rest_in then.engine;
-              some = given_front order (bytes source.reader.now) (bytes then.reader.now) batches (gone ∷ []) (rest_in then.engine) numbered stopped.whole gave.some;
+              some = given_front (start_of source) (bytes source.reader.now) (bytes then.reader.now) batches (gone ∷ []) (rest_in then.engine) numbered stopped.whole gave.some;
               numbered = numbered;
               why = tt;
             })
         | inr (inr (large, gave, many)) ↦
-            subst (λ (f : FaultAt). StopsBehind order (bytes source.reader.now) (bytes then.reader.now) batches f.fault) (sym large) (record {
+            subst (λ (f : FaultAt). StopsBehind (start_of source) (bytes source.reader.now) (bytes then.reader.now) batches f.fault) (sym large) (record {
               rest = rest_in then.engine;
               some = gave.some;
               numbered = gave.numbered;
@@ -140,18 +145,18 @@ module _ {R J O V : Type 0} (bytes : R → Option (List ℕ)) (failures : R → 
 
   -- of the batches before the last, within which an observer failed
   pub one_earlier : (found : FaultAt) (ended : HasCutRun one_words source judge observer then after found)
-      → StopsBehind source.engine.order (bytes source.reader.now) (bytes then.reader.now) (batches_of ended.earlier) fault.Memory
+      → StopsBehind (start_of source) (bytes source.reader.now) (bytes then.reader.now) (batches_of ended.earlier) fault.Memory
   one_earlier found ended =
       let order = source.engine.order in
       let batches = batches_of ended.earlier in
       let last = batches_of (ended.last ∷ []) in
       let both = map-append (λ (one : JudgedBatch V). one.batch) ended.earlier (ended.last ∷ []) in
-      let some = subst (λ (bs : List BatchFacts). HasGivenSome order (bytes source.reader.now) (bytes then.reader.now) bs (rest_in then.engine)) both ended.gave.some in
+      let some = subst (λ (bs : List BatchFacts). HasGivenSome (start_of source) (bytes source.reader.now) (bytes then.reader.now) bs (rest_in then.engine)) both ended.gave.some in
       let numbered = numbered_front 0 order batches last (subst (AreNumbered 0 order) both ended.gave.numbered) in
       let whole = whole_front batches last (subst AreAllWhole both ended.whole) in
       record {
         rest = bytes_of last ++ rest_in then.engine;
-        some = given_front order (bytes source.reader.now) (bytes then.reader.now) batches last (rest_in then.engine) numbered whole some;
+        some = given_front (start_of source) (bytes source.reader.now) (bytes then.reader.now) batches last (rest_in then.engine) numbered whole some;
         numbered = numbered;
         why = tt;
       }
@@ -165,6 +170,15 @@ module _ {R J O V : Type 0} (bytes : R → Option (List ℕ)) (failures : R → 
   ]
   one_same found (inr ended) = ended.gave.same
 
+  -- how far the reader was read
+  pub one_far : (found : FaultAt) → IsRunFault one_words source judge observer then after found → GaveWithin bytes source then
+  one_far found (inl stopped) = elim stopped.why [
+    | inl failed ↦ failed.far
+    | inr (inl (memory, gone, place, gave)) ↦ given_far bytes failures source (batches_of stopped.judged ++ gone ∷ []) then gave
+    | inr (inr (large, gave, many)) ↦ given_far bytes failures source (batches_of stopped.judged) then gave
+  ]
+  one_far found (inr ended) = given_far bytes failures source (batches_of (ended.earlier ++ ended.last ∷ [])) then ended.gave
+
   -- how often the reader failed, where an observer fails by a write or for memory
   pub one_read : (found : FaultAt)
       → ((batches : List (JudgedBatch V)) → cut observer batches found.fault after → (found.fault ≡ fault.Write) ⊎ (found.fault ≡ fault.Memory))
@@ -177,3 +191,10 @@ module _ {R J O V : Type 0} (bytes : R → Option (List ℕ)) (failures : R → 
   ]
   one_read found which (inr ended) =
       unread_by (failures source.reader.now) (failures then.reader.now) found.fault (which (ended.earlier ++ ended.last ∷ []) ended.cut) ended.gave.sound
+
+-- how far the reader was read where all was given
+pub all_far : {R : Type 0} (bytes : R → Option (List ℕ)) (failures : R → ℕ) (source then : OneCapture R) (batches : List BatchFacts) (captures : List Captured)
+    → HasGivenAll bytes failures source batches captures then → GaveWithin bytes source then
+all_far bytes failures source then batches captures all =
+    let few = all.few in let both = length-append (rest_in source.engine) all.some.read in
+    (all.some.read, all.some.consumed, omega arith)

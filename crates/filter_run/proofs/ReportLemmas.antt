@@ -1,6 +1,6 @@
 -- The report on one capture, whose packets are told in lines and saved: what the relation of its run says of what was read and
 -- written.
-use Rattle.std.proofs.Common.{◌≡◌, ◌≢◌, ◌∙◌, ◌+◌, ◌++◌, ◌⊎◌, ℕ, Bool, List, [], ◌∷◌, Option, ap, ap₂, append-nil, arith, inl, inr, length, refl, subst, sym}
+use Rattle.std.proofs.Common.{◌≡◌, ◌≢◌, ◌∙◌, ◌+◌, ◌-◌, ◌++◌, ◌⊎◌, ℕ, Bool, List, [], ◌∷◌, Option, ap, ap₂, append-nil, arith, inl, inr, length, refl, subst, sym}
 use Rattle.std.proofs.lemmas.List.{length-map, same_from_push}
 use Rattle.std.specs.Io.KnownBytes.{Appends}
 use Rattle.packet_view.specs.Captures.{PacketFacts, packet_at, packets_at}
@@ -9,6 +9,7 @@ use Rattle.session_state.specs.declared.verdict.Verdict.{Verdict}
 use Rattle.racl_io.specs.Reports.{is_truncated, totals_of}
 use Rattle.racl_io.specs.Sinks.{GotFront}
 use Rattle.racl_io.specs.Tellings.{Wording, lines_in}
+use Rattle.racl_io.specs.Transfers.{GaveAtMost}
 use Rattle.racl_io.specs.declared.fault.Fault.{Fault}
 use Rattle.racl_io.specs.declared.fault.Fault.TheVariants as fault
 use Rattle.racl_io.specs.declared.totals_and_truncation.Captured.{Captured}
@@ -23,9 +24,10 @@ use Rattle.filter_run.specs.CaptureReports.{HasToldAll, HasToldPart, HasToldSome
 use Rattle.filter_run.specs.Filters.{HasSaid}
 use Rattle.filter_run.specs.Lines.{AreSame, HasCutLines, HasToldLines, IsCutText, text_of}
 use Rattle.filter_run.specs.Observers.{IsBeforeLast}
-use Rattle.filter_run.specs.OneCapture.{AreNumbered, HasGivenSome, IsWhy, bytes_of, records_of}
+use Rattle.filter_run.specs.OneCapture.{AreNumbered, GaveWithin, HasGivenSome, IsWhy, bytes_of, records_of, start_of}
 use Rattle.filter_run.specs.Ran.{HasCutRun, HasStopped, IsRunFault, Ran, Words}
 use Rattle.filter_run.specs.Saving.{AreOf, HasCutSaves, HasSavedSome}
+use Rattle.filter_run.specs.Starts.{Start, most_at}
 use Rattle.filter_run.specs.declared.capture_report.ReportedCapture.{ReportedCapture}
 use Rattle.filter_run.specs.declared.one_capture.OneCapture.{OneCapture}
 use Rattle.filter_run.specs.declared.one_filter.OneFilter.{OneFilter}
@@ -79,7 +81,7 @@ module _ {J L K R W : Type 0} (Became : J → List PacketFacts → List Verdict 
   became = outputs (written new.0.writer.now) new.1.saver.now
 
   abbrev Fails : Fault → Type 0
-  Fails found = IsLiveFault Judged manner judge source.engine.order (bytes source.reader.now) (bytes then.reader.now) began became found
+  Fails found = IsLiveFault Judged manner judge (start_of source) (bytes source.reader.now) (bytes then.reader.now) began became found
 
   module _ (judged : List (JudgedBatch Verdict)) (each : AreEach judged) (numbered : AreNumbered 0 source.engine.order (batches_of judged)) where
     report_text : text_of (wording old.0.teller.now) judged ≡ lines_in (wording old.0.teller.now) 1 (packets_at 0 (records_of (batches_of judged))) (said_of judged)
@@ -103,9 +105,9 @@ module _ {J L K R W : Type 0} (Became : J → List PacketFacts → List Verdict 
 
     -- all of it was told, before the rest
     some_told : (now : J) → HasSaid Became Judged judge (packets_of judged) (said_of judged) now → (rest : List ℕ)
-        → HasGivenSome source.engine.order (bytes source.reader.now) (bytes then.reader.now) (batches_of judged) rest
+        → HasGivenSome (start_of source) (bytes source.reader.now) (bytes then.reader.now) (batches_of judged) rest
         → Appends (written old.0.writer.now) (written new.0.writer.now) (text_of (wording old.0.teller.now) judged) → old.1.order ≡ source.engine.order
-        → HasSavedSome saved saving old.1 judged new.1 → HasToldSome Judged manner judge source.engine.order (bytes source.reader.now) (bytes then.reader.now) began became rest
+        → HasSavedSome saved saving old.1 judged new.1 → HasToldSome Judged manner judge (start_of source) (bytes source.reader.now) (bytes then.reader.now) began became rest
     unfolding report_text report_judged report_saved
     some_told now said rest given text same_order kept = record {
       read = given.read;
@@ -123,9 +125,9 @@ module _ {J L K R W : Type 0} (Became : J → List PacketFacts → List Verdict 
 
     -- or a front of it
     some_part : (now : J) → HasSaid Became Judged judge (packets_of judged) (said_of judged) now → (rest : List ℕ)
-        → HasGivenSome source.engine.order (bytes source.reader.now) (bytes then.reader.now) (batches_of judged) rest
+        → HasGivenSome (start_of source) (bytes source.reader.now) (bytes then.reader.now) (batches_of judged) rest
         → GotFront (written old.0.writer.now) (written new.0.writer.now) (text_of (wording old.0.teller.now) judged)
-        → HasToldPart Judged manner judge source.engine.order (bytes source.reader.now) (bytes then.reader.now) began became
+        → HasToldPart Judged manner judge (start_of source) (bytes source.reader.now) (bytes then.reader.now) began became
     unfolding report_text report_judged
     some_part now said rest given front = record {
       read = given.read;
@@ -141,14 +143,14 @@ module _ {J L K R W : Type 0} (Became : J → List PacketFacts → List Verdict 
 
     -- the source failed
     why_live : (now : J) → HasSaid Became Judged judge (packets_of judged) (said_of judged) now → (rest : List ℕ)
-        → (given : HasGivenSome source.engine.order (bytes source.reader.now) (bytes then.reader.now) (batches_of judged) rest)
+        → (given : HasGivenSome (start_of source) (bytes source.reader.now) (bytes then.reader.now) (batches_of judged) rest)
         → Appends (written old.0.writer.now) (written new.0.writer.now) (text_of (wording old.0.teller.now) judged) → old.1.order ≡ source.engine.order
-        → HasSavedSome saved saving old.1 judged new.1 → (found : Fault) → IsWhy source.engine.order given.read (batches_of judged) rest found → Fails found
+        → HasSavedSome saved saving old.1 judged new.1 → (found : Fault) → IsWhy (start_of source) given.read (bytes then.reader.now) (batches_of judged) rest found → Fails found
     unfolding some_told
     why_live now said rest given text same_order kept fault.Memory why = (rest, some_told now said rest given text same_order kept)
-    why_live now said rest given text same_order kept fault.Read why = (rest, some_told now said rest given text same_order kept, why.0, why.1)
+    why_live now said rest given text same_order kept fault.Read why = (rest, some_told now said rest given text same_order kept, why)
     why_live now said rest given text same_order kept fault.TooLarge why = (rest, some_told now said rest given text same_order kept, why)
-    why_live now said rest given text same_order kept (fault.LongRecord number) why = (rest, some_told now said rest given text same_order kept, why.0, why.1)
+    why_live now said rest given text same_order kept (fault.LongRecord number) why = (rest, some_told now said rest given text same_order kept, why.0, why.1, why.2)
     why_live now said rest given text same_order kept found why = absurd why
 
   -- ---- Why not all was told
@@ -189,7 +191,7 @@ module _ {J L K R W : Type 0} (Became : J → List PacketFacts → List Verdict 
 
   -- why not all was told
   pub report_fault : old.1.order ≡ source.engine.order → (found : FaultAt) → IsRunFault report_words source (record { inner = judge }) old then new found
-      → IsLiveFault Judged (manner_of (wording old.0.teller.now) saved) judge source.engine.order (bytes source.reader.now) (bytes then.reader.now)
+      → IsLiveFault Judged (manner_of (wording old.0.teller.now) saved) judge (start_of source) (bytes source.reader.now) (bytes then.reader.now)
       (outputs (written old.0.writer.now) old.1.saver.now) (outputs (written new.0.writer.now) new.1.saver.now) found.fault
   unfolding stopped_live cut_live
   report_fault same_order found (inl stopped) = stopped_live same_order found stopped
@@ -200,7 +202,7 @@ module _ {J L K R W : Type 0} (Became : J → List PacketFacts → List Verdict 
   pub report_told : old.1.order ≡ source.engine.order → (at : OneFilter J) (captures : List Captured) (ended : ReportedCapture J) (truncated : Bool)
       → Ran report_words source (record { inner = judge }) old then at new captures → truncated ≡ is_truncated captures
       → ended.totals ≡ totals_with new.0.packets new.0.passed new.0.without_pages truncated → ended.judges ≡ at.inner
-      → HasToldAll Became Judged (manner_of (wording old.0.teller.now) saved) judge source.engine.order (bytes source.reader.now) (bytes then.reader.now)
+      → HasToldAll Became Judged (manner_of (wording old.0.teller.now) saved) judge (start_of source) (bytes source.reader.now) (bytes then.reader.now)
       (outputs (written old.0.writer.now) old.1.saver.now) (outputs (written new.0.writer.now) new.1.saver.now) ended
   unfolding report_text report_judged report_saved
   report_told same_order at captures ended truncated ran cut totals judges =
@@ -216,6 +218,7 @@ module _ {J L K R W : Type 0} (Became : J → List PacketFacts → List Verdict 
           read = over.some.read;
           consumed = over.some.consumed;
           ended = over.ended;
+          few = over.few;
           packets = records_of (batches_of judged);
           rest = over.rest;
           records = over.some.records;
@@ -261,10 +264,10 @@ module _ {J L K R W : Type 0} (Became : J → List PacketFacts → List Verdict 
 -- ---- The same by what was lent
 
 -- what the source and the observers had when they began, and when they ended
-pub record AreLent {L K R W : Type 0} (source then : OneCapture R) (old new : ToldLines L W × SavedRecords K) (order : Order) (reader left : R) (teller : L)
+pub record AreLent {L K R W : Type 0} (source then : OneCapture R) (old new : ToldLines L W × SavedRecords K) (start : Start) (reader left : R) (teller : L)
     (writer wrote : W) (saver kept : K) : Type 0 where
-  pub same_order : source.engine.order ≡ order
-  pub saves_order : old.1.order ≡ order
+  pub same_start : start_of source ≡ start
+  pub saves_order : old.1.order ≡ start.order
   pub read : source.reader.now ≡ reader
   pub words : old.0.teller.now ≡ teller
   pub write : old.0.writer.now ≡ writer
@@ -276,21 +279,27 @@ pub record AreLent {L K R W : Type 0} (source then : OneCapture R) (old new : To
 module _ {J L K R W : Type 0} (Became : J → List PacketFacts → List Verdict → J → Type 0) (Judged : J → List PacketFacts → List Verdict → Type 0)
     (wording : L → Wording) (saved : K → Order → List ℕ → List Verdict → K → Type 0) (saving : K → ℕ) (bytes : R → Option (List ℕ)) (failures : R → ℕ)
     (written : W → Option (List ℕ)) (writing : W → ℕ) (source then : OneCapture R) (judge : J) (old new : ToldLines L W × SavedRecords K)
-    (order : Order) (reader left : R) (teller : L) (writer wrote : W) (saver kept : K) where
+    (start : Start) (reader left : R) (teller : L) (writer wrote : W) (saver kept : K) where
   pub fault_lent : (found : FaultAt)
       → IsRunFault (report_words Became Judged wording saved saving bytes failures written writing source then judge old new) source (record { inner = judge }) old then new found
-      → AreLent source then old new order reader left teller writer wrote saver kept
-      → IsLiveFault Judged (manner_of (wording teller) saved) judge order (bytes reader) (bytes left) (outputs (written writer) saver) (outputs (written wrote) kept) found.fault
+      → AreLent source then old new start reader left teller writer wrote saver kept
+      → IsLiveFault Judged (manner_of (wording teller) saved) judge start (bytes reader) (bytes left) (outputs (written writer) saver) (outputs (written wrote) kept) found.fault
   fault_lent found wrong lent =
-      rw (← lent.kept_is, ← lent.wrote_is, ← lent.save, ← lent.write, ← lent.left_is, ← lent.read, ← lent.same_order, ← lent.words)
-      (report_fault Became Judged wording saved saving bytes failures written writing source then judge old new (lent.saves_order ∙ sym lent.same_order) found wrong)
+      rw (← lent.kept_is, ← lent.wrote_is, ← lent.save, ← lent.write, ← lent.left_is, ← lent.read, ← lent.same_start, ← lent.words)
+      (report_fault Became Judged wording saved saving bytes failures written writing source then judge old new (lent.saves_order ∙ sym (ap (λ (s : Start). s.order) lent.same_start)) found wrong)
 
   pub told_lent : (at : OneFilter J) (captures : List Captured) (ended : ReportedCapture J) (truncated : Bool)
       → Ran (report_words Became Judged wording saved saving bytes failures written writing source then judge old new) source (record { inner = judge }) old then at new captures
       → truncated ≡ is_truncated captures → ended.totals ≡ totals_with new.0.packets new.0.passed new.0.without_pages truncated → ended.judges ≡ at.inner
-      → AreLent source then old new order reader left teller writer wrote saver kept
-      → HasToldAll Became Judged (manner_of (wording teller) saved) judge order (bytes reader) (bytes left) (outputs (written writer) saver) (outputs (written wrote) kept) ended
+      → AreLent source then old new start reader left teller writer wrote saver kept
+      → HasToldAll Became Judged (manner_of (wording teller) saved) judge start (bytes reader) (bytes left) (outputs (written writer) saver) (outputs (written wrote) kept) ended
   told_lent at captures ended truncated ran cut totals judges lent =
-      rw (← lent.kept_is, ← lent.wrote_is, ← lent.save, ← lent.write, ← lent.left_is, ← lent.read, ← lent.same_order, ← lent.words)
-      (report_told Became Judged wording saved saving bytes failures written writing source then judge old new (lent.saves_order ∙ sym lent.same_order) at captures ended truncated ran cut
+      rw (← lent.kept_is, ← lent.wrote_is, ← lent.save, ← lent.write, ← lent.left_is, ← lent.read, ← lent.same_start, ← lent.words)
+      (report_told Became Judged wording saved saving bytes failures written writing source then judge old new (lent.saves_order ∙ sym (ap (λ (s : Start). s.order) lent.same_start)) at captures ended truncated ran cut
       totals judges)
+
+-- how far a reader was read
+pub far_lent : {R : Type 0} (bytes : R → Option (List ℕ)) (source then : OneCapture R) (start : Start) (reader left : R) → start_of source ≡ start
+    → source.reader.now ≡ reader → then.reader.now ≡ left → GaveWithin bytes source then
+    → GaveAtMost (bytes reader) (bytes left) (most_at start.input + 1 - length start.front)
+far_lent bytes source then start reader left same read left_is far = rw (← left_is, ← read, ← same) far

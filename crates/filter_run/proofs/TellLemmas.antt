@@ -1,5 +1,5 @@
 -- A report on one capture: how often devices failed, its totals, and the same by what else is known of verdicts.
-use Rattle.std.proofs.Common.{◌≡◌, ◌∙◌, ◌+◌, ◌-◌, ℕ, Bool, List, [], Option, ap, inl, inr, length, refl, subst, sym, true, false}
+use Rattle.std.proofs.Common.{◌≡◌, ◌∙◌, ◌+◌, ◌-◌, ℕ, Bool, List, [], Option, ap, append-nil, inl, inr, length, refl, subst, sym, true, false}
 use Rattle.std.proofs.KnownBytes.{Appends-nil, Consumes-nil}
 use Rattle.packet_view.specs.Captures.{PacketFacts, packets_at}
 use Rattle.packet_view.specs.declared.capture.Order.{Order}
@@ -13,6 +13,7 @@ use Rattle.racl_io.proofs.ReportLemmas.{totals_counted}
 use Rattle.capture_stream.specs.Lives.{HaveFailed}
 use Rattle.capture_stream.specs.Savings.{Manner, Outputs, manner_of, outputs}
 use Rattle.filter_run.specs.CaptureReports.{HasToldSome, IsLiveFault}
+use Rattle.filter_run.specs.Starts.{Start}
 
 -- ---- How often devices failed
 
@@ -52,11 +53,11 @@ totals_alone verdicts n passing lacking truncated count passes lack =
 
 module _ {J A K B : Type 0} (Judged : J → List PacketFacts → List Verdict → Type 0) (Other : A → List PacketFacts → List Verdict → Type 0) (wording : Wording)
     (Saved : K → Order → List ℕ → List Verdict → K → Type 0) (Kept : B → Order → List ℕ → List Verdict → B → Type 0) (begun : J) (other : A)
-    (tells : (packets : List PacketFacts) (verdicts : List Verdict) → Judged begun packets verdicts → Other other packets verdicts) (order : Order)
+    (tells : (packets : List PacketFacts) (verdicts : List Verdict) → Judged begun packets verdicts → Other other packets verdicts) (start : Start)
     (before after old new : Option (List ℕ)) (first last : K) (one two : B)
-    (keeps : (whole : List ℕ) (verdicts : List Verdict) → Saved first order whole verdicts last → Kept one order whole verdicts two) where
-  some_as : (rest : List ℕ) → HasToldSome Judged (manner_of wording Saved) begun order before after (outputs old first) (outputs new last) rest
-      → HasToldSome Other (manner_of wording Kept) other order before after (outputs old one) (outputs new two) rest
+    (keeps : (whole : List ℕ) (verdicts : List Verdict) → Saved first start.order whole verdicts last → Kept one start.order whole verdicts two) where
+  some_as : (rest : List ℕ) → HasToldSome Judged (manner_of wording Saved) begun start before after (outputs old first) (outputs new last) rest
+      → HasToldSome Other (manner_of wording Kept) other start before after (outputs old one) (outputs new two) rest
   some_as rest told = record {
     read = told.read;
     consumed = told.consumed;
@@ -71,12 +72,12 @@ module _ {J A K B : Type 0} (Judged : J → List PacketFacts → List Verdict �
     saved = keeps told.whole told.verdicts told.saved;
   }
 
-  pub fault_as : (found : Fault) → IsLiveFault Judged (manner_of wording Saved) begun order before after (outputs old first) (outputs new last) found
-      → IsLiveFault Other (manner_of wording Kept) other order before after (outputs old one) (outputs new two) found
+  pub fault_as : (found : Fault) → IsLiveFault Judged (manner_of wording Saved) begun start before after (outputs old first) (outputs new last) found
+      → IsLiveFault Other (manner_of wording Kept) other start before after (outputs old one) (outputs new two) found
   unfolding some_as
   fault_as fault.Memory (rest, told) = (rest, some_as rest told)
-  fault_as fault.Read (rest, told, truncated, end) = (rest, some_as rest told, truncated, end)
-  fault_as (fault.LongRecord number) (rest, told, long, counted) = (rest, some_as rest told, long, counted)
+  fault_as fault.Read (rest, told, unread) = (rest, some_as rest told, unread)
+  fault_as (fault.LongRecord number) (rest, told, long, counted, out) = (rest, some_as rest told, long, counted, out)
   fault_as fault.TooLarge (rest, told, many) = (rest, some_as rest told, many)
   fault_as fault.Write told = record {
     read = told.read;
@@ -92,21 +93,21 @@ module _ {J A K B : Type 0} (Judged : J → List PacketFacts → List Verdict �
   fault_as found wrong = absurd wrong
 
 -- nothing was read or written
-pub none_told : {A K : Type 0} (Other : A → List PacketFacts → List Verdict → Type 0) (manner : Manner K) (other : A) (order : Order) (before : Option (List ℕ)) (old : Outputs K)
-    → manner.saved old.saver order [] [] old.saver → IsLiveFault Other manner other order before before old old fault.Memory
-none_told Other manner other order before old kept = (
-  [],
-  record {
-    read = [];
-    consumed = Consumes-nil before;
-    packets = [];
-    records = refl;
-    verdicts = [];
-    judged = λ some. absurd (some refl);
-    count = refl;
-    text = Appends-nil old.report;
-    whole = [];
-    spelt = refl;
-    saved = kept;
-  },
-)
+pub none_told : {A K : Type 0} (Other : A → List PacketFacts → List Verdict → Type 0) (manner : Manner K) (other : A) (start : Start) (before : Option (List ℕ)) (old : Outputs K)
+    → manner.saved old.saver start.order [] [] old.saver → IsLiveFault Other manner other start before before old old fault.Memory
+none_told Other manner other start before old kept =
+    let none = append-nil start.front in
+    let told : HasToldSome Other manner other start before before old old start.front = record {
+      read = [];
+      consumed = Consumes-nil before;
+      packets = [];
+      records = none;
+      verdicts = [];
+      judged = λ some. absurd (some refl);
+      count = refl;
+      text = Appends-nil old.report;
+      whole = [];
+      spelt = none;
+      saved = kept;
+    } in
+    (start.front, told)

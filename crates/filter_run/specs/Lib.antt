@@ -10,5 +10,6 @@ pub mod OneCapture
 pub mod Ran
 pub mod Saving
 pub mod Sources
+pub mod Starts
 pub mod Turns
 pub mod inner

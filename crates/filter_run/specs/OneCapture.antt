@@ -1,20 +1,23 @@
 -- One capture behind its header: what was read, which records were given, how it ends, and how it fails.
-use Rattle.std.specs.Prelude.{◌≡◌, ◌+◌, ◌-◌, ◌<◌, ◌≤◌, ◌++◌, ◌∷◌, ◌^◌, ℕ, Bool, List, [], None, Option, length, ⊤}
+use Rattle.std.specs.Prelude.{◌≡◌, ◌+◌, ◌-◌, ◌<◌, ◌≤◌, ◌++◌, ◌∷◌, ◌^◌, ℕ, Bool, IfSome, List, [], None, Option, false, length, true, ⊤}
 use Rattle.std.specs.List.{flat_map}
 use Rattle.std.specs.Io.KnownBytes.{Consumes, IsAtEnd}
 use Rattle.packet_view.specs.Captures.{AreRecords, IsEnd, IsTooLong, RecordFacts, end_of}
 use Rattle.packet_view.specs.Fronts.{Stops}
 use Rattle.packet_view.specs.declared.capture.Order.{Order}
 use Rattle.racl_io.specs.Buffers.{held_by}
+use Rattle.racl_io.specs.Inputs.{most_bytes}
 use Rattle.racl_io.specs.Tellings.{told_alone}
+use Rattle.racl_io.specs.Transfers.{GaveAtMost}
 use Rattle.racl_io.specs.declared.fault.Fault.{Fault}
 use Rattle.racl_io.specs.declared.fault.Fault.TheVariants.{LongRecord, Memory, Read, TooLarge}
 use Rattle.racl_io.specs.declared.totals_and_truncation.Captured.{Captured}
 use Rattle.capture_stream.specs.Feeding.{rest_in}
 use Rattle.capture_stream.specs.Found.{HaveFound}
-use Rattle.capture_stream.specs.Lives.{most_live, with_read}
+use Rattle.capture_stream.specs.Lives.{with_read}
 use Rattle.capture_stream.specs.declared.arrivals.FaultAt.{FaultAt}
 use Rattle.filter_run.specs.Batches.{BatchFacts, batch_facts}
+use Rattle.filter_run.specs.Starts.{IsReadOut, IsUnreadRest, Start, most_at}
 use Rattle.filter_run.specs.declared.batch.Batch.{Batch}
 use Rattle.filter_run.specs.declared.one_capture.OneCapture.{OneCapture}
 
@@ -30,26 +33,33 @@ AreNumbered n order [] = Unit {0}
 AreNumbered n order (batch ∷ batches) =
     (batch.others ≡ n) × (batch.order ≡ order) × (batch.interface ≡ 0) × AreNumbered (n + length batch.records) order batches
 
--- of the bytes that the reader gave these are whole records, before the rest
-pub record HasGivenSome (order : Order) (before after : Option (List ℕ)) (batches : List BatchFacts) (rest : List ℕ) : Type 0 where
+-- where the records of one begin of which nothing was given
+abbrev pub start_of : {R : Type 0} → OneCapture R → Start
+start_of begun = record { order = begun.engine.order; front = rest_in begun.engine; input = begun.input }
+
+-- of the bytes that were read before, and that the reader gave, these are whole records, before the rest
+pub record HasGivenSome (start : Start) (before after : Option (List ℕ)) (batches : List BatchFacts) (rest : List ℕ) : Type 0 where
   pub read : List ℕ
   pub consumed : Consumes before after read
-  pub records : AreRecords order read (records_of batches) rest
-  pub spelt : read ≡ bytes_of batches ++ rest
+  pub records : AreRecords start.order (start.front ++ read) (records_of batches) rest
+  pub spelt : start.front ++ read ≡ bytes_of batches ++ rest
 
--- all that was read is records that were given, and what waits, in which no whole record is
+-- All that was read is records that were given, and what waits: in it no whole record is, unless it was not parted yet.
 pub record HasGiven {R : Type 0} (bytes : R → Option (List ℕ)) (failures : R → ℕ) (begun : OneCapture R) (batches : List BatchFacts) (now : OneCapture R) : Type 0 where
   pub same : now.reader.ghost_name ≡ begun.reader.ghost_name
-  pub some : HasGivenSome begun.engine.order (bytes begun.reader.now) (bytes now.reader.now) batches (rest_in now.engine)
+  pub some : HasGivenSome (start_of begun) (bytes begun.reader.now) (bytes now.reader.now) batches (rest_in now.engine)
   pub numbered : AreNumbered 0 begun.engine.order batches
   pub packets : now.engine.packets ≡ length (records_of batches)
   pub order : now.engine.order ≡ begun.engine.order
   pub interface : now.engine.interface ≡ 0
-  pub size : now.read ≡ length some.read
-  pub parts : length batches ≤ length some.read
-  pub bound : now.read < most_live + 8388608
+  pub input : now.input ≡ begun.input
+  pub within : IfSome begun.input (λ before. before ≤ most_bytes)
+  pub size : now.read ≡ length (rest_in begun.engine ++ some.read)
+  pub parts : length batches ≤ now.read
+  pub more : now.waits ≡ true → length batches < now.read
+  pub bound : now.read ≤ most_at begun.input + 1
   pub found : HaveFound now.engine.order (rest_in now.engine) now.engine.found
-  pub stops : Stops now.engine.order (rest_in now.engine) now.stop
+  pub stops : now.waits ≡ false → Stops now.engine.order (rest_in now.engine) now.stop
   pub few : failures begun.reader.now < 2 ^ 64 - 1
   pub sound : failures now.reader.now ≡ failures begun.reader.now
 
@@ -58,30 +68,37 @@ pub record HasGivenAll {R : Type 0} (bytes : R → Option (List ℕ)) (failures 
     (now : OneCapture R) : Type 0 where
   pub same : now.reader.ghost_name ≡ begun.reader.ghost_name
   pub rest : List ℕ
-  pub some : HasGivenSome begun.engine.order (bytes begun.reader.now) (bytes now.reader.now) batches rest
+  pub some : HasGivenSome (start_of begun) (bytes begun.reader.now) (bytes now.reader.now) batches rest
   pub numbered : AreNumbered 0 begun.engine.order batches
   pub ended : IsAtEnd (bytes now.reader.now)
+  pub few : length (rest_in begun.engine ++ some.read) ≤ most_at begun.input
   pub truncated : Bool
   pub end : IsEnd begun.engine.order rest (end_of truncated)
   pub told : captures ≡ told_alone (length (records_of batches)) truncated
   pub sound : failures now.reader.now ≡ failures begun.reader.now
 
 -- why no more came
-abbrev pub IsWhy : Order → (read : List ℕ) → List BatchFacts → (rest : List ℕ) → Fault → Type 0
-IsWhy order read batches rest Memory = ⊤
-IsWhy order read batches rest Read = (truncated : Bool) × IsEnd order rest (end_of truncated)
-IsWhy order read batches rest TooLarge = most_live ≤ length read
-IsWhy order read batches rest (LongRecord number) = IsTooLong order rest × (number ≡ length (records_of batches) + 1)
-IsWhy order read batches rest fault = ⊥
+abbrev pub IsWhy : Start → (read : List ℕ) → (after : Option (List ℕ)) → List BatchFacts → (rest : List ℕ) → Fault → Type 0
+IsWhy start read after batches rest Memory = ⊤
+IsWhy start read after batches rest Read = IsUnreadRest start.input start.order rest
+IsWhy start read after batches rest TooLarge = most_at start.input < length (start.front ++ read)
+IsWhy start read after batches rest (LongRecord number) =
+    IsTooLong start.order rest × (number ≡ length (records_of batches) + 1) × IsReadOut start read after
+IsWhy start read after batches rest fault = ⊥
+
+-- no more came than may come, and one byte more
+abbrev pub GaveWithin : {R : Type 0} → (R → Option (List ℕ)) → OneCapture R → OneCapture R → Type 0
+GaveWithin bytes begun now = GaveAtMost (bytes begun.reader.now) (bytes now.reader.now) (most_at begun.input + 1 - length (rest_in begun.engine))
 
 pub record HasFailedBehind {R : Type 0} (bytes : R → Option (List ℕ)) (failures : R → ℕ) (begun : OneCapture R) (batches : List BatchFacts) (found : FaultAt)
     (now : OneCapture R) : Type 0 where
   pub same : now.reader.ghost_name ≡ begun.reader.ghost_name
   pub rest : List ℕ
-  pub some : HasGivenSome begun.engine.order (bytes begun.reader.now) (bytes now.reader.now) batches rest
+  pub some : HasGivenSome (start_of begun) (bytes begun.reader.now) (bytes now.reader.now) batches rest
   pub numbered : AreNumbered 0 begun.engine.order batches
+  pub far : GaveWithin bytes begun now
   pub place : found.interface ≡ None
-  pub why : IsWhy begun.engine.order some.read batches rest found.fault
+  pub why : IsWhy (start_of begun) some.read (bytes now.reader.now) batches rest found.fault
   pub failed : failures now.reader.now ≡ with_read (failures begun.reader.now) found.fault
 
 -- the whole records that waited are the batch, and what is behind them waits
@@ -95,7 +112,9 @@ pub record HasParted {R : Type 0} (old new : OneCapture R) (batch : Batch) : Typ
   pub packets : new.engine.packets ≡ old.engine.packets + length (batch_facts batch).records
   pub same_order : new.engine.order ≡ old.engine.order
   pub same_interface : new.engine.interface ≡ old.engine.interface
+  pub same_input : new.input ≡ old.input
   pub found : HaveFound new.engine.order (rest_in new.engine) new.engine.found
   pub stops : Stops new.engine.order (rest_in new.engine) new.stop
   pub reader : new.reader ≡ old.reader
   pub read : new.read ≡ old.read
+  pub parted : new.waits ≡ false

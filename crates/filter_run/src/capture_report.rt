@@ -1,17 +1,20 @@
 //! The report on one capture, whose packets are told in lines, and saved, while they come.
-ghost use Rattle.std.specs.Prelude.{◌≡◌, ◌-◌, ◌<◌, ◌^◌, [], IfOk, MatchResult};
+ghost use Rattle.std.specs.Prelude.{◌≡◌, ◌+◌, ◌-◌, ◌<◌, ◌≤◌, ◌^◌, [], IfOk, IfSome, MatchResult, length};
+ghost use Rattle.racl_io.specs.Inputs.{most_bytes};
 ghost use Rattle.racl_io.specs.Reports.{is_truncated};
+ghost use Rattle.racl_io.specs.Transfers.{GaveAtMost};
 ghost use Rattle.capture_stream.specs.Lives.{AreCounted, HaveFailed, with_read};
 ghost use Rattle.capture_stream.specs.Savings.{manner_of, outputs};
 ghost use Rattle.filter_run.specs.CaptureReports.{HasToldAll, IsLiveFault};
+ghost use Rattle.filter_run.specs.Starts.{most_at, start_facts};
 
+use crate::capture_start::CaptureStart;
 use crate::one_capture::OneCapture;
 use crate::one_filter::OneFilter;
 use crate::running::run;
 use crate::saved_records::SavedRecords;
 use crate::told_lines::ToldLines;
 use capture_stream::{Judge, Saver};
-use packet_view::Order;
 use racl_io::{Captured, Fault, Sink, Source, Teller, Totals};
 use std::alloc::Global;
 
@@ -19,8 +22,8 @@ use std::alloc::Global;
 #[derive(Drop)]
 pub struct OpenCapture<J> {
     pub judges: J,
-    /// The byte order of its numbers.
-    pub order: Order,
+    /// Where its records begin.
+    pub start: CaptureStart,
     /// From how many packets of a read on threads pay, where there are several: reads then grow.
     pub many: Option<usize>,
 }
@@ -41,9 +44,10 @@ pub fn is_any_cut(captures: &[Captured]) -> bool
     captures.iter().any(|captured| captured.truncated)
 }
 
-/// Judges all packets behind the header of a capture. After each read what is told of all packets whose records were read whole is
+/// Judges all packets of a capture from its start on. After each read what is told of all packets whose records were read whole is
 /// written, and the records are saved; what stands behind all of them is for the caller to tell. A fault leaves what was written and
-/// saved. No verdict is kept, and of the bytes only those that belong to no whole record. TooLarge: 2^62 bytes were read.
+/// saved. No verdict is kept, and of the bytes only those that belong to no whole record. TooLarge: an input has more than MOST_BYTES,
+/// or a capture that is no part of one 2^62 bytes behind its header.
 pub fn report_capture<J: Judge + Drop, L: Teller, K: Saver, R: Source, W: Sink>(
     alloc: Global,
     reader: &mut R,
@@ -54,12 +58,15 @@ pub fn report_capture<J: Judge + Drop, L: Teller, K: Saver, R: Source, W: Sink>(
 ) -> Result<ReportedCapture<J>, Fault>
     requires begun { J.became capture.judges [] [] capture.judges }
     requires counts { AreCounted J.judged }
-    requires saves { K.saved saver.old capture.order [] [] saver.old }
+    requires saves { K.saved saver.old capture.start.order [] [] saver.old }
+    requires front { length capture.start.front.items ≤ most_at capture.start.input }
+    requires input { IfSome capture.start.input (λ before. before ≤ most_bytes) }
     requires reader { R.failures reader.old < 2 ^ 64 - 1 }
     requires writer { W.failures writer.old < 2 ^ 64 - 1 }
-    ensures told { let manner = manner_of (L.wording teller.old) K.saved in let old = outputs (W.bytes writer.old) saver.old in let new = outputs (W.bytes writer.new) saver.new in
-        MatchResult result (HasToldAll J.became J.judged manner capture.judges capture.order (R.bytes reader.old) (R.bytes reader.new) old new)
-        (IsLiveFault J.judged manner capture.judges capture.order (R.bytes reader.old) (R.bytes reader.new) old new) }
+    ensures told { let manner = manner_of (L.wording teller.old) K.saved in let start = start_facts capture.start in let old = outputs (W.bytes writer.old) saver.old in let new = outputs (W.bytes writer.new) saver.new in
+        MatchResult result (HasToldAll J.became J.judged manner capture.judges start (R.bytes reader.old) (R.bytes reader.new) old new)
+        (IsLiveFault J.judged manner capture.judges start (R.bytes reader.old) (R.bytes reader.new) old new) }
+    ensures far { GaveAtMost (R.bytes reader.old) (R.bytes reader.new) (most_at capture.start.input + 1 - length capture.start.front.items) }
     ensures read { MatchResult result (λ _. R.failures reader.new ≡ R.failures reader.old) (λ fault. R.failures reader.new ≡ with_read (R.failures reader.old) fault) }
     ensures write { MatchResult result (λ _. (W.failures writer.new ≡ W.failures writer.old) × (K.failures saver.new ≡ K.failures saver.old))
         (λ fault. HaveFailed (W.failures writer.old) (W.failures writer.new) (K.failures saver.old) (K.failures saver.new) fault) }
@@ -67,10 +74,11 @@ pub fn report_capture<J: Judge + Drop, L: Teller, K: Saver, R: Source, W: Sink>(
 {
     let OpenCapture {
         judges,
-        order,
+        start,
         many,
     } = capture;
-    let mut source = OneCapture::new(alloc, reader, order, many);
+    let order = start.order;
+    let mut source = OneCapture::new(alloc, reader, start, many);
     let mut judge = OneFilter { inner: judges };
     let mut observers = (
         ToldLines::new(teller, writer),

@@ -1,17 +1,23 @@
-//! The packets of one capture, as a reader gives it behind its header.
-ghost use Rattle.std.specs.Prelude.{◌≡◌, None};
+//! The packets of one capture, as a reader gives it behind its header, or behind more of it that was read before.
+ghost use Rattle.std.specs.Prelude.{◌≡◌, ◌+◌, ◌-◌, ◌<◌, ◌≤◌, ◌^◌, IfSome, MatchResult, None};
+ghost use Rattle.racl_io.specs.Inputs.{most_bytes};
+ghost use Rattle.racl_io.specs.Transfers.{GaveAtMost};
+ghost use Rattle.capture_stream.specs.Lives.{with_read};
+ghost use Rattle.filter_run.specs.Starts.{most_at};
+ghost use Rattle.filter_run.specs.inner.Reads.{HasReadOut, IsOutFault};
 
 use crate::batch::Batch;
+use crate::capture_start::CaptureStart;
 use crate::nobody::Nobody;
 use crate::source::{CaptureSource, Step};
 use capture_stream::{Engine, FaultAt, Found, ReadSize, is_cut};
-use packet_view::{Order, Stop};
-use racl_io::{Captured, Fault, ReadBuffer, Source};
+use packet_view::Stop;
+use racl_io::{Captured, Fault, MOST_BYTES, ReadBuffer, Source, drain};
 use std::alloc::{AllocError, Global};
 use std::mem::swap;
 
-/// How many bytes are read in all, at most.
-const MOST_READ: usize = 4_611_686_018_427_387_904;
+/// How many bytes a capture that is no part of an input has behind its header, at most.
+const MOST_ALONE: usize = 4_611_686_018_427_387_903;
 
 /// One capture that a reader gives. Its packets were seen at the interface with the number 0.
 #[derive(Drop)]
@@ -22,8 +28,12 @@ pub struct OneCapture<'r, R> {
     pub alloc: Global,
     /// How many bytes the next read asks for.
     pub size: ReadSize,
-    /// How many bytes were read.
+    /// Where it is part of an input, how many bytes of the input stand before those that were read.
+    pub input: Option<usize>,
+    /// How many bytes were read, by others before it, or by it.
     pub read: usize,
+    /// Whether bytes wait that weren't parted into records yet.
+    pub waits: bool,
     /// Why its whole records end where they do.
     pub stop: Stop,
 }
@@ -80,6 +90,7 @@ impl<'r, R> OneCapture<'r, R> {
         let mut bytes = ReadBuffer::new(Vec::new(self.alloc));
         swap(&mut bytes, &mut self.engine.spare);
         self.stop = found.stop;
+        self.waits = false;
         Ok(Batch {
             others,
             interface: self.engine.interface,
@@ -99,32 +110,107 @@ fn room_beside(alloc: Global, size: ReadSize, room: ReadBuffer) -> ReadBuffer {
     ReadBuffer::new(Vec::new(alloc))
 }
 
-impl<'r, R: Source> OneCapture<'r, R> {
-    ghost use Rattle.std.specs.Prelude.{◌≡◌, ◌-◌, ◌<◌, ◌^◌, []};
-    ghost use Rattle.filter_run.specs.OneCapture.{HasGiven};
+// How many bytes may come of a capture with so many bytes of an input before it, where it is part of one.
+fn most_of(input: Option<usize>) -> usize
+    requires { IfSome input (λ before. before ≤ most_bytes) }
+    ensures { result ≡ most_at input }
+{
+    match input {
+        None => MOST_ALONE,
+        Some(before) => MOST_BYTES - before,
+    }
+}
 
-    /// Of which no byte was read. The reader stands behind the capture's header, which has numbers in this byte order. Where `many`
-    /// is given, reads grow while they give so many packets.
+// Reads the input that a capture is part of to its end, where it is part of one, behind so many bytes of the capture.
+fn read_out<R: Source>(reader: &mut R, input: Option<usize>, read: usize) -> Result<(), Fault>
+    requires few { IfSome input (λ before. before + read ≤ most_bytes) }
+    requires sound { R.failures reader.old < 2 ^ 64 - 1 }
+    ensures out { let old = R.bytes reader.old in let new = R.bytes reader.new in MatchResult result (λ _. HasReadOut input read old new) (IsOutFault input read old new) }
+    ensures far { GaveAtMost (R.bytes reader.old) (R.bytes reader.new) (most_at input + 1 - read) }
+    ensures failures { MatchResult result (λ _. R.failures reader.new ≡ R.failures reader.old) (λ fault. R.failures reader.new ≡ with_read (R.failures reader.old) fault) }
+{
+    match input {
+        None => Ok(()),
+        Some(before) => drain(reader, before + read),
+    }
+}
+
+impl<'r, R: Source> OneCapture<'r, R> {
+    ghost use Rattle.std.specs.Prelude.{◌≡◌, ◌-◌, ◌<◌, ◌≤◌, ◌^◌, [], IfSome, MatchResult, length};
+    ghost use Rattle.racl_io.specs.Inputs.{most_bytes};
+    ghost use Rattle.filter_run.specs.OneCapture.{HasFailedBehind, HasGiven, start_of};
+    ghost use Rattle.filter_run.specs.Sources.{HasFailed, MayGive};
+    ghost use Rattle.filter_run.specs.Starts.{most_at, start_facts};
+    ghost use Rattle.filter_run.specs.inner.Reads.{HasReadMore};
+
+    /// Of which nothing was given. The reader stands behind the bytes that were read before. Where `many` is given, reads grow
+    /// while they give so many packets.
     pub fn new(
         alloc: Global,
         reader: &'r mut R,
-        order: Order,
+        start: CaptureStart,
         many: Option<usize>,
     ) -> OneCapture<'r, R>
-        requires { R.failures reader.old < 2 ^ 64 - 1 }
+        requires front { length start.front.items ≤ most_at start.input }
+        requires input { IfSome start.input (λ before. before ≤ most_bytes) }
+        requires sound { R.failures reader.old < 2 ^ 64 - 1 }
         ensures same { result.reader.ghost_name ≡ reader.entry.ghost_name }
         ensures reader { result.reader.now ≡ reader.old }
-        ensures order { result.engine.order ≡ order }
+        ensures start { start_of result ≡ start_facts start }
         ensures gave { HasGiven R.bytes R.failures result [] result }
     {
+        let CaptureStart {
+            order,
+            front,
+            input,
+        } = start;
+        let read = front.len();
         OneCapture {
             reader,
-            engine: Engine::new(alloc, Nobody { alloc }, order, 0),
+            engine: Engine::new(alloc, Nobody { alloc }, order, 0, front),
             alloc,
             size: ReadSize::first(many),
-            read: 0,
+            input,
+            read,
+            waits: read > 0,
             stop: Stop::End,
         }
+    }
+
+    // Some bytes are read behind those that wait, unless these weren't parted yet. At the end it answers what is told of the capture.
+    fn read_more(&mut self) -> Result<Option<Vec<Captured>>, FaultAt>
+        requires { MayGive (HasGiven R.bytes R.failures) self.old }
+        ensures { MatchResult result (HasReadMore R.bytes R.failures self.old self.new) (HasFailed (HasGiven R.bytes R.failures) (HasFailedBehind R.bytes R.failures) self.old self.new) }
+    {
+        if self.waits {
+            return Ok(None);
+        }
+        let most = most_of(self.input);
+        if self.read > most {
+            return Err(at(Fault::TooLarge));
+        }
+        let truncated = match is_cut(self.stop, self.engine.packets) {
+            Ok(truncated) => truncated,
+            Err(fault) => match read_out(self.reader, self.input, self.read) {
+                Ok(()) => return Err(at(fault)),
+                Err(earlier) => return Err(at(earlier)),
+            },
+        };
+        let size = self.size.within(most + 1 - self.read);
+        let n = match self.engine.read_part(self.alloc, self.reader, size) {
+            Ok(n) => n,
+            Err(fault) => return Err(at(fault)),
+        };
+        if n == 0 {
+            match self.ended(truncated) {
+                Ok(captures) => return Ok(Some(captures)),
+                Err(_) => return Err(at(Fault::Memory)),
+            }
+        }
+        self.read += n;
+        self.size = self.size.behind(n, self.engine.found.count);
+        self.waits = true;
+        Ok(None)
     }
 }
 
@@ -137,28 +223,14 @@ impl<'r, R: Source> CaptureSource for OneCapture<'r, R> {
 
     ghost failed = { λ begun batches found now. HasFailedBehind R.bytes R.failures begun batches found now };
 
-    // Some bytes are read behind those that wait, and the whole records among them are given.
+    // The whole records are given among the bytes that wait: those that were read before, or behind some more.
     fn next(&mut self, room: ReadBuffer) -> Result<Step, FaultAt> {
-        let truncated = match is_cut(self.stop, self.engine.packets) {
-            Ok(truncated) => truncated,
-            Err(fault) => return Err(at(fault)),
-        };
-        if self.read >= MOST_READ {
-            return Err(at(Fault::TooLarge));
-        }
         let room = room_beside(self.alloc, self.size, room);
-        let n = match self.engine.read_part(self.alloc, self.reader, self.size) {
-            Ok(n) => n,
-            Err(fault) => return Err(at(fault)),
-        };
-        if n == 0 {
-            match self.ended(truncated) {
-                Ok(captures) => return Ok(Step::End(captures)),
-                Err(_) => return Err(at(Fault::Memory)),
-            }
+        match self.read_more() {
+            Ok(None) => {}
+            Ok(Some(captures)) => return Ok(Step::End(captures)),
+            Err(found) => return Err(found),
         }
-        self.read += n;
-        self.size = self.size.behind(n, self.engine.found.count);
         match self.part(room) {
             Ok(batch) => Ok(Step::Batch(batch)),
             Err(_) => Err(at(Fault::Memory)),

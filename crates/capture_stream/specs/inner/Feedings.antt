@@ -1,5 +1,5 @@
 -- What the steps of an engine do.
-use Rattle.std.specs.Prelude.{◌≡◌, ◌⊎◌, ◌+◌, ◌++◌, ◌<◌, ◌≤◌, ℕ, Bool, List, [], Option, length}
+use Rattle.std.specs.Prelude.{◌≡◌, ◌⊎◌, ◌+◌, ◌++◌, ◌<◌, ◌≤◌, ℕ, Bool, List, Option, length}
 use Rattle.std.specs.Io.KnownBytes.{Consumes, IsAtEnd, Keeps}
 use Rattle.packet_view.specs.Captures.{IsEnd, PacketFacts, end_of}
 use Rattle.packet_view.specs.Fronts.{Stops}
@@ -13,12 +13,12 @@ use Rattle.capture_stream.specs.Feeding.{Fed, rest_in}
 use Rattle.capture_stream.specs.Found.{HaveFound}
 use Rattle.capture_stream.specs.declared.engine.Engine.{Engine}
 
--- it was fed no byte
-pub record IsBegun {J : Type 0} (judges : J) (order : Order) (interface : ℕ) (engine : Engine J) : Type 0 where
+-- these bytes wait, and nothing was judged
+pub record IsBegun {J : Type 0} (judges : J) (order : Order) (interface : ℕ) (front : List ℕ) (engine : Engine J) : Type 0 where
   pub judges_are : engine.judges ≡ judges
   pub order_is : engine.order ≡ order
   pub interface_is : engine.interface ≡ interface
-  pub waits : rest_in engine ≡ []
+  pub waits : rest_in engine ≡ front
   pub found : HaveFound engine.order (rest_in engine) engine.found
   pub packets : engine.packets ≡ 0
 
