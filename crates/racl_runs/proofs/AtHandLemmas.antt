@@ -1,8 +1,11 @@
 -- An input with captures as digits, of which all was read: what is answered of it.
-use Rattle.std.proofs.Common.{◌≡◌, ◌∙◌, ◌≤◌, ◌⊎◌, ℕ, zero, suc, List, [], ◌∷◌, Ok, Err, drop, length, refl, sym, subst, inl, inr}
+use Rattle.std.proofs.Common.{◌≡◌, ◌∙◌, ◌≤◌, ◌⊎◌, ◌++◌, ℕ, zero, suc, List, [], ◌∷◌, Option, Ok, Err, ap, drop, length, refl, sym, subst, inl, inr}
+use Rattle.std.proofs.KnownBytes.{Appends-trans}
+use Rattle.std.specs.Io.KnownBytes.{Appends}
 use Rattle.packet_view.specs.Bytes.{AreBytes}
 use Rattle.packet_view.specs.Captures.{PacketFacts}
 use Rattle.acl_policy.specs.Policies.{PolicyFacts, policy_facts}
+use Rattle.session_state.specs.declared.verdict.Verdict.{Verdict}
 use Rattle.racl_options.specs.declared.settings.Options.{Options}
 use Rattle.racl_io.specs.declared.fault.Fault.{Fault}
 use Rattle.racl_io.specs.declared.fault.Fault.TheVariants.{Memory}
@@ -13,12 +16,14 @@ use Rattle.racl_io.specs.Reports.{totals_of}
 use Rattle.racl_io.specs.Faults.{IsFaultOfBytes, IsFaultOfContent}
 use Rattle.racl_io.specs.Inputs.{most_bytes}
 use Rattle.racl_report.specs.ReadInputs.{HasPackets}
-use Rattle.racl_report.specs.RunReports.{IsReportOn, JudgedFacts}
+use Rattle.racl_report.specs.RunReports.{AreLines, IsReportOn, JudgedFacts, Outcome, told_facts}
 use Rattle.racl_report.proofs.CaptureLaws.{AreFit, fit_bytes, no_fault_of_packets, one_fault_of_content, one_packets}
 use Rattle.racl_report.proofs.ReadInputLemmas.{read_in}
-use Rattle.racl_runs.specs.Reads.{AnswersInput, HasMarked, IsReached, IsReportOfInput}
+use Rattle.racl_views.specs.Hits.{latest_second}
+use Rattle.racl_runs.specs.LiveRuns.{IsToldBehind}
+use Rattle.racl_runs.specs.Reads.{AnswersInput, HasMarked, HasReportedOn, IsReached, IsReportOfInput}
 use Rattle.racl_runs.specs.declared.input_front.Marked.{Marked}
-use Rattle.racl_runs.proofs.OutcomeLemmas.{memory_answers}
+use Rattle.racl_runs.proofs.OutcomeLemmas.{memory_answers, reported}
 use Rattle.racl_runs.proofs.RunLemmas.{fault_of_known_parts, fault_of_right_policy}
 
 -- ---- what follows a marker line
@@ -124,3 +129,24 @@ module _ (options : Options) (bytes : List ℕ) (marked : Marked) (has : HasMark
         };
     counted = counted;
   }
+
+-- the report on packets at hand: what workers said of them and what stands behind that, by rules that are those of the policy; and their lines
+pub reported_at_hand : (options : Options) (text : List ℕ) (policy : PolicyFacts) (packets : List PacketFacts) (told : List Captured) (verdicts : List Verdict) (lines behind : List ℕ)
+    (old mid new : Option (List ℕ)) (totals : Totals) (judged shown : List PacketFacts) (said : List Verdict) (ready : PolicyFacts) → judged ≡ packets → shown ≡ packets → said ≡ verdicts
+    → ready ≡ policy → IsToldBehind options text ready judged verdicts (latest_second judged) behind
+    → AreLines options.lines (record { policy = policy; text = text; packets = shown; verdicts = said; captures = told; shown = options.shown }) lines
+    → Appends old mid lines → totals ≡ totals_of said told → Appends mid new behind → HasReportedOn options text policy packets told old new totals
+reported_at_hand options text policy packets told verdicts lines behind old mid new totals judged shown said ready one two three four is are wrote counted more =
+    let by = subst (λ (p : PolicyFacts). IsToldBehind options text p packets verdicts (latest_second packets) behind) four
+    (subst (λ (ps : List PacketFacts). IsToldBehind options text ready ps verdicts (latest_second ps) behind) one is) in
+    let own = subst (λ (vs : List Verdict). AreLines options.lines (told_facts policy text packets (record { verdicts = vs; captures = told }) options.shown) lines) three
+    (subst (λ (ps : List PacketFacts). AreLines options.lines (told_facts policy text ps (record { verdicts = said; captures = told }) options.shown) lines) two are) in
+    let made = reported options text policy packets verdicts told lines behind by own in
+    record {
+      judged = made.0;
+      reached = made.1;
+      report = lines ++ behind;
+      told = made.2.0;
+      written = Appends-trans old mid new lines behind wrote more;
+      counted = counted ∙ ap (λ (vs : List Verdict). totals_of vs told) three ∙ ap (λ (o : Outcome). totals_of o.verdicts told) (sym made.2.1);
+    }

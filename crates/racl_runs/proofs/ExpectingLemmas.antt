@@ -69,6 +69,7 @@ module _ {J : Type 0} {Judged : J → List PacketFacts → List Verdict → Type
     read = all.read;
     consumed = all.consumed;
     ended = all.ended;
+    few = all.few;
     packets = all.packets;
     rest = all.rest;
     records = all.records;

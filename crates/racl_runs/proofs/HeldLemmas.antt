@@ -69,21 +69,47 @@ module _ {K : Type 0} (options : Options) (bytes : List ℕ) (headed : Headed) (
       (all_counted options has.parts.policy policy wording packets truncated totals told.report is.is ∙ ap (λ (o : Outcome). totals_of o.verdicts o.captures) (sym made.2.1))
 
   -- or why it wasn't
-  own_fault : {T : Type 0} (found : Fault) → IsOwnFault T options (manner_of wording Saved) policy (own_among None) start before after old new found
+  own_fault : (T : Type 0) (found : Fault) → IsOwnFault T options (manner_of wording Saved) policy (own_among None) start before after old new found
       → AnswersRead options bytes before (Err (without_device found))
-  own_fault fault.Memory why = inl (fault.Memory, refl, inl refl)
-  own_fault fault.Read why = inl (fault.Read, refl, inr (inl refl))
-  own_fault (fault.LongRecord number) (rest, told, long, counted, out) =
+  own_fault T fault.Memory why = inl (fault.Memory, refl, inl refl)
+  own_fault T fault.Read why = inl (fault.Read, refl, inr (inl refl))
+  own_fault T (fault.LongRecord number) (rest, told, long, counted, out) =
       long_answers options bytes headed has before after told.read rest told.packets number fits told.consumed out.0 (let few = out.1 in omega arith) told.records long counted
-  own_fault fault.TooLarge (rest, told, many) = large_answers options bytes headed has before after told.read fits told.consumed many
-  own_fault fault.Write why = inl (fault.Memory, refl, inl refl)
-  own_fault found why = absurd why
+  own_fault T fault.TooLarge (rest, told, many) = large_answers options bytes headed has before after told.read fits told.consumed many
+  own_fault T fault.Write why = inl (fault.Memory, refl, inl refl)
+  own_fault T found why = absurd why
 
-  pub headed_fault : {T : Type 0} {text : List ℕ} (found : Fault)
+  pub headed_fault : (T : Type 0) (text : List ℕ) (found : Fault)
       → IsOwnFault T options (manner_of wording Saved) policy (own_among None) start before after old new found
       ⊎ HasCutOwn options text no_note wording policy (own_among None) start before after old.report new.report found
       → AnswersRead options bytes before (Err (without_device found))
   unfolding own_fault
-  headed_fault found (inl why) = own_fault found why
-  headed_fault found (inr cut) =
+  headed_fault T text found (inl why) = own_fault T found why
+  headed_fault T text found (inr cut) =
       subst (λ (f : Fault). AnswersRead options bytes before (Err (without_device f))) (sym cut.failed) (inl (fault.Memory, refl, inl refl))
+
+  -- ---- The same by a text, rules and a start that are those of the input
+
+  moved : (P : List ℕ → PolicyFacts → Start → Type 0) (text : List ℕ) (says : PolicyFacts) (begins : Start) → text ≡ has.parts.policy → says ≡ policy → begins ≡ start
+      → P text says begins → P has.parts.policy policy start
+  moved P text says begins one two three is =
+      subst (P has.parts.policy policy) three (subst (λ (p : PolicyFacts). P has.parts.policy p begins) two (subst (λ (t : List ℕ). P t says begins) one is))
+
+  pub headed_told_as : (totals : Totals) (held text : List ℕ) (says : PolicyFacts) (begins : Start) → text ≡ has.parts.policy → says ≡ policy → begins ≡ start
+      → TellsAsAsked options text says wording → old.report ≡ Some [] → new.report ≡ Some held
+      → HasToldOwn options text no_note (manner_of wording Saved) says (own_among None) begins before after old new totals → HoldsReport options bytes before held totals
+  unfolding headed_told moved
+  headed_told_as totals held text says begins one two three tells none some told =
+      headed_told totals held (moved (λ (t : List ℕ) (p : PolicyFacts) (s : Start). TellsAsAsked options t p wording) text says begins one two three tells) none some
+      (moved (λ (t : List ℕ) (p : PolicyFacts) (s : Start). HasToldOwn options t no_note (manner_of wording Saved) p (own_among None) s before after old new totals) text says begins
+      one two three told)
+
+  pub headed_fault_as : (T : Type 0) (found : Fault) (text : List ℕ) (says : PolicyFacts) (begins : Start) → text ≡ has.parts.policy → says ≡ policy → begins ≡ start
+      → IsOwnFault T options (manner_of wording Saved) says (own_among None) begins before after old new found
+      ⊎ HasCutOwn options text no_note wording says (own_among None) begins before after old.report new.report found
+      → AnswersRead options bytes before (Err (without_device found))
+  unfolding headed_fault moved
+  headed_fault_as T found text says begins one two three why =
+      headed_fault T has.parts.policy found
+      (moved (λ (t : List ℕ) (p : PolicyFacts) (s : Start). IsOwnFault T options (manner_of wording Saved) p (own_among None) s before after old new found
+      ⊎ HasCutOwn options t no_note wording p (own_among None) s before after old.report new.report found) text says begins one two three why)

@@ -20,10 +20,11 @@ use Rattle.racl_options.specs.declared.settings.TableSize.{TableSize}
 use Rattle.racl_io.specs.declared.fault.Fault.{Fault}
 use Rattle.racl_io.specs.declared.fault.Fault.TheVariants.{Write}
 use Rattle.racl_io.specs.declared.totals_and_truncation.Totals.{Totals}
+use Rattle.racl_io.specs.Inputs.{most_bytes}
 use Rattle.racl_io.specs.Reports.{totals_of}
 use Rattle.racl_io.specs.Tellings.{Wording, lines_in, report_in, told_alone}
 use Rattle.racl_report.specs.declared.saved_packets.Saves.{Saves}
-use Rattle.filter_run.specs.Starts.{behind_header}
+use Rattle.filter_run.specs.Starts.{Start, behind_header, most_at}
 use Rattle.capture_stream.specs.Lives.{HaveFailed}
 use Rattle.capture_stream.specs.Savings.{manner_of, outputs}
 use Rattle.filter_run.proofs.TellLemmas.{failed_since, fault_as}
@@ -181,9 +182,16 @@ whole_capture before left after order head read rest packets truncated consumed 
       (packets, (order, rest, header.right, subst (λ (b : List ℕ). AreRecords order b packets rest) (sym behind) records, end), refl),
     )
 
+-- behind a header no byte was read before, and none of an input stands there
+pub front_behind : (start : Start) (order : Order) → start ≡ behind_header order → length start.front ≤ most_at start.input
+front_behind start order same = subst (λ (s : Start). length s.front ≤ most_at s.input) (sym same) (omega arith)
+
+pub input_behind : (start : Start) (order : Order) → start ≡ behind_header order → IfSome start.input (λ before. before ≤ most_bytes)
+input_behind start order same = subst (λ (s : Start). IfSome s.input (λ before. before ≤ most_bytes)) (sym same) tt
+
 -- ---- All packets are one's own
 
-all_own : (packets : List PacketFacts) → own_packets (own_among None) 1 packets ≡ packets
+pub all_own : (packets : List PacketFacts) → own_packets (own_among None) 1 packets ≡ packets
 all_own packets = all_in 1 packets packets refl
 
 all_lines : (wording : Wording) (n : ℕ) (packets : List PacketFacts) (verdicts : List Verdict)
@@ -251,12 +259,12 @@ live_report options text before left after policy order wording totals report sa
 -- the report was written and packets saved, or why they weren't
 module _ {S : Type 0} (T : Type 0) (sink : S → Option (List ℕ)) (failures : S → ℕ) (options : Options) (text : List ℕ) (before left after old new : Option (List ℕ)) (policy : PolicyFacts)
     (says : IsPolicyText text policy) (order : Order) (header : HasReadHeader before left order) (first : Saves S) (mid last : LiveSaves S) (got : HaveGot sink header.header first mid.files) where
-  pub live_ends : (wording : Wording) (result : Result Totals Fault) → TellsAsAsked options text policy wording
+  live_ends_behind : (wording : Wording) (result : Result Totals Fault) → TellsAsAsked options text policy wording
       → TellsOwn T options text no_note (manner_of wording (Keeps sink failures)) policy (own_among None) (behind_header order) left after (outputs old mid) (outputs new last) result
       → MatchResult result (HasRunLive sink options text before (outputs old first) (outputs new last.files))
       (IsLiveRunFault T sink options text before after (outputs old first) (outputs new last.files))
   unfolding live_report
-  live_ends wording (Ok totals) tells told = record {
+  live_ends_behind wording (Ok totals) tells told = record {
     report = told.report;
     is = live_report options text before left after policy order wording totals told.report says tells header told.is;
     written = told.written;
@@ -265,7 +273,7 @@ module _ {S : Type 0} (T : Type 0) (sink : S → Option (List ℕ)) (failures : 
         (have_saved sink failures order header.header told.is.read told.whole told.is.rest (end_of told.is.truncated) told.verdicts first mid.files last.files header.headed header.whole
         told.spelt told.is.end got told.saved);
   }
-  live_ends wording (Err fault) tells (inl why) = inr (inl (
+  live_ends_behind wording (Err fault) tells (inl why) = inr (inl (
     head_in policy says order header,
     wording,
     tells,
@@ -273,7 +281,7 @@ module _ {S : Type 0} (T : Type 0) (sink : S → Option (List ℕ)) (failures : 
         mid last first last.files
         (λ whole verdicts saved. first_saved sink failures order header.header whole verdicts first mid.files last.files header.headed header.whole got saved) fault why,
   ))
-  live_ends wording (Err fault) tells (inr cut) = inr (inr (record {
+  live_ends_behind wording (Err fault) tells (inr cut) = inr (inr (record {
     failed = cut.failed;
     ended = cut.is.ended;
     totals = cut.totals;
@@ -281,6 +289,15 @@ module _ {S : Type 0} (T : Type 0) (sink : S → Option (List ℕ)) (failures : 
     is = live_report options text before left after policy order wording cut.totals cut.report says tells header cut.is;
     front = cut.front;
   }))
+
+  pub live_ends : (start : Start) (wording : Wording) (result : Result Totals Fault) → start ≡ behind_header order → TellsAsAsked options text policy wording
+      → TellsOwn T options text no_note (manner_of wording (Keeps sink failures)) policy (own_among None) start left after (outputs old mid) (outputs new last) result
+      → MatchResult result (HasRunLive sink options text before (outputs old first) (outputs new last.files))
+      (IsLiveRunFault T sink options text before after (outputs old first) (outputs new last.files))
+  unfolding live_ends_behind
+  live_ends start wording result same tells told =
+      live_ends_behind wording result tells
+      (subst (λ (s : Start). TellsOwn T options text no_note (manner_of wording (Keeps sink failures)) policy (own_among None) s left after (outputs old mid) (outputs new last) result) same told)
 
 -- which devices failed since then
 pub write_since : (written writing saved saving first second : ℕ) (result : Result Totals Fault) → first ≡ written → second ≡ saved

@@ -167,7 +167,17 @@ module _ (options : Options) (front : List ℕ) (headed : Headed) (has : HasHead
 
   stands : (read : List ℕ) → HasRecords (front ++ read) policy headed.order (drop headed.from front ++ read)
   stands read =
-      subst (HasRecords (front ++ read) policy headed.order) (drop-append-le headed.from front read has.within.1) (headed_records options front read headed has)
+      let all = headed_records options front read headed has in
+      record {
+        parts = all.parts;
+        parted = all.parted;
+        said = all.said;
+        plain = all.plain;
+        capture = all.capture;
+        spelt = all.spelt;
+        header = all.header;
+        behind = sym (drop-append-le headed.from front read has.within.1) ∙ all.behind;
+      }
 
   few_in_all : (read : List ℕ) → length front ≤ most_bytes → length (drop headed.from front ++ read) ≤ most_bytes - headed.from → length (front ++ read) ≤ most_bytes
   few_in_all read few fits =
@@ -180,6 +190,7 @@ module _ (options : Options) (front : List ℕ) (headed : Headed) (has : HasHead
   pub headed_report : (before after : Option (List ℕ)) (judged : JudgedFacts) (report : List ℕ) (totals : Totals) → length front ≤ most_bytes
       → (is : HasJudged options policy (start_of front headed) before after judged) → IsReportOn options has.parts.policy policy (packets_at 0 is.packets) judged report
       → totals ≡ totals_of judged.outcome.verdicts judged.outcome.captures → HoldsReport options front before report totals
+  unfolding stands headed_records records_more
   headed_report before after judged report totals fits is on counted =
       let at = stands is.read in
       let few = few_in_all is.read fits is.few in

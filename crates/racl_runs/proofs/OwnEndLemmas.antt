@@ -171,6 +171,7 @@ module _ {T K : Type 0} (way : LiveWay) (tables : SizedTables) (dated : Dated (S
         ended = all.all.ended;
         packets = all.all.packets;
         rest = all.all.rest;
+        few = all.all.few;
         records = all.all.records;
         truncated = all.all.truncated;
         end = all.all.end;

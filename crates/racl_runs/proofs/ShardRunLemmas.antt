@@ -10,7 +10,7 @@ use Rattle.racl_io.specs.Tellings.{Wording}
 use Rattle.racl_options.specs.ShardWords.{shard_facts}
 use Rattle.racl_options.specs.declared.settings.Options.{Options}
 use Rattle.racl_options.specs.declared.settings.ShardAsked.{ShardAsked}
-use Rattle.filter_run.specs.Starts.{behind_header}
+use Rattle.filter_run.specs.Starts.{Start, behind_header}
 use Rattle.capture_stream.specs.Savings.{manner_of, outputs}
 use Rattle.filter_run.proofs.TellLemmas.{fault_as}
 use Rattle.racl_report.specs.declared.saved_packets.Saves.{Saves}
@@ -111,18 +111,19 @@ module _ {S : Type 0} (T : Type 0) (sink : S → Option (List ℕ)) (failures : 
   }))
 
   -- and so where what saves them was given the files, and gave them back
-  pub shard_ends_with : (shard : Shard) (final : LiveSaves S) (wording : Wording) (result : Result Totals Fault) → mid.shard ≡ shard → final ≡ last.inner
+  pub shard_ends_with : (start : Start) (shard : Shard) (final : LiveSaves S) (wording : Wording) (result : Result Totals Fault) → start ≡ behind_header order → mid.shard ≡ shard → final ≡ last.inner
       → IsShardOver options.tables asked shard → TellsAsAsked options text policy wording
-      → TellsOwn T options text (note_for options (Some shard)) (manner_of wording gave) policy (own_of shard) (behind_header order) left after (outputs old mid) (outputs new last) result
+      → TellsOwn T options text (note_for options (Some shard)) (manner_of wording gave) policy (own_of shard) start left after (outputs old mid) (outputs new last) result
       → MatchResult result (HasRunShard sink options (shard_facts asked) text before (outputs old first) (outputs new final.files))
       (IsShardFault T sink options (shard_facts asked) text before after (outputs old first) (outputs new final.files))
-  shard_ends_with shard final wording result at back over tells told =
+  shard_ends_with start shard final wording result same at back over tells told =
       subst (λ (f : LiveSaves S). MatchResult result (HasRunShard sink options (shard_facts asked) text before (outputs old first) (outputs new f.files))
       (IsShardFault T sink options (shard_facts asked) text before after (outputs old first) (outputs new f.files))) (sym back)
       (shard_ends wording result tells
       (subst (λ (s : Shard). TellsOwn T options text (shard_note options (shard_facts asked)) (manner_of wording gave) policy (own_of s) (behind_header order) left after (outputs old mid) (outputs new last) result) (sym at)
       (subst (λ (n : Note). TellsOwn T options text n (manner_of wording gave) policy (own_of shard) (behind_header order) left after (outputs old mid) (outputs new last) result)
-      (note_is options asked shard over) told)))
+      (note_is options asked shard over)
+      (subst (λ (s : Start). TellsOwn T options text (note_for options (Some shard)) (manner_of wording gave) policy (own_of shard) s left after (outputs old mid) (outputs new last) result) same told))))
 
 -- which devices failed since files were given and given back
 pub failed_with : {S : Type 0} (failures : S → ℕ) (written writing first : ℕ) (saves begun mid last final : LiveSaves S) (result : Result Totals Fault) → first ≡ written

@@ -8,7 +8,7 @@ ghost use Rattle.racl_runs.specs.Reads.{AnswersInput, AnswersRead, HasHeaded, Ha
 ghost use Rattle.racl_runs.specs.inner.HeldTexts.{without_device};
 
 use crate::asked_lines::AskedLines;
-use crate::captures_at_hand::report_at_hand;
+use crate::captures_at_hand::{AtHand, report_at_hand};
 use crate::digit_captures::{Decoded, decode_captures};
 use crate::input_front::{Headed, Marked};
 use crate::live_run::{LiveHead, LiveWay, tell_capture};
@@ -126,19 +126,14 @@ pub fn report_digits<T: Clock + Threads + Wait + Sync>(
         Ok(decoded) => decoded,
         Err(fault) => return Err(fault),
     };
-    let Ok(prepared) = filter.prepare(alloc, expected_packets(true, bytes.len() / 2)) else {
-        return Err(Fault::Memory);
-    };
-    let Ok(ready) = filter.ready_with(alloc, &prepared) else {
-        return Err(Fault::Memory);
-    };
-    let way = LiveWay {
-        options,
+    let at_hand = AtHand {
+        filter: &filter,
         text: &bytes[..text],
-        filter: &ready,
+        captures: &captures,
+        told: &told,
     };
     let mut held = Device::new(Vec::new(alloc));
-    match report_at_hand(rt, alloc, way, &captures, &told, &mut held) {
+    match report_at_hand(rt, alloc, options, at_hand, &mut held) {
         Ok(totals) => {
             let Device { inner, .. } = held;
             Ok(HeldReport {

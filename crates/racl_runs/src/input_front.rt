@@ -71,10 +71,10 @@ pub fn open_input(alloc: Global, options: &Options, bytes: &[u8]) -> Result<Open
                 from: from + 24,
             }))
         }
-        form => Ok(Opened::Whole(Marked {
+        Form::Hexadecimal | Form::Numbered(_) => Ok(Opened::Whole(Marked {
             filter,
             text: input.policy.len(),
-            form,
+            form: input.form,
             from,
         })),
     }

@@ -6,9 +6,7 @@ ghost use Rattle.racl_report.specs.WrittenReports.{EndsOnce};
 ghost use Rattle.racl_runs.specs.InterfaceRuns.{AnswersRightApart, HasRunApart, IsSystemApart, RefusesApart};
 ghost use Rattle.racl_runs.specs.inner.InterfaceChecks.{AreRightParts};
 
-use crate::captures_at_hand::report_at_hand;
-use crate::live_run::LiveWay;
-use crate::run_plan::EXPECTED;
+use crate::captures_at_hand::{AtHand, report_at_hand};
 use acl_policy::read_policy;
 use flow_workers::Filter;
 use racl_io::{Captured, Fault, Sink, Totals};
@@ -69,19 +67,13 @@ fn run_checked<W: Sink, T: Clock + Threads + Wait + Sync>(
     ensures ok { IfOk result (HasRunApart options.now input.now.text.items input.now.captures.items (W.bytes writer.old) (W.bytes writer.new)) }
     ensures ends { EndsOnce W.failures writer.old writer.new result }
 {
-    let filter = &right.filter;
-    let Ok(prepared) = filter.prepare(alloc, EXPECTED) else {
-        return Err(Fault::Memory);
-    };
-    let Ok(ready) = filter.ready_with(alloc, &prepared) else {
-        return Err(Fault::Memory);
-    };
-    let way = LiveWay {
-        options,
+    let at_hand = AtHand {
+        filter: &right.filter,
         text: &input.text,
-        filter: &ready,
+        captures: &input.captures,
+        told: &right.told,
     };
-    report_at_hand(rt, alloc, way, &input.captures, &right.told, writer)
+    report_at_hand(rt, alloc, options, at_hand, writer)
 }
 
 /// Filters captures of interfaces, one after the other, by a policy, and writes the report. What has a fault gets the first

@@ -1,4 +1,4 @@
-use Rattle.std.proofs.Common.{◌≡◌, absurd, arith, inl, inr, refl, subst, sym}
+use Rattle.std.proofs.Common.{arith, subst}
 use Rattle.std.specs.Io.KnownBytes.{Appends}
 use Rattle.racl_runs.proofs.OutcomeLemmas.{has_reported, ran}
 use Rattle.racl_runs.proofs.ReadLemmas.{fault_of_right, fault_read, fault_refused, known_read, unwritten}
@@ -40,7 +40,7 @@ returns-in-Ok-write_all-clause-refuses g c =
     let held = c.in-Ok.ensures.ok in
     excluded_by_input _ _ _ (record { whole = held.known; few = held.few }) (λ fault of. absurd (held.is.answers.refuses fault of))
 
-pub returns-in-Err-write_all-clause-refuses : goal.returns-in-Err-write_all-clause-refuses
-returns-in-Err-write_all-clause-refuses g c =
+pub returns-clause-refuses : goal.returns-clause-refuses
+returns-clause-refuses g c =
     let held = c.in-Ok.ensures.ok in
     excluded_by_input _ _ _ (record { whole = held.known; few = held.few }) (λ fault of. absurd (held.is.answers.refuses fault of))
