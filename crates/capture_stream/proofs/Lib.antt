@@ -1,2 +1,1 @@
-pub mod FeedLemmas
-pub mod WalkLemmas
+pub mod PartingLemmas

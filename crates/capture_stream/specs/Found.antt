@@ -5,7 +5,7 @@ use Rattle.packet_view.specs.Fronts.{Stops}
 use Rattle.packet_view.specs.Marks.{IsMark}
 use Rattle.packet_view.specs.RecordLists.{bytes_of, records_from}
 use Rattle.packet_view.specs.declared.capture.Order.{Order}
-use Rattle.capture_stream.specs.declared.windows_of_records.Found.{Found}
+use Rattle.capture_stream.specs.declared.found_records.Found.{Found}
 
 -- the bytes behind the records
 abbrev pub behind_of : List ℕ → Found → List ℕ

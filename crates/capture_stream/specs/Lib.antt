@@ -1,9 +1,8 @@
 pub mod Arrivals
-pub mod Feeding
 pub mod Found
 pub mod Histories
 pub mod Lives
+pub mod Parting
 pub mod ReadSizes
 pub mod Savings
-pub mod Streams
 pub mod inner

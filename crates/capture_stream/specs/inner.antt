@@ -1,3 +1,1 @@
-pub mod Feedings
-pub mod Walks
-pub mod Windows
+pub mod Partings

@@ -1,18 +1,16 @@
-//! A capture that is parted into records while it is read, and judged: the packets of one window, and beside it the next window is read.
+//! A capture that is parted into records while it is read, and those who judge its packets and save its records.
 #![tactic(auto)]
 
 mod arrivals;
-mod engine;
+mod found_records;
 mod judge;
 mod live_read_sizes;
+mod record_parting;
 mod saver;
-mod stream_judging;
-mod windows_of_records;
 
 pub use arrivals::{Arrival, Arrivals, FaultAt};
-pub use engine::{Engine, is_cut};
+pub use found_records::{Found, find_records};
 pub use judge::Judge;
 pub use live_read_sizes::ReadSize;
+pub use record_parting::{RecordParting, is_cut};
 pub use saver::{Saver, Unsaved};
-pub use stream_judging::{Opening, Streamed, judge_stream};
-pub use windows_of_records::{Found, WindowSize, find_records};

@@ -14,7 +14,7 @@ use Rattle.racl_io.specs.declared.fault.Fault.{Fault}
 use Rattle.racl_io.specs.declared.fault.Fault.TheVariants as fault
 use Rattle.racl_io.specs.declared.totals_and_truncation.Captured.{Captured}
 use Rattle.racl_io.proofs.TellingLemmas.{alone_truncated, front_on}
-use Rattle.capture_stream.specs.Feeding.{rest_in}
+use Rattle.capture_stream.specs.Parting.{rest_in}
 use Rattle.capture_stream.specs.Lives.{with_read}
 use Rattle.capture_stream.specs.declared.arrivals.FaultAt.{FaultAt}
 use Rattle.filter_run.specs.Batches.{AreEach, JudgedBatch, batches_of, packets_in, packets_of, said_of}
@@ -73,19 +73,19 @@ module _ {J K R W : Type 0} (Became : J → List PacketFacts → List Verdict �
     Other = AlsoJudged judges.second.inner
 
     abbrev Compared : List ℕ → Type 0
-    Compared rest = HaveCompared One Other source.engine.order (bytes source.reader.now) (bytes then.reader.now) rest
+    Compared rest = HaveCompared One Other source.parting.order (bytes source.reader.now) (bytes then.reader.now) rest
 
     abbrev Fails : Option (List ℕ) → Fault → Type 0
-    Fails last found = IsComparingFault facts One Other source.engine.order (bytes source.reader.now) (bytes then.reader.now) (written old.writer.now) last found
+    Fails last found = IsComparingFault facts One Other source.parting.order (bytes source.reader.now) (bytes then.reader.now) (written old.writer.now) last found
 
     -- ---- What was compared
 
-    module _ (judged : List (JudgedBatch (Verdict × Verdict))) (each : AreEach judged) (numbered : AreNumbered 0 source.engine.order (batches_of judged))
+    module _ (judged : List (JudgedBatch (Verdict × Verdict))) (each : AreEach judged) (numbered : AreNumbered 0 source.parting.order (batches_of judged))
         (at : Both (OneFilter J) (OneFilter K)) (said : HaveSaid Became Judged Also AlsoJudged judges (packets_of judged) (said_of judged) at) (rest : List ℕ)
-        (given : HasGivenSome (behind_header source.engine.order) (bytes source.reader.now) (bytes then.reader.now) (batches_of judged) rest) where
+        (given : HasGivenSome (behind_header source.parting.order) (bytes source.reader.now) (bytes then.reader.now) (batches_of judged) rest) where
       compared_so : Compared rest
       compared_so =
-          let packets = packets_one 0 source.engine.order judged numbered in
+          let packets = packets_one 0 source.parting.order judged numbered in
           record {
             read = given.read;
             consumed = given.consumed;
@@ -104,11 +104,11 @@ module _ {J K R W : Type 0} (Became : J → List PacketFacts → List Verdict �
       changes_so : changes_of facts judged ≡ changes_in facts compared_so
       unfolding compared_so
       changes_so =
-          changes_one facts 0 source.engine.order judged numbered each
-          ∙ ap (changes_from facts 1 (firsts (said_of judged)) (seconds (said_of judged))) (packets_one 0 source.engine.order judged numbered)
+          changes_one facts 0 source.parting.order judged numbered each
+          ∙ ap (changes_from facts 1 (firsts (said_of judged)) (seconds (said_of judged))) (packets_one 0 source.parting.order judged numbered)
 
       told_so : Appends (written old.writer.now) (written new.writer.now) (text_of facts judged)
-          → HasToldSome facts One Other source.engine.order (bytes source.reader.now) (bytes then.reader.now) (written old.writer.now) (written new.writer.now) rest
+          → HasToldSome facts One Other source.parting.order (bytes source.reader.now) (bytes then.reader.now) (written old.writer.now) (written new.writer.now) rest
       told_so text = record {
         compared = compared_so;
         lines = lines_by facts.after (changes_in facts compared_so);
@@ -117,7 +117,7 @@ module _ {J K R W : Type 0} (Became : J → List PacketFacts → List Verdict �
       }
 
       cut_so : GotFront (written old.writer.now) (written new.writer.now) (text_of facts judged)
-          → HasToldPart facts One Other source.engine.order (bytes source.reader.now) (bytes then.reader.now) (written old.writer.now) (written new.writer.now)
+          → HasToldPart facts One Other source.parting.order (bytes source.reader.now) (bytes then.reader.now) (written old.writer.now) (written new.writer.now)
       cut_so front = record {
         rest = rest;
         compared = compared_so;
@@ -128,7 +128,7 @@ module _ {J K R W : Type 0} (Became : J → List PacketFacts → List Verdict �
 
       -- the source failed
       why_so : Appends (written old.writer.now) (written new.writer.now) (text_of facts judged) → (found : Fault)
-          → IsWhy (behind_header source.engine.order) given.read (bytes then.reader.now) (batches_of judged) rest found → Fails (written new.writer.now) found
+          → IsWhy (behind_header source.parting.order) given.read (bytes then.reader.now) (batches_of judged) rest found → Fails (written new.writer.now) found
       unfolding compared_so told_so
       why_so text fault.Memory why = (rest, told_so text)
       why_so text fault.Read why = (rest, told_so text, why.0, why.1)
@@ -138,14 +138,14 @@ module _ {J K R W : Type 0} (Became : J → List PacketFacts → List Verdict �
 
     -- ---- Why not all was told
 
-    stopped_so : start_of source ≡ behind_header source.engine.order → (found : FaultAt) → HasStopped compared_words source judges old then new found → Fails (written new.writer.now) found.fault
+    stopped_so : start_of source ≡ behind_header source.parting.order → (found : FaultAt) → HasStopped compared_words source judges old then new found → Fails (written new.writer.now) found.fault
     unfolding why_so
     stopped_so alone found stopped =
         let behind = subst (λ (start : Start). StopsBehind start (bytes source.reader.now) (bytes then.reader.now) (batches_of stopped.judged) found.fault) alone
         (one_stopped bytes failures (HaveSaid Became Judged Also AlsoJudged) (HasToldChanges written writing) (HasCutChanges written writing) source then judges old new found stopped) in
         why_so stopped.judged stopped.each behind.numbered stopped.said.0 stopped.said.1 behind.rest behind.some stopped.told.text found.fault behind.why
 
-    run_cut : start_of source ≡ behind_header source.engine.order → (found : FaultAt) (which : Fault) (ended : HasCutRun compared_words source judges old then new found)
+    run_cut : start_of source ≡ behind_header source.parting.order → (found : FaultAt) (which : Fault) (ended : HasCutRun compared_words source judges old then new found)
         → HasCutChanges written writing old (ended.earlier ++ ended.last ∷ []) which new → Fails (written new.writer.now) which
     unfolding told_so cut_so
     run_cut alone found fault.Memory ended cut =
@@ -156,15 +156,15 @@ module _ {J K R W : Type 0} (Became : J → List PacketFacts → List Verdict �
         (subst (λ (b : Option (List ℕ)). Appends (written old.writer.now) b (text_of facts cut.earlier)) (sym cut.front) cut.text) in
         (behind.rest, told_so ended.earlier (each_front ended.earlier (ended.last ∷ []) ended.each) behind.numbered ended.before.0 ended.before.1 behind.rest behind.some text)
     run_cut alone found fault.Write ended cut =
-        let some = subst (λ (start : Start). HasGivenSome start (bytes source.reader.now) (bytes then.reader.now) (batches_of (ended.earlier ++ ended.last ∷ [])) (rest_in then.engine)) alone
+        let some = subst (λ (start : Start). HasGivenSome start (bytes source.reader.now) (bytes then.reader.now) (batches_of (ended.earlier ++ ended.last ∷ [])) (rest_in then.parting)) alone
         ended.gave.some in
         let front = front_on (written old.writer.now) cut.before (written new.writer.now) (text_of facts cut.earlier) (text_of facts (cut.last ∷ [])) cut.text cut.front in
-        cut_so (ended.earlier ++ ended.last ∷ []) ended.each ended.gave.numbered ended.said.0 ended.said.1 (rest_in then.engine) some
+        cut_so (ended.earlier ++ ended.last ∷ []) ended.each ended.gave.numbered ended.said.0 ended.said.1 (rest_in then.parting) some
         (subst (GotFront (written old.writer.now) (written new.writer.now)) (sym (text_both facts cut.earlier cut.last) ∙ ap (text_of facts) (sym cut.all)) front)
     run_cut alone found which ended cut = absurd cut.front
 
-    pub compared_fault : start_of source ≡ behind_header source.engine.order → (found : FaultAt) → IsRunFault compared_words source judges old then new found
-        → IsComparingFault (pair_facts old.policies) (Judged judges.first.inner) (AlsoJudged judges.second.inner) source.engine.order (bytes source.reader.now) (bytes then.reader.now)
+    pub compared_fault : start_of source ≡ behind_header source.parting.order → (found : FaultAt) → IsRunFault compared_words source judges old then new found
+        → IsComparingFault (pair_facts old.policies) (Judged judges.first.inner) (AlsoJudged judges.second.inner) source.parting.order (bytes source.reader.now) (bytes then.reader.now)
         (written old.writer.now) (written new.writer.now) found.fault
     unfolding stopped_so run_cut
     compared_fault alone found (inl stopped) = stopped_so alone found stopped
@@ -187,9 +187,9 @@ module _ {J K R W : Type 0} (Became : J → List PacketFacts → List Verdict �
     -- ---- All was compared
 
     module _ (at : Both (OneFilter J) (OneFilter K)) (captures : List Captured) (ran : Ran compared_words source judges old then at new captures) (truncated : Bool)
-        (cut : truncated ≡ is_truncated captures) (totals : ChangeTotals) (are : totals ≡ record new.totals { truncated = truncated }) (alone : start_of source ≡ behind_header source.engine.order)
+        (cut : truncated ≡ is_truncated captures) (totals : ChangeTotals) (are : totals ≡ record new.totals { truncated = truncated }) (alone : start_of source ≡ behind_header source.parting.order)
         (last : Option (List ℕ)) where
-      some_all : HasGivenSome (behind_header source.engine.order) (bytes source.reader.now) (bytes then.reader.now) (batches_of ran.judged) ran.over.rest
+      some_all : HasGivenSome (behind_header source.parting.order) (bytes source.reader.now) (bytes then.reader.now) (batches_of ran.judged) ran.over.rest
       some_all = subst (λ (start : Start). HasGivenSome start (bytes source.reader.now) (bytes then.reader.now) (batches_of ran.judged) ran.over.rest) alone ran.over.some
 
       compared_all : Compared ran.over.rest
@@ -204,7 +204,7 @@ module _ {J K R W : Type 0} (Became : J → List PacketFacts → List Verdict �
       counted_all =
           let n = length (records_of (batches_of ran.judged)) in
           are ∙ ap (λ (t : ChangeTotals). record t { truncated = truncated }) ran.told.totals
-          ∙ ap₂ (λ (cs : List ChangeFacts) m. totals_of cs m truncated) changes_all (count_one 0 source.engine.order ran.judged ran.over.numbered ran.each)
+          ∙ ap₂ (λ (cs : List ChangeFacts) m. totals_of cs m truncated) changes_all (count_one 0 source.parting.order ran.judged ran.over.numbered ran.each)
           ∙ ap (totals_of (changes_in facts compared_all) n) (cut ∙ ap is_truncated ran.over.told ∙ sym (alone_truncated n ran.over.truncated))
 
       text_all : Appends (written old.writer.now) (written new.writer.now) (lines_by facts.after (changes_in facts compared_all))
@@ -212,7 +212,7 @@ module _ {J K R W : Type 0} (Became : J → List PacketFacts → List Verdict �
 
       -- and all of it was told
       pub compared_told : Appends (written new.writer.now) last (end_of_report totals)
-          → HasToldAll (pair_facts old.policies) (Judged judges.first.inner) (AlsoJudged judges.second.inner) source.engine.order (bytes source.reader.now) (bytes then.reader.now)
+          → HasToldAll (pair_facts old.policies) (Judged judges.first.inner) (AlsoJudged judges.second.inner) source.parting.order (bytes source.reader.now) (bytes then.reader.now)
           (written old.writer.now) last totals
       unfolding counted_all text_all
       compared_told wrote = record {
@@ -229,7 +229,7 @@ module _ {J K R W : Type 0} (Became : J → List PacketFacts → List Verdict �
 
       -- or of what stands at the end a front was
       pub compared_cut : (found : Fault) → found ≡ fault.Write → GotFront (written new.writer.now) last (end_of_report totals)
-          → IsComparingFault (pair_facts old.policies) (Judged judges.first.inner) (AlsoJudged judges.second.inner) source.engine.order (bytes source.reader.now) (bytes then.reader.now)
+          → IsComparingFault (pair_facts old.policies) (Judged judges.first.inner) (AlsoJudged judges.second.inner) source.parting.order (bytes source.reader.now) (bytes then.reader.now)
           (written old.writer.now) last found
       unfolding counted_all text_all
       compared_cut found which front =

@@ -27,12 +27,12 @@ fn tell_all<J: Judge, K: Judge, R: Source, W: Sink>(
     lines: &mut ChangeLines<'_, '_, W>,
 ) -> Result<ChangeTotals, Fault>
     requires begun { IsBegun (HasGiven R.bytes R.failures) (HaveSaid J.became J.judged K.became K.judged) (HasToldChanges W.bytes W.failures) source.old judges.old lines.old }
-    requires alone { start_of source.old ≡ behind_header source.old.engine.order }
+    requires alone { start_of source.old ≡ behind_header source.old.parting.order }
     ensures same_reader { source.new.reader.ghost_name ≡ source.old.reader.ghost_name }
     ensures same_writer { lines.new.writer.ghost_name ≡ lines.old.writer.ghost_name }
     ensures told { let facts = pair_facts lines.old.policies in let before = R.bytes source.old.reader.now in let after = R.bytes source.new.reader.now in
         let one = J.judged judges.old.first.inner in let other = K.judged judges.old.second.inner in
-        MatchResult result (HasToldAll facts one other source.old.engine.order before after (W.bytes lines.old.writer.now) (W.bytes lines.new.writer.now)) (IsComparingFault facts one other source.old.engine.order before after (W.bytes lines.old.writer.now) (W.bytes lines.new.writer.now)) }
+        MatchResult result (HasToldAll facts one other source.old.parting.order before after (W.bytes lines.old.writer.now) (W.bytes lines.new.writer.now)) (IsComparingFault facts one other source.old.parting.order before after (W.bytes lines.old.writer.now) (W.bytes lines.new.writer.now)) }
     ensures read { MatchResult result (λ _. R.failures source.new.reader.now ≡ R.failures source.old.reader.now) (λ fault. R.failures source.new.reader.now ≡ with_read (R.failures source.old.reader.now) fault) }
     ensures write { MatchResult result (λ _. W.failures lines.new.writer.now ≡ W.failures lines.old.writer.now) (λ fault. W.failures lines.new.writer.now ≡ with_write (W.failures lines.old.writer.now) fault) }
 {

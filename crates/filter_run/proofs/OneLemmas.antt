@@ -9,7 +9,7 @@ use Rattle.packet_view.proofs.RecordListLemmas.{records_within}
 use Rattle.racl_io.specs.declared.fault.Fault.{Fault}
 use Rattle.racl_io.specs.declared.fault.Fault.TheVariants as fault
 use Rattle.racl_io.specs.declared.totals_and_truncation.Captured.{Captured}
-use Rattle.capture_stream.specs.Feeding.{rest_in}
+use Rattle.capture_stream.specs.Parting.{rest_in}
 use Rattle.capture_stream.specs.Lives.{with_read}
 use Rattle.capture_stream.specs.declared.arrivals.FaultAt.{FaultAt}
 use Rattle.filter_run.specs.Batches.{AreAllWhole, AreEach, BatchFacts, JudgedBatch, batches_of, packets_of, said_of}
@@ -88,10 +88,10 @@ given_front start before after batches gone rest are whole given =
 -- many batches or packets have many bytes
 pub many_read : {V R : Type 0} (bytes : R → Option (List ℕ)) (failures : R → ℕ) (begun then : OneCapture R) (judged : List (JudgedBatch V))
     → (gave : HasGiven bytes failures begun (batches_of judged) then) → AreEach judged → (most ≤ length judged) ⊎ (most ≤ length (said_of judged))
-    → most_at begun.input < length (rest_in begun.engine ++ gave.some.read)
+    → most_at begun.input < length (rest_in begun.parting ++ gave.some.read)
 many_read bytes failures begun then judged gave each many =
-    let order = begun.engine.order in
-    let within = records_within order (rest_in begun.engine ++ gave.some.read) (records_of (batches_of judged)) (rest_in then.engine) gave.some.records in
+    let order = begun.parting.order in
+    let within = records_within order (rest_in begun.parting ++ gave.some.read) (records_of (batches_of judged)) (rest_in then.parting) gave.some.records in
     let parts = gave.parts in
     let size = gave.size in
     let few = most_few begun.input in
@@ -122,21 +122,21 @@ module _ {R J O V : Type 0} (bytes : R → Option (List ℕ)) (failures : R → 
   pub one_stopped : (found : FaultAt) (stopped : HasStopped one_words source judge observer then after found)
       → StopsBehind (start_of source) (bytes source.reader.now) (bytes then.reader.now) (batches_of stopped.judged) found.fault
   one_stopped found stopped =
-      let order = source.engine.order in
+      let order = source.parting.order in
       let batches = batches_of stopped.judged in
       elim stopped.why [
         | inl failed ↦ record { rest = failed.rest; some = failed.some; numbered = failed.numbered; why = failed.why }
         | inr (inl (memory, gone, place, gave)) ↦
             let numbered = numbered_front 0 order batches (gone ∷ []) gave.numbered in
             subst (StopsBehind (start_of source) (bytes source.reader.now) (bytes then.reader.now) batches) (sym memory) (record {
-              rest = bytes_of (gone ∷ []) ++ rest_in then.engine;
-              some = given_front (start_of source) (bytes source.reader.now) (bytes then.reader.now) batches (gone ∷ []) (rest_in then.engine) numbered stopped.whole gave.some;
+              rest = bytes_of (gone ∷ []) ++ rest_in then.parting;
+              some = given_front (start_of source) (bytes source.reader.now) (bytes then.reader.now) batches (gone ∷ []) (rest_in then.parting) numbered stopped.whole gave.some;
               numbered = numbered;
               why = tt;
             })
         | inr (inr (large, gave, many)) ↦
             subst (λ (f : FaultAt). StopsBehind (start_of source) (bytes source.reader.now) (bytes then.reader.now) batches f.fault) (sym large) (record {
-              rest = rest_in then.engine;
+              rest = rest_in then.parting;
               some = gave.some;
               numbered = gave.numbered;
               why = many_read bytes failures source then stopped.judged gave stopped.each many;
@@ -147,16 +147,16 @@ module _ {R J O V : Type 0} (bytes : R → Option (List ℕ)) (failures : R → 
   pub one_earlier : (found : FaultAt) (ended : HasCutRun one_words source judge observer then after found)
       → StopsBehind (start_of source) (bytes source.reader.now) (bytes then.reader.now) (batches_of ended.earlier) fault.Memory
   one_earlier found ended =
-      let order = source.engine.order in
+      let order = source.parting.order in
       let batches = batches_of ended.earlier in
       let last = batches_of (ended.last ∷ []) in
       let both = map-append (λ (one : JudgedBatch V). one.batch) ended.earlier (ended.last ∷ []) in
-      let some = subst (λ (bs : List BatchFacts). HasGivenSome (start_of source) (bytes source.reader.now) (bytes then.reader.now) bs (rest_in then.engine)) both ended.gave.some in
+      let some = subst (λ (bs : List BatchFacts). HasGivenSome (start_of source) (bytes source.reader.now) (bytes then.reader.now) bs (rest_in then.parting)) both ended.gave.some in
       let numbered = numbered_front 0 order batches last (subst (AreNumbered 0 order) both ended.gave.numbered) in
       let whole = whole_front batches last (subst AreAllWhole both ended.whole) in
       record {
-        rest = bytes_of last ++ rest_in then.engine;
-        some = given_front (start_of source) (bytes source.reader.now) (bytes then.reader.now) batches last (rest_in then.engine) numbered whole some;
+        rest = bytes_of last ++ rest_in then.parting;
+        some = given_front (start_of source) (bytes source.reader.now) (bytes then.reader.now) batches last (rest_in then.parting) numbered whole some;
         numbered = numbered;
         why = tt;
       }
@@ -196,5 +196,5 @@ module _ {R J O V : Type 0} (bytes : R → Option (List ℕ)) (failures : R → 
 pub all_far : {R : Type 0} (bytes : R → Option (List ℕ)) (failures : R → ℕ) (source then : OneCapture R) (batches : List BatchFacts) (captures : List Captured)
     → HasGivenAll bytes failures source batches captures then → GaveWithin bytes source then
 all_far bytes failures source then batches captures all =
-    let few = all.few in let both = length-append (rest_in source.engine) all.some.read in
+    let few = all.few in let both = length-append (rest_in source.parting) all.some.read in
     (all.some.read, all.some.consumed, omega arith)

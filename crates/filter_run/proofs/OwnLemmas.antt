@@ -1,10 +1,9 @@
 -- Several captures that come: the lanes after a turn, and each capture's own records and packets.
 use Rattle.std.proofs.Common.{◌≡◌, ◌≢◌, ◌∙◌, ◌≤◌, ◌<◌, ℕ, Bool, List, [], ◌∷◌, ◌++◌, ap, ap₂, append-nil, arith, eq-eqb, eqb-true, inl, length, refl, subst, sym, true, false, true≢false}
 use Rattle.std.specs.Prelude.{get_or, if◌then◌else◌, nat_eq, set}
-use Rattle.std.proofs.lemmas.List.{get_or-set_other, get_or-set_same, length-append, length-map, length-set}
+use Rattle.std.proofs.lemmas.List.{get_or-set_other, get_or-set_same, length-append, length-map, length-set, map-append}
 use Rattle.std.proofs.lemmas.List.Elements.{filter-append}
 use Rattle.packet_view.specs.Captures.{PacketFacts, RecordFacts, packet_at, packets_at}
-use Rattle.capture_stream.proofs.FeedLemmas.{packets_both}
 use Rattle.filter_run.specs.Turns.{AreTurns, HaveCome, IsTurn, Turn, bytes_at, own_of, packets_of, records_at}
 use Rattle.filter_run.specs.declared.coming_captures.Lane.{Lane}
 use Rattle.filter_run.specs.inner.Lanes.{AreLanes, IsLane}
@@ -92,4 +91,4 @@ own_packets [] i = refl
 own_packets (turn ∷ turns) i =
     filter-append (λ (p : PacketFacts). nat_eq p.interface i) (packets_of turns) (packets_at turn.interface turn.records)
     ∙ ap₂ (λ (xs ys : List PacketFacts). xs ++ ys) (own_packets turns i) (own_part turn.interface i turn.records (nat_eq turn.interface i) refl)
-    ∙ sym (packets_both i (records_at i turns) (if nat_eq turn.interface i then turn.records else []))
+    ∙ sym (map-append (packet_at i) (records_at i turns) (if nat_eq turn.interface i then turn.records else []))

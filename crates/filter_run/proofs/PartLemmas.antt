@@ -11,7 +11,7 @@ use Rattle.packet_view.proofs.RecordListLemmas.{packets_count, records_few}
 use Rattle.racl_io.specs.Buffers.{held_by}
 use Rattle.capture_stream.specs.Found.{HaveFound, behind_of}
 use Rattle.capture_stream.specs.declared.arrivals.Arrival.{Arrival}
-use Rattle.capture_stream.specs.declared.windows_of_records.Found.{Found}
+use Rattle.capture_stream.specs.declared.found_records.Found.{Found}
 use Rattle.filter_run.specs.Batches.{batch_facts}
 use Rattle.filter_run.specs.declared.batch.Batch.{Batch}
 use Rattle.filter_run.specs.declared.coming_captures.Lane.{Lane}

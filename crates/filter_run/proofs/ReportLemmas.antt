@@ -15,7 +15,7 @@ use Rattle.racl_io.specs.declared.fault.Fault.TheVariants as fault
 use Rattle.racl_io.specs.declared.totals_and_truncation.Captured.{Captured}
 use Rattle.racl_io.proofs.ReportLemmas.{totals_counted}
 use Rattle.racl_io.proofs.TellingLemmas.{lines_in_both}
-use Rattle.capture_stream.specs.Feeding.{rest_in}
+use Rattle.capture_stream.specs.Parting.{rest_in}
 use Rattle.capture_stream.specs.Lives.{with_read}
 use Rattle.capture_stream.specs.Savings.{Manner, Outputs, manner_of, outputs}
 use Rattle.capture_stream.specs.declared.arrivals.FaultAt.{FaultAt}
@@ -83,22 +83,22 @@ module _ {J L K R W : Type 0} (Became : J → List PacketFacts → List Verdict 
   abbrev Fails : Fault → Type 0
   Fails found = IsLiveFault Judged manner judge (start_of source) (bytes source.reader.now) (bytes then.reader.now) began became found
 
-  module _ (judged : List (JudgedBatch Verdict)) (each : AreEach judged) (numbered : AreNumbered 0 source.engine.order (batches_of judged)) where
+  module _ (judged : List (JudgedBatch Verdict)) (each : AreEach judged) (numbered : AreNumbered 0 source.parting.order (batches_of judged)) where
     report_text : text_of (wording old.0.teller.now) judged ≡ lines_in (wording old.0.teller.now) 1 (packets_at 0 (records_of (batches_of judged))) (said_of judged)
     report_text =
-        lines_one (wording old.0.teller.now) 0 source.engine.order judged numbered each
-        ∙ ap (λ ps. lines_in (wording old.0.teller.now) 1 ps (said_of judged)) (packets_one 0 source.engine.order judged numbered)
+        lines_one (wording old.0.teller.now) 0 source.parting.order judged numbered each
+        ∙ ap (λ ps. lines_in (wording old.0.teller.now) 1 ps (said_of judged)) (packets_one 0 source.parting.order judged numbered)
 
     report_judged : (now : J) → HasSaid Became Judged judge (packets_of judged) (said_of judged) now → records_of (batches_of judged) ≢ []
         → Judged judge (packets_at 0 (records_of (batches_of judged))) (said_of judged)
     report_judged now said some =
-        subst (λ (ps : List PacketFacts). Judged judge ps (said_of judged)) (packets_one 0 source.engine.order judged numbered)
-        (said.judged (some_packets 0 source.engine.order judged numbered some))
+        subst (λ (ps : List PacketFacts). Judged judge ps (said_of judged)) (packets_one 0 source.parting.order judged numbered)
+        (said.judged (some_packets 0 source.parting.order judged numbered some))
 
-    report_saved : old.1.order ≡ source.engine.order → HasSavedSome saved saving old.1 judged new.1
-        → saved old.1.saver.now source.engine.order (bytes_of (batches_of judged)) (said_of judged) new.1.saver.now
+    report_saved : old.1.order ≡ source.parting.order → HasSavedSome saved saving old.1 judged new.1
+        → saved old.1.saver.now source.parting.order (bytes_of (batches_of judged)) (said_of judged) new.1.saver.now
     report_saved same_order told =
-        let all = told.all (subst (λ (o : Order). AreOf o judged) (sym same_order) (of_numbered 0 source.engine.order judged numbered)) in
+        let all = told.all (subst (λ (o : Order). AreOf o judged) (sym same_order) (of_numbered 0 source.parting.order judged numbered)) in
         subst (λ (o : Order). saved old.1.saver.now o (bytes_of (batches_of judged)) (said_of judged) new.1.saver.now) same_order
         (subst (λ (b : List ℕ). saved old.1.saver.now old.1.order b (said_of judged) new.1.saver.now) all.0
         (subst (λ (vs : List Verdict). saved old.1.saver.now old.1.order told.bytes vs new.1.saver.now) all.1 told.stand))
@@ -106,7 +106,7 @@ module _ {J L K R W : Type 0} (Became : J → List PacketFacts → List Verdict 
     -- all of it was told, before the rest
     some_told : (now : J) → HasSaid Became Judged judge (packets_of judged) (said_of judged) now → (rest : List ℕ)
         → HasGivenSome (start_of source) (bytes source.reader.now) (bytes then.reader.now) (batches_of judged) rest
-        → Appends (written old.0.writer.now) (written new.0.writer.now) (text_of (wording old.0.teller.now) judged) → old.1.order ≡ source.engine.order
+        → Appends (written old.0.writer.now) (written new.0.writer.now) (text_of (wording old.0.teller.now) judged) → old.1.order ≡ source.parting.order
         → HasSavedSome saved saving old.1 judged new.1 → HasToldSome Judged manner judge (start_of source) (bytes source.reader.now) (bytes then.reader.now) began became rest
     unfolding report_text report_judged report_saved
     some_told now said rest given text same_order kept = record {
@@ -116,7 +116,7 @@ module _ {J L K R W : Type 0} (Became : J → List PacketFacts → List Verdict 
       records = given.records;
       verdicts = said_of judged;
       judged = report_judged now said;
-      count = count_one 0 source.engine.order judged numbered each;
+      count = count_one 0 source.parting.order judged numbered each;
       text = subst (Appends (written old.0.writer.now) (written new.0.writer.now)) report_text text;
       whole = bytes_of (batches_of judged);
       spelt = given.spelt;
@@ -137,14 +137,14 @@ module _ {J L K R W : Type 0} (Became : J → List PacketFacts → List Verdict 
       records = given.records;
       verdicts = said_of judged;
       judged = report_judged now said;
-      count = count_one 0 source.engine.order judged numbered each;
+      count = count_one 0 source.parting.order judged numbered each;
       front = subst (GotFront (written old.0.writer.now) (written new.0.writer.now)) report_text front;
     }
 
     -- the source failed
     why_live : (now : J) → HasSaid Became Judged judge (packets_of judged) (said_of judged) now → (rest : List ℕ)
         → (given : HasGivenSome (start_of source) (bytes source.reader.now) (bytes then.reader.now) (batches_of judged) rest)
-        → Appends (written old.0.writer.now) (written new.0.writer.now) (text_of (wording old.0.teller.now) judged) → old.1.order ≡ source.engine.order
+        → Appends (written old.0.writer.now) (written new.0.writer.now) (text_of (wording old.0.teller.now) judged) → old.1.order ≡ source.parting.order
         → HasSavedSome saved saving old.1 judged new.1 → (found : Fault) → IsWhy (start_of source) given.read (bytes then.reader.now) (batches_of judged) rest found → Fails found
     unfolding some_told
     why_live now said rest given text same_order kept fault.Memory why = (rest, some_told now said rest given text same_order kept)
@@ -156,14 +156,14 @@ module _ {J L K R W : Type 0} (Became : J → List PacketFacts → List Verdict 
   -- ---- Why not all was told
 
   -- the run stopped
-  stopped_live : old.1.order ≡ source.engine.order → (found : FaultAt) → HasStopped report_words source (record { inner = judge }) old then new found → Fails found.fault
+  stopped_live : old.1.order ≡ source.parting.order → (found : FaultAt) → HasStopped report_words source (record { inner = judge }) old then new found → Fails found.fault
   unfolding why_live
   stopped_live same_order found stopped =
       let behind = one_stopped bytes failures said_so told_both cut_one source then (record { inner = judge }) old new found stopped in
       why_live stopped.judged stopped.each behind.numbered stopped.said.0.inner stopped.said.1 behind.rest behind.some stopped.told.0.text same_order stopped.told.1 found.fault behind.why
 
   -- the lines were cut
-  lines_live : old.1.order ≡ source.engine.order → (found : FaultAt) (which : Fault) (cut : HasCutRun report_words source (record { inner = judge }) old then new found)
+  lines_live : old.1.order ≡ source.parting.order → (found : FaultAt) (which : Fault) (cut : HasCutRun report_words source (record { inner = judge }) old then new found)
       → HasCutLines wording written writing old.0 (cut.earlier ++ cut.last ∷ []) which new.0
       → IsBeforeLast (HasSavedSome saved saving) old.1 (cut.earlier ++ cut.last ∷ []) new.1 → Fails which
   unfolding some_told some_part
@@ -175,22 +175,22 @@ module _ {J L K R W : Type 0} (Became : J → List PacketFacts → List Verdict 
       kept.told in
       (behind.rest, some_told cut.earlier (each_front cut.earlier (cut.last ∷ []) cut.each) behind.numbered cut.before.0.inner cut.before.1 behind.rest behind.some text same_order told)
   lines_live same_order found fault.Write cut lines kept =
-      some_part (cut.earlier ++ cut.last ∷ []) cut.each cut.gave.numbered cut.said.0.inner cut.said.1 (rest_in then.engine) cut.gave.some lines.text
+      some_part (cut.earlier ++ cut.last ∷ []) cut.each cut.gave.numbered cut.said.0.inner cut.said.1 (rest_in then.parting) cut.gave.some lines.text
   lines_live same_order found which cut lines kept = absurd lines.text
 
-  cut_live : old.1.order ≡ source.engine.order → (found : FaultAt) → HasCutRun report_words source (record { inner = judge }) old then new found → Fails found.fault
+  cut_live : old.1.order ≡ source.parting.order → (found : FaultAt) → HasCutRun report_words source (record { inner = judge }) old then new found → Fails found.fault
   unfolding lines_live some_part
   cut_live same_order found cut =
       let judged = cut.earlier ++ cut.last ∷ [] in
       elim cut.cut [
         | inl (lines, kept) ↦ lines_live same_order found found.fault cut lines kept
         | inr (told, saves) ↦ subst Fails (sym saves.write)
-            (some_part judged cut.each cut.gave.numbered cut.said.0.inner cut.said.1 (rest_in then.engine) cut.gave.some
+            (some_part judged cut.each cut.gave.numbered cut.said.0.inner cut.said.1 (rest_in then.parting) cut.gave.some
             (text_of (wording old.0.teller.now) judged, [], sym (append-nil (text_of (wording old.0.teller.now) judged)), told.text))
       ]
 
   -- why not all was told
-  pub report_fault : old.1.order ≡ source.engine.order → (found : FaultAt) → IsRunFault report_words source (record { inner = judge }) old then new found
+  pub report_fault : old.1.order ≡ source.parting.order → (found : FaultAt) → IsRunFault report_words source (record { inner = judge }) old then new found
       → IsLiveFault Judged (manner_of (wording old.0.teller.now) saved) judge (start_of source) (bytes source.reader.now) (bytes then.reader.now)
       (outputs (written old.0.writer.now) old.1.saver.now) (outputs (written new.0.writer.now) new.1.saver.now) found.fault
   unfolding stopped_live cut_live
@@ -199,7 +199,7 @@ module _ {J L K R W : Type 0} (Became : J → List PacketFacts → List Verdict 
 
   -- ---- All was told
 
-  pub report_told : old.1.order ≡ source.engine.order → (at : OneFilter J) (captures : List Captured) (ended : ReportedCapture J) (truncated : Bool)
+  pub report_told : old.1.order ≡ source.parting.order → (at : OneFilter J) (captures : List Captured) (ended : ReportedCapture J) (truncated : Bool)
       → Ran report_words source (record { inner = judge }) old then at new captures → truncated ≡ is_truncated captures
       → ended.totals ≡ totals_with new.0.packets new.0.passed new.0.without_pages truncated → ended.judges ≡ at.inner
       → HasToldAll Became Judged (manner_of (wording old.0.teller.now) saved) judge (start_of source) (bytes source.reader.now) (bytes then.reader.now)
@@ -207,7 +207,7 @@ module _ {J L K R W : Type 0} (Became : J → List PacketFacts → List Verdict 
   unfolding report_text report_judged report_saved
   report_told same_order at captures ended truncated ran cut totals judges =
       let judged = ran.judged in
-      let order = source.engine.order in
+      let order = source.parting.order in
       let over = ran.over in
       let lines = ran.told.0 in
       let counted : ended.totals ≡ totals_of (said_of judged) captures =

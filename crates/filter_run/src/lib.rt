@@ -9,7 +9,6 @@ mod capture_start;
 mod captures_report;
 mod coming_captures;
 mod judge;
-mod nobody;
 mod observer;
 mod observer_pair;
 mod one_capture;

@@ -8,9 +8,8 @@ ghost use Rattle.filter_run.specs.inner.Reads.{HasReadOut, IsOutFault};
 
 use crate::batch::Batch;
 use crate::capture_start::CaptureStart;
-use crate::nobody::Nobody;
 use crate::source::{CaptureSource, Step};
-use capture_stream::{Engine, FaultAt, Found, ReadSize, is_cut};
+use capture_stream::{FaultAt, ReadSize, RecordParting, is_cut};
 use packet_view::Stop;
 use racl_io::{Captured, Fault, MOST_BYTES, ReadBuffer, Source, drain};
 use std::alloc::{AllocError, Global};
@@ -24,7 +23,7 @@ const MOST_ALONE: usize = 4_611_686_018_427_387_903;
 pub struct OneCapture<'r, R> {
     pub reader: &'r mut R,
     /// What parts its bytes into records.
-    pub engine: Engine<Nobody>,
+    pub parting: RecordParting,
     pub alloc: Global,
     /// How many bytes the next read asks for.
     pub size: ReadSize,
@@ -51,18 +50,18 @@ fn at(fault: Fault) -> FaultAt
 impl<'r, R> OneCapture<'r, R> {
     ghost use Rattle.std.specs.Prelude.{◌≡◌, ◌+◌, ◌<◌, ◌^◌, IfErr, IfOk, length};
     ghost use Rattle.racl_io.specs.Tellings.{told_alone};
-    ghost use Rattle.capture_stream.specs.Feeding.{rest_in};
+    ghost use Rattle.capture_stream.specs.Parting.{rest_in};
     ghost use Rattle.capture_stream.specs.Found.{HaveFound};
     ghost use Rattle.filter_run.specs.OneCapture.{HasParted};
 
     // What is told of it where it ends here.
     fn ended(&self, truncated: bool) -> Result<Vec<Captured>, AllocError>
-        ensures { IfOk result (λ captures. captures.items ≡ told_alone self.now.engine.packets truncated) }
+        ensures { IfOk result (λ captures. captures.items ≡ told_alone self.now.parting.packets truncated) }
     {
         let mut captures = Vec::new(self.alloc);
         captures.push(Captured {
             named: None,
-            packets: self.engine.packets,
+            packets: self.parting.packets,
             truncated,
         })?;
         Ok(captures)
@@ -79,22 +78,22 @@ impl<'r, R> OneCapture<'r, R> {
 
     // The whole records that wait. What waits behind them gets this room.
     fn part(&mut self, room: ReadBuffer) -> Result<Batch, AllocError>
-        requires found { HaveFound self.old.engine.order (rest_in self.old.engine) self.old.engine.found }
-        requires few { self.old.engine.packets + length (rest_in self.old.engine) < 2 ^ 63 }
+        requires found { HaveFound self.old.parting.order (rest_in self.old.parting) self.old.parting.found }
+        requires few { self.old.parting.packets + length (rest_in self.old.parting) < 2 ^ 63 }
         ensures parted { IfOk result (HasParted self.old self.new) }
         ensures same { IfErr result (λ _. self.new.reader ≡ self.old.reader) }
     {
-        let others = self.engine.packets;
-        self.engine.spare = room;
-        let (_, found) = self.engine.settle()?;
+        let others = self.parting.packets;
+        self.parting.spare = room;
+        let found = self.parting.settle()?;
         let mut bytes = ReadBuffer::new(Vec::new(self.alloc));
-        swap(&mut bytes, &mut self.engine.spare);
+        swap(&mut bytes, &mut self.parting.spare);
         self.stop = found.stop;
         self.waits = false;
         Ok(Batch {
             others,
-            interface: self.engine.interface,
-            order: self.engine.order,
+            interface: self.parting.interface,
+            order: self.parting.order,
             bytes,
             found,
         })
@@ -167,7 +166,7 @@ impl<'r, R: Source> OneCapture<'r, R> {
         let read = front.len();
         OneCapture {
             reader,
-            engine: Engine::new(alloc, Nobody { alloc }, order, 0, front),
+            parting: RecordParting::new(alloc, order, 0, front),
             alloc,
             size: ReadSize::first(many),
             input,
@@ -189,7 +188,7 @@ impl<'r, R: Source> OneCapture<'r, R> {
         if self.read > most {
             return Err(at(Fault::TooLarge));
         }
-        let truncated = match is_cut(self.stop, self.engine.packets) {
+        let truncated = match is_cut(self.stop, self.parting.packets) {
             Ok(truncated) => truncated,
             Err(fault) => match read_out(self.reader, self.input, self.read) {
                 Ok(()) => return Err(at(fault)),
@@ -197,7 +196,7 @@ impl<'r, R: Source> OneCapture<'r, R> {
             },
         };
         let size = self.size.within(most + 1 - self.read);
-        let n = match self.engine.read_part(self.alloc, self.reader, size) {
+        let n = match self.parting.read_part(self.alloc, self.reader, size) {
             Ok(n) => n,
             Err(fault) => return Err(at(fault)),
         };
@@ -208,7 +207,7 @@ impl<'r, R: Source> OneCapture<'r, R> {
             }
         }
         self.read += n;
-        self.size = self.size.behind(n, self.engine.found.count);
+        self.size = self.size.behind(n, self.parting.found.count);
         self.waits = true;
         Ok(None)
     }

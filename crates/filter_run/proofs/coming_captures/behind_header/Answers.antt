@@ -3,7 +3,7 @@ use Rattle.packet_view.specs.Captures.{HasFileHeader}
 use Rattle.packet_view.specs.declared.capture.Order.{Order}
 use Rattle.filter_run.specs.Turns.{AreHeaded}
 use Rattle.filter_run.specs.inner.Lanes.{HasWaiting}
-use Rattle.capture_stream.proofs.FeedLemmas.{part_from}
+use Rattle.capture_stream.proofs.PartingLemmas.{part_from}
 use Rattle.filter_run.proofs.LaneLemmas.{header_read}
 use Rattle.filter_run.proofs.coming_captures.behind_header.Goals as goal
 

@@ -1,6 +1,6 @@
 use Rattle.std.proofs.Common.{◌∙◌, arith, refl, subst}
 use Rattle.capture_stream.specs.Found.{HaveFound}
-use Rattle.capture_stream.proofs.FeedLemmas.{behind_held}
+use Rattle.capture_stream.proofs.PartingLemmas.{behind_held}
 use Rattle.filter_run.proofs.PartLemmas.{found_few, lane_parted}
 use Rattle.filter_run.proofs.coming_captures.part.Goals as goal
 

@@ -20,7 +20,7 @@ is_cut-requires g c = given_packets g.R.Source.bytes g.R.Source.failures c.requi
 pub returns-in-Ok-read_out : goal.returns-in-Ok-read_out
 returns-in-Ok-read_out g c = λ begun batches is.
     let old = c.args.self.now in
-    let new = behind_read old c.read_out.new.reader old.engine in
+    let new = behind_read old c.read_out.new.reader old.parting in
     let within = c.if-self-most.false in
     let most = c.most_of-most.ensures in
     let few : old.read ≤ most_at old.input = omega arith in
@@ -33,7 +33,7 @@ returns-in-Ok-read_out g c = λ begun batches is.
 pub returns-in-Err-read_out : goal.returns-in-Err-read_out
 returns-in-Err-read_out g c = λ begun batches is.
     let old = c.args.self.now in
-    let new = behind_read old c.read_out.new.reader old.engine in
+    let new = behind_read old c.read_out.new.reader old.parting in
     let within = c.if-self-most.false in
     let most = c.most_of-most.ensures in
     let few : old.read ≤ most_at old.input = omega arith in
