@@ -2,6 +2,7 @@ use Rattle.std.proofs.Common.{◌∙◌, ◌++◌, ℕ, List, [], ap, inl, refl,
 use Rattle.std.proofs.lemmas.Option.{IfSome_then}
 use Rattle.acl_policy.specs.Policies.{policy_facts}
 use Rattle.capture_stream.specs.Savings.{manner_of, outputs}
+use Rattle.filter_run.specs.Starts.{start_facts}
 use Rattle.filter_run.proofs.TellLemmas.{failed_since, none_told, report_failed}
 use Rattle.capture_shards.specs.Sharing.{shard_wording}
 use Rattle.capture_shards.specs.inner.OwnTests.{own_among}
