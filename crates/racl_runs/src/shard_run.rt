@@ -127,14 +127,15 @@ pub fn run_shard<R: Source, W: Sink, S: Sink + Drop, T: Clock + Threads + Wait +
         Ok(()) => {}
         Err(fault) => return Err(fault),
     }
+    let start = CaptureStart::behind_header(alloc, order);
     let head = LiveHead {
         alloc,
         way,
+        start,
         shard: Some(shard),
     };
-    let start = CaptureStart::behind_header(alloc, order);
     swap(saves, &mut saver.inner);
-    let told = tell_capture(rt, head, start, reader, writer, lines, &mut saver);
+    let told = tell_capture(rt, head, reader, writer, lines, &mut saver);
     swap(saves, &mut saver.inner);
     told
 }
