@@ -1,6 +1,7 @@
 //! The tests of the crates from `racl_options` to `racl_runs`.
 use std::test::Fail;
 
+mod captures_in_inputs;
 mod checks;
 mod command_line_words;
 mod comparisons;
@@ -13,7 +14,6 @@ mod pace;
 mod reports;
 mod runs;
 mod saved;
-mod windows;
 
 // What tests of racl's crates answer where what they begin with was refused.
 fn racl_test_refused() -> Result<(), Fail> {
