@@ -1,6 +1,7 @@
 pub mod AddedTotals
 pub mod LineLemmas
 pub mod OneReport
+pub mod OwnRecordLemmas
 pub mod PickedLists
 pub mod OwnTestLemmas
 pub mod SharedSaveLemmas

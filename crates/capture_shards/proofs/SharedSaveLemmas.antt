@@ -12,11 +12,11 @@ use Rattle.session_state.specs.declared.flow.Flow.{Flow}
 use Rattle.session_state.specs.declared.verdict.Verdict.{Verdict}
 use Rattle.racl_io.specs.declared.fault.Fault.{Fault}
 use Rattle.capture_stream.specs.Savings.{MaySave, SavesMore}
+use Rattle.capture_shards.specs.OwnRecords.{HasNoRecord, IsWholeRecord}
 use Rattle.capture_shards.specs.Shards.{Own, own_in}
-use Rattle.capture_shards.specs.SharedSaves.{HaveSharedSaves, IsWholeRecord, MayShareSave}
+use Rattle.capture_shards.specs.SharedSaves.{HaveSharedSaves, MayShareSave}
 use Rattle.capture_shards.specs.declared.shard.Shard.{Shard}
 use Rattle.capture_shards.specs.declared.shard_saver.ShardSaver.{ShardSaver}
-use Rattle.capture_shards.specs.inner.FrontRecords.{HasNoRecord}
 use Rattle.capture_shards.specs.inner.OwnTests.{flow_seen, own_of, place_in}
 use Rattle.capture_shards.proofs.PickedLists.{own_both}
 

@@ -1,3 +1,4 @@
+pub mod OwnRecords
 pub mod SharedSaves
 pub mod Sharing
 pub mod Shards

@@ -1,16 +1,13 @@
 -- What saves the packets of a shard (this project's profile).
-use Rattle.std.specs.Prelude.{◌≡◌, ◌%◌, ◌++◌, ℕ, List, length}
+use Rattle.std.specs.Prelude.{◌≡◌, ◌%◌, ℕ, List, length}
 use Rattle.std.specs.List.{AllZip, concat}
-use Rattle.packet_view.specs.Captures.{IsRecord, PacketFacts, RecordFacts, packet_at, packets_at}
+use Rattle.packet_view.specs.Captures.{PacketFacts, RecordFacts, packet_at, packets_at}
 use Rattle.packet_view.specs.declared.capture.Order.{Order}
 use Rattle.session_state.specs.declared.verdict.Verdict.{Verdict}
+use Rattle.capture_shards.specs.OwnRecords.{IsWholeRecord}
 use Rattle.capture_shards.specs.Shards.{Own, own_in}
 use Rattle.capture_shards.specs.declared.shard_saver.ShardSaver.{ShardSaver}
 use Rattle.capture_shards.specs.inner.OwnTests.{own_of}
-
--- the bytes are one whole record that says this
-abbrev pub IsWholeRecord : Order → List ℕ → RecordFacts → Type 0
-IsWholeRecord order bytes facts = (header : List ℕ) × (bytes ≡ header ++ facts.frame) × IsRecord order header facts
 
 -- The first bytes are whole records, of whose packets this was said; of these the others are those of one's own packets, as they
 -- stand there, and what was said of them.

@@ -2,6 +2,7 @@
 #![tactic(auto)]
 
 mod own_packets;
+mod own_records;
 mod own_test;
 mod shard;
 mod shard_judge;
@@ -10,6 +11,7 @@ mod shard_saver;
 mod shard_teller;
 mod spread_verdicts;
 
+pub use own_records::{OwnRecords, records_of_shard};
 pub use own_test::each_shard_has_its_packets;
 pub use shard::Shard;
 pub use shard_judge::ShardJudge;

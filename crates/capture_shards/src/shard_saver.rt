@@ -1,12 +1,11 @@
 //! What saves the packets of a shard.
-ghost use Rattle.std.specs.Prelude.{◌≡◌, ◌+◌, ◌<◌, IfNone, IfSome};
-ghost use Rattle.packet_view.specs.Captures.{packet_facts};
-ghost use Rattle.capture_shards.specs.inner.FrontRecords.{HasFrontRecord, HasNoRecord};
+ghost use Rattle.std.specs.Prelude.{◌≡◌, ◌+◌, ◌<◌};
 
+use crate::own_records::front_record;
 use crate::own_test::is_own;
 use crate::shard::Shard;
 use capture_stream::Saver;
-use packet_view::{NextRecord, Order, Packet, next_record};
+use packet_view::{Order, Packet};
 use racl_io::Fault;
 use session_state::Verdict;
 
@@ -18,43 +17,6 @@ pub struct ShardSaver<K> {
     pub shard: Shard,
     /// How many packets there were, modulo the number of shards; before the first 0.
     pub turn: u64,
-}
-
-// A whole record at the front of others.
-#[derive(Clone, Copy)]
-struct FrontRecord<'a> {
-    bytes: &'a [u8],
-    packet: Packet<'a>,
-    // Those behind it.
-    rest: &'a [u8],
-}
-
-// The whole record at the front; None where there is none.
-fn front_record(bytes: &[u8], order: Order) -> Option<FrontRecord<'_>>
-    ensures some { IfSome result (λ front. HasFrontRecord order bytes.now front.bytes.now (packet_facts front.packet) front.rest.now) }
-    ensures none { IfNone result (HasNoRecord order bytes.now) }
-{
-    match next_record(bytes, order) {
-        NextRecord::Whole {
-            moment,
-            micros,
-            frame,
-            ..
-        } => {
-            let (piece, rest) = bytes.split_at(16 + frame.len());
-            Some(FrontRecord {
-                bytes: piece,
-                packet: Packet {
-                    interface: 0,
-                    moment,
-                    micros,
-                    frame,
-                },
-                rest,
-            })
-        }
-        NextRecord::End | NextRecord::Truncated | NextRecord::TooLong => None,
-    }
 }
 
 // The number of the packet after this many, of which there are fewer than shards.

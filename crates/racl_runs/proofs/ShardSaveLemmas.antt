@@ -11,7 +11,8 @@ use Rattle.racl_views.specs.ChosenRecords.{AreRecordsOf}
 use Rattle.racl_views.proofs.ChosenLaws.{records_spelt}
 use Rattle.racl_report.specs.declared.saved_packets.Saves.{Saves}
 use Rattle.capture_shards.specs.Shards.{Own, own_in}
-use Rattle.capture_shards.specs.SharedSaves.{HaveSharedSaves, IsWholeRecord}
+use Rattle.capture_shards.specs.OwnRecords.{IsWholeRecord}
+use Rattle.capture_shards.specs.SharedSaves.{HaveSharedSaves}
 use Rattle.capture_shards.specs.declared.shard_saver.ShardSaver.{ShardSaver}
 use Rattle.capture_shards.specs.inner.OwnTests.{own_of}
 use Rattle.racl_runs.specs.LiveSaves.{HaveSaved}

@@ -1,0 +1,134 @@
+-- Records of one's own packets that are found one after the other.
+use Rattle.std.proofs.Common.{◌≡◌, ◌∙◌, ◌+◌, ◌≤◌, ◌++◌, ℕ, Bool, true, false, cond, List, [], ◌∷◌, ap, append-nil, append_assoc, arith, length, max, refl, subst, sym}
+use Rattle.std.specs.List.{concat}
+use Rattle.std.proofs.lemmas.List.{length-append}
+use Rattle.packet_view.specs.Captures.{RecordFacts, packet_at, packets_at}
+use Rattle.packet_view.specs.declared.capture.Order.{Order}
+use Rattle.capture_shards.specs.OwnRecords.{AreOfOwn, HasNoRecord, IsWholeRecord, OwnFacts}
+use Rattle.capture_shards.specs.Shards.{Own, own_in}
+use Rattle.capture_shards.specs.Sharing.{own_numbers}
+
+-- ---- What was found
+
+-- among no record
+abbrev pub none_found : OwnFacts
+none_found = record { bytes = []; numbers = []; all = 0; latest = 0 }
+
+-- of one record, whose packet has this number, and is one's own or isn't
+abbrev pub one_found : Bool → ℕ → RecordFacts → List ℕ → OwnFacts
+one_found mine n facts piece = record { bytes = cond mine piece []; numbers = cond mine (n ∷ []) []; all = 1; latest = facts.moment }
+
+-- first this, and then what is behind it
+abbrev pub both_found : OwnFacts → OwnFacts → OwnFacts
+both_found first behind = record {
+  bytes = first.bytes ++ behind.bytes;
+  numbers = first.numbers ++ behind.numbers;
+  all = first.all + behind.all;
+  latest = max first.latest behind.latest;
+}
+
+abbrev found_as : List ℕ → List ℕ → ℕ → ℕ → OwnFacts
+found_as bytes numbers all latest = record { bytes = bytes; numbers = numbers; all = all; latest = latest }
+
+same_found : (a b k l : List ℕ) (n m x y : ℕ) → a ≡ b → k ≡ l → n ≡ m → x ≡ y → found_as a k n x ≡ found_as b l m y
+same_found a b k l n m x y one two three four = rw (one, two, three, four) refl
+
+found_of_three : (first one behind : OwnFacts) → both_found first (both_found one behind) ≡ both_found (both_found first one) behind
+found_of_three first one behind =
+    same_found (first.bytes ++ (one.bytes ++ behind.bytes)) ((first.bytes ++ one.bytes) ++ behind.bytes) (first.numbers ++ (one.numbers ++ behind.numbers))
+    ((first.numbers ++ one.numbers) ++ behind.numbers) (first.all + (one.all + behind.all)) ((first.all + one.all) + behind.all)
+    (max first.latest (max one.latest behind.latest)) (max (max first.latest one.latest) behind.latest) (sym (append_assoc first.bytes one.bytes behind.bytes)) (sym (append_assoc first.numbers one.numbers behind.numbers)) (omega arith) (omega arith)
+
+-- ---- One record after the other
+
+-- a record has some bytes
+pub piece_long : (order : Order) (piece : List ℕ) (facts : RecordFacts) → IsWholeRecord order piece facts → 1 ≤ length piece
+piece_long order piece facts (header, spelt, is) =
+    let size = ap length spelt in
+    let both = length-append header facts.frame in
+    let sixteen = is.sixteen in
+    omega arith
+
+module _ (own : Own) (order : Order) where
+  -- no record is found
+  pub found_none : (n : ℕ) (bytes : List ℕ) → HasNoRecord order bytes → AreOfOwn own n order bytes none_found
+  found_none n bytes none = record {
+    pieces = [];
+    records = [];
+    each = tt;
+    rest = bytes;
+    spelt = refl;
+    no_more = none;
+    mine_are = refl;
+    numbers_are = refl;
+    count = refl;
+    latest_is = refl;
+  }
+
+  -- a record before others
+  found_first : (n : ℕ) (bytes piece rest : List ℕ) (facts : RecordFacts) (behind : OwnFacts) (mine : Bool) → IsWholeRecord order piece facts → bytes ≡ piece ++ rest
+      → own n (packet_at 0 facts) ≡ mine → AreOfOwn own (n + 1) order rest behind → AreOfOwn own n order bytes (both_found (one_found mine n facts piece) behind)
+  found_first n bytes piece rest facts behind mine one whole is are = record {
+    pieces = piece ∷ are.pieces;
+    records = facts ∷ are.records;
+    each = (one, are.each);
+    rest = are.rest;
+    spelt = whole ∙ ap (λ (b : List ℕ). piece ++ b) are.spelt ∙ sym (append_assoc piece (concat are.pieces) are.rest);
+    no_more = are.no_more;
+    mine_are = bytes_first mine ∙ ap (λ b. concat (cond b (piece ∷ behind_pieces) behind_pieces)) (sym is);
+    numbers_are = numbers_first mine ∙ ap (λ b. cond b (n ∷ behind_numbers) behind_numbers) (sym is);
+    count = let rest_too = are.count in omega arith;
+    latest_is = ap (max facts.moment) are.latest_is;
+  }
+    where
+      behind_pieces : List (List ℕ)
+      behind_pieces = own_in own (n + 1) (packets_at 0 are.records) are.pieces
+
+      behind_numbers : List ℕ
+      behind_numbers = own_numbers own (n + 1) (packets_at 0 are.records)
+
+      bytes_first : (b : Bool) → cond b piece [] ++ behind.bytes ≡ concat (cond b (piece ∷ behind_pieces) behind_pieces)
+      bytes_first true = ap (λ (b : List ℕ). piece ++ b) are.mine_are
+      bytes_first false = are.mine_are
+
+      numbers_first : (b : Bool) → cond b (n ∷ []) [] ++ behind.numbers ≡ cond b (n ∷ behind_numbers) behind_numbers
+      numbers_first true = ap (λ (ns : List ℕ). n ∷ ns) are.numbers_are
+      numbers_first false = are.numbers_are
+
+  -- before the rest, whose first packet has the number m, this was found
+  abbrev pub HaveFoundSo : (n : ℕ) → (bytes : List ℕ) → (m : ℕ) → (rest : List ℕ) → OwnFacts → Type 0
+  HaveFoundSo n bytes m rest first = (behind : OwnFacts) → AreOfOwn own m order rest behind → AreOfOwn own n order bytes (both_found first behind)
+
+  pub found_begun : (n : ℕ) (bytes : List ℕ) (first : OwnFacts) → first.bytes ≡ [] → first.numbers ≡ [] → first.all ≡ 0 → first.latest ≡ 0 → HaveFoundSo n bytes n bytes first
+  found_begun n bytes first none no_number no_record no_second behind are =
+      let front : behind.bytes ≡ first.bytes ++ behind.bytes = ap (λ (b : List ℕ). b ++ behind.bytes) (sym none) in
+      let numbers : behind.numbers ≡ first.numbers ++ behind.numbers = ap (λ (b : List ℕ). b ++ behind.numbers) (sym no_number) in
+      subst (AreOfOwn own n order bytes)
+      (same_found behind.bytes (first.bytes ++ behind.bytes) behind.numbers (first.numbers ++ behind.numbers) behind.all (first.all + behind.all) behind.latest
+      (max first.latest behind.latest) front numbers (omega arith) (omega arith))
+      are
+
+  -- the next record
+  pub found_next : (n m : ℕ) (bytes rest piece left : List ℕ) (first : OwnFacts) (facts : RecordFacts) (mine : Bool) → HaveFoundSo n bytes m rest first
+      → IsWholeRecord order piece facts → rest ≡ piece ++ left → own m (packet_at 0 facts) ≡ mine
+      → HaveFoundSo n bytes (m + 1) left (both_found first (one_found mine m facts piece))
+  found_next n m bytes rest piece left first facts mine so one whole is behind are =
+      subst (AreOfOwn own n order bytes) (found_of_three first (one_found mine m facts piece) behind)
+      (so (both_found (one_found mine m facts piece) behind) (found_first m rest piece left facts behind mine one whole is are))
+
+  -- no further one
+  pub found_all : (n m : ℕ) (bytes rest : List ℕ) (first : OwnFacts) → HaveFoundSo n bytes m rest first → HasNoRecord order rest → AreOfOwn own n order bytes first
+  found_all n m bytes rest first so none =
+      subst (AreOfOwn own n order bytes) (same_found (first.bytes ++ []) first.bytes (first.numbers ++ []) first.numbers (first.all + 0) first.all (max first.latest 0) first.latest (append-nil first.bytes) (append-nil first.numbers) (omega arith) (omega arith))
+      (so none_found (found_none m rest none))
+
+  -- what is found with it
+  pub found_so : (n m : ℕ) (bytes rest piece left : List ℕ) (first found : OwnFacts) (facts : RecordFacts) (mine : Bool) → HaveFoundSo n bytes m rest first
+      → IsWholeRecord order piece facts → rest ≡ piece ++ left → own m (packet_at 0 facts) ≡ mine
+      → first.bytes ++ cond mine piece [] ≡ found.bytes → first.numbers ++ cond mine (m ∷ []) [] ≡ found.numbers → first.all + 1 ≡ found.all → max first.latest facts.moment ≡ found.latest
+      → HaveFoundSo n bytes (m + 1) left found
+  found_so n m bytes rest piece left first found facts mine so one whole is all_bytes all_numbers all latest behind are =
+      subst (λ (f : OwnFacts). AreOfOwn own n order bytes (both_found f behind))
+      (same_found (first.bytes ++ cond mine piece []) found.bytes (first.numbers ++ cond mine (m ∷ []) []) found.numbers (first.all + 1) found.all (max first.latest facts.moment) found.latest
+      all_bytes all_numbers all latest)
+      (found_next n m bytes rest piece left first facts mine so one whole is behind are)
