@@ -1,12 +1,107 @@
 -- Records of one's own packets that are found one after the other.
-use Rattle.std.proofs.Common.{◌≡◌, ◌∙◌, ◌+◌, ◌≤◌, ◌++◌, ℕ, Bool, true, false, cond, List, [], ◌∷◌, ap, append-nil, append_assoc, arith, length, max, refl, subst, sym}
-use Rattle.std.specs.List.{concat}
+use Rattle.std.proofs.Common.{◌≡◌, ◌∙◌, ◌+◌, ◌<◌, ◌≤◌, ◌++◌, ℕ, suc, Bool, true, false, cond, List, [], ◌∷◌, ap, append-nil, append_assoc, arith, length, max, refl, subst, sym}
+use Rattle.std.specs.List.{All, AllZip, concat}
+use Rattle.std.proofs.lemmas.List.Elements.{All-cons, All-nil}
 use Rattle.std.proofs.lemmas.List.{length-append}
-use Rattle.packet_view.specs.Captures.{RecordFacts, packet_at, packets_at}
+use Rattle.packet_view.specs.Captures.{AreRecords, Cut, IsPiece, Nothing, PacketFacts, PieceFacts, Record, RecordFacts, TooLong, packet_at, packets_at}
+use Rattle.packet_view.specs.Fronts.{Stops}
 use Rattle.packet_view.specs.declared.capture.Order.{Order}
+use Rattle.packet_view.specs.declared.records_at_front.Stop.{Stop}
+use Rattle.packet_view.specs.declared.records_at_front.Stop.TheVariants as stop
+use Rattle.packet_view.specs.inner.RecordSteps.{part_of}
+use Rattle.packet_view.proofs.RecordLemmas as at
+use Rattle.packet_view.proofs.RecordLemmas.{IsStop, part_only, part_shown, records_once}
 use Rattle.capture_shards.specs.OwnRecords.{AreOfOwn, HasNoRecord, IsWholeRecord, OwnFacts}
 use Rattle.capture_shards.specs.Shards.{Own, own_in}
 use Rattle.capture_shards.specs.Sharing.{own_numbers}
+
+-- ---- Whole records
+
+-- where none is at the front
+pub no_record : (order : Order) (rest : List ℕ) → HasNoRecord order rest → at.HasNoRecord order rest
+no_record order rest none = record { stops = go (part_of order rest) (part_shown order rest) }
+  where
+    go : (part : PieceFacts) → IsPiece order rest part → IsStop part
+    go (Record facts behind) is = absurd (none facts behind is)
+    go Nothing is = tt
+    go Cut is = tt
+    go TooLong is = tt
+
+-- where whole records stop
+pub stop_none : (order : Order) (rest : List ℕ) (at_end : Stop) → Stops order rest at_end → at.HasNoRecord order rest
+stop_none order rest stop.End is = record { stops = subst IsStop (part_only order rest Nothing is) tt }
+stop_none order rest stop.Truncated is = record { stops = subst IsStop (part_only order rest Cut is) tt }
+stop_none order rest stop.TooLong is = record { stops = subst IsStop (part_only order rest TooLong is) tt }
+
+-- pieces are records
+pub pieces_are : (order : Order) (pieces : List (List ℕ)) (records : List RecordFacts) (rest : List ℕ) → AllZip (IsWholeRecord order) pieces records
+    → AreRecords order (concat pieces ++ rest) records rest
+pieces_are order [] [] rest each = refl
+pieces_are order [] (r ∷ records) rest each = absurd each
+pieces_are order (p ∷ pieces) [] rest each = absurd each
+pieces_are order (p ∷ pieces) (r ∷ records) rest ((header, spelt, is), each) = (
+  concat pieces ++ rest,
+  (
+    header,
+    append_assoc p (concat pieces) rest ∙ ap (λ (b : List ℕ). b ++ (concat pieces ++ rest)) spelt ∙ append_assoc header r.frame (concat pieces ++ rest),
+    is,
+  ),
+  pieces_are order pieces records rest each,
+)
+
+-- records stand in bytes one after the other
+pub whole_in : (order : Order) (bytes : List ℕ) (records : List RecordFacts) (rest : List ℕ) → AreRecords order bytes records rest
+    → (pieces : List (List ℕ)) × AllZip (IsWholeRecord order) pieces records × (bytes ≡ concat pieces ++ rest)
+whole_in order bytes [] rest all = ([], tt, all)
+whole_in order bytes (facts ∷ records) rest (others, (header, spelt, is), all) =
+    let (pieces, each, more) = whole_in order others records rest all in
+    let piece = header ++ facts.frame in (
+      piece ∷ pieces,
+      ((header, refl, is), each),
+      spelt ∙ sym (append_assoc header facts.frame others) ∙ ap (λ (b : List ℕ). piece ++ b) more ∙ sym (append_assoc piece (concat pieces) rest),
+    )
+
+-- records in bytes are found where no further one stands behind them
+pub found_are : (own : Own) (n : ℕ) (order : Order) (bytes : List ℕ) (mine : OwnFacts) (are : AreOfOwn own n order bytes mine) (records : List RecordFacts) (rest : List ℕ)
+    → AreRecords order bytes records rest → at.HasNoRecord order rest → (are.records ≡ records) × (are.rest ≡ rest)
+found_are own n order bytes mine are records rest all none =
+    records_once order bytes are.records records are.rest rest
+    (subst (λ (b : List ℕ). AreRecords order b are.records are.rest) (sym are.spelt) (pieces_are order are.pieces are.records are.rest are.each))
+    (no_record order are.rest are.no_more) all none
+
+-- ---- Numbers
+
+-- as many numbers as packets
+pub own_numbers_count : {X : Type 0} (own : Own) (n : ℕ) (ps : List PacketFacts) (xs : List X) → length xs ≡ length ps
+    → length (own_numbers own n ps) ≡ length (own_in own n ps xs)
+own_numbers_count own n [] xs each = refl
+own_numbers_count own n (p ∷ ps) [] each = absurd (omega (arith, each))
+own_numbers_count own n (p ∷ ps) (x ∷ xs) each = go (own n p) (own_numbers_count own (n + 1) ps xs (omega (arith, each)))
+  where
+    go : (b : Bool) → length (own_numbers own (n + 1) ps) ≡ length (own_in own (n + 1) ps xs)
+        → length (cond b (n ∷ own_numbers own (n + 1) ps) (own_numbers own (n + 1) ps)) ≡ length (cond b (x ∷ own_in own (n + 1) ps xs) (own_in own (n + 1) ps xs))
+    go true same = ap suc same
+    go false same = same
+
+-- of some packets and of those behind them
+pub own_numbers_both : (own : Own) (n m : ℕ) (ps qs : List PacketFacts) → m ≡ n + length ps → own_numbers own n (ps ++ qs) ≡ own_numbers own n ps ++ own_numbers own m qs
+own_numbers_both own n m [] qs next = let same : n ≡ m = omega (arith, next) in ap (λ k. own_numbers own k qs) same
+own_numbers_both own n m (p ∷ ps) qs next = go (own n p) (own_numbers_both own (n + 1) m ps qs (omega (arith, next)))
+  where
+    go : (b : Bool) → own_numbers own (n + 1) (ps ++ qs) ≡ own_numbers own (n + 1) ps ++ own_numbers own m qs
+        → cond b (n ∷ own_numbers own (n + 1) (ps ++ qs)) (own_numbers own (n + 1) (ps ++ qs))
+        ≡ cond b (n ∷ own_numbers own (n + 1) ps) (own_numbers own (n + 1) ps) ++ own_numbers own m qs
+    go true same = ap (λ (ns : List ℕ). n ∷ ns) same
+    go false same = same
+
+-- they are those of packets
+pub own_numbers_fit : (own : Own) (P : ℕ → Type 0) (n : ℕ) (ps : List PacketFacts) → ((m : ℕ) → n ≤ m → m < n + length ps → P m) → All P (own_numbers own n ps)
+own_numbers_fit own P n [] holds = All-nil P
+own_numbers_fit own P n (p ∷ ps) holds = go (own n p) (own_numbers_fit own P (n + 1) ps (λ m least most. holds m (omega arith) (omega arith)))
+  where
+    go : (b : Bool) → All P (own_numbers own (n + 1) ps) → All P (cond b (n ∷ own_numbers own (n + 1) ps) (own_numbers own (n + 1) ps))
+    go true rest = All-cons P n (own_numbers own (n + 1) ps) (holds n (omega arith) (omega arith)) rest
+    go false rest = rest
 
 -- ---- What was found
 

@@ -32,6 +32,20 @@ module _ {X : Type 0} (own : Own) where
       go true rest = (all.0, rest)
       go false rest = rest
 
+  -- what holds of each with what another list has there does so of one's own
+  pub own_zip_both : {Y : Type 0} (R : X → Y → Type 0) (n : ℕ) (ps : List PacketFacts) (xs : List X) (ys : List Y) → AllZip R xs ys
+      → AllZip R (own_in own n ps xs) (own_in own n ps ys)
+  own_zip_both R n [] xs ys all = tt
+  own_zip_both R n (p ∷ ps) [] [] all = tt
+  own_zip_both R n (p ∷ ps) [] (y ∷ ys) all = absurd all
+  own_zip_both R n (p ∷ ps) (x ∷ xs) [] all = absurd all
+  own_zip_both R n (p ∷ ps) (x ∷ xs) (y ∷ ys) all = go (own n p) (own_zip_both R (n + 1) ps xs ys all.1)
+    where
+      go : (b : Bool) → AllZip R (own_in own (n + 1) ps xs) (own_in own (n + 1) ps ys)
+          → AllZip R (cond b (x ∷ own_in own (n + 1) ps xs) (own_in own (n + 1) ps xs)) (cond b (y ∷ own_in own (n + 1) ps ys) (own_in own (n + 1) ps ys))
+      go true rest = (all.0, rest)
+      go false rest = rest
+
   pub own_map : {Y : Type 0} (f : X → Y) (n : ℕ) (ps : List PacketFacts) (xs : List X)
       → map f (own_in own n ps xs) ≡ own_in own n ps (map f xs)
   own_map f n [] xs = refl

@@ -18,6 +18,7 @@ use Rattle.capture_shards.specs.SharedSaves.{HaveSharedSaves, MayShareSave}
 use Rattle.capture_shards.specs.declared.shard.Shard.{Shard}
 use Rattle.capture_shards.specs.declared.shard_saver.ShardSaver.{ShardSaver}
 use Rattle.capture_shards.specs.inner.OwnTests.{flow_seen, own_of, place_in}
+use Rattle.capture_shards.proofs.OwnRecordLemmas.{whole_in}
 use Rattle.capture_shards.proofs.PickedLists.{own_both}
 
 -- ---- Whole records
@@ -37,18 +38,6 @@ whole_count order [] [] each = refl
 whole_count order [] (x ∷ xs) each = absurd each
 whole_count order (p ∷ ps) [] each = absurd each
 whole_count order (p ∷ ps) (x ∷ xs) (is, each) = let rest = whole_count order ps xs each in omega (arith, rest)
-
--- records stand in bytes one after the other
-whole_in : (order : Order) (bytes : List ℕ) (records : List RecordFacts) (rest : List ℕ) → AreRecords order bytes records rest
-    → (pieces : List (List ℕ)) × AreWhole order pieces records × (bytes ≡ concat pieces ++ rest)
-whole_in order bytes [] rest all = ([], tt, all)
-whole_in order bytes (facts ∷ records) rest (others, (header, spelt, is), all) =
-    let (pieces, each, more) = whole_in order others records rest all in
-    let piece = header ++ facts.frame in (
-      piece ∷ pieces,
-      ((header, refl, is), each),
-      spelt ∙ sym (append_assoc header facts.frame others) ∙ ap (λ (b : List ℕ). piece ++ b) more ∙ sym (append_assoc piece (concat pieces) rest),
-    )
 
 -- the bytes of a record that is at the front
 pub front_bytes : (order : Order) (bytes : List ℕ) (facts : RecordFacts) (rest : List ℕ) → IsPiece order bytes (Record facts rest)

@@ -1,7 +1,7 @@
 -- The records of one's own packets among those of a capture (this project's profile).
 use Rattle.std.specs.Prelude.{◌≡◌, ◌++◌, ℕ, List, [], ◌∷◌, length, max}
 use Rattle.std.specs.List.{AllZip, concat}
-use Rattle.packet_view.specs.Captures.{IsPiece, IsRecord, Record, RecordFacts, packets_at}
+use Rattle.packet_view.specs.Captures.{IsPiece, IsRecord, PacketFacts, Record, RecordFacts, packets_at}
 use Rattle.packet_view.specs.declared.capture.Order.{Order}
 use Rattle.capture_shards.specs.Shards.{Own, own_in}
 use Rattle.capture_shards.specs.Sharing.{own_numbers}
@@ -15,10 +15,10 @@ IsWholeRecord order bytes facts = (header : List ℕ) × (bytes ≡ header ++ fa
 abbrev pub HasNoRecord : Order → List ℕ → Type 0
 HasNoRecord order bytes = (facts : RecordFacts) (rest : List ℕ) → IsPiece order bytes (Record facts rest) → ⊥
 
--- the latest second of these records, and 0 where there are none
-abbrev pub latest_of : List RecordFacts → ℕ
+-- the latest second of these packets, and 0 where there are none
+abbrev pub latest_of : List PacketFacts → ℕ
 latest_of [] = 0
-latest_of (one ∷ others) = max one.moment (latest_of others)
+latest_of (packet ∷ packets) = max packet.moment (latest_of packets)
 
 -- Some whole records and the numbers of their packets; how many records there are among which they stand, and the latest second of
 -- any of these.
@@ -43,4 +43,4 @@ pub record AreOfOwn (own : Own) (n : ℕ) (order : Order) (bytes : List ℕ) (mi
   pub mine_are : mine.bytes ≡ concat (own_in own n (packets_at 0 records) pieces)
   pub numbers_are : mine.numbers ≡ own_numbers own n (packets_at 0 records)
   pub count : mine.all ≡ length records
-  pub latest_is : mine.latest ≡ latest_of records
+  pub latest_is : mine.latest ≡ latest_of (packets_at 0 records)
