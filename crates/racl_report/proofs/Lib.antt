@@ -1,4 +1,3 @@
 pub mod CaptureLaws
 pub mod InterfaceLaws
 pub mod ReadInputLemmas
-pub mod ViewLemmas

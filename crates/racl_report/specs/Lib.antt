@@ -2,7 +2,6 @@ pub mod BehindTotals
 pub mod CapturesEnds
 pub mod Endings
 pub mod InterfaceInputs
-pub mod KeptInputs
 pub mod ReadInputs
 pub mod RunReports
 pub mod Saves

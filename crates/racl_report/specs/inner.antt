@@ -1,2 +1,1 @@
 pub mod NumberedCaptures
-pub mod ToldRuns

@@ -1,34 +1,30 @@
--- An input of which all was read: what is answered of it, and what is kept.
-use Rattle.std.proofs.Common.{◌≡◌, ◌∙◌, ◌≤◌, ◌⊎◌, ℕ, zero, suc, Bool, List, [], ◌∷◌, Option, Some, None, Ok, Err, drop, length, sym, ap, subst, take, inl, inr}
+-- An input with captures as digits, of which all was read: what is answered of it.
+use Rattle.std.proofs.Common.{◌≡◌, ◌∙◌, ◌≤◌, ◌⊎◌, ◌++◌, ℕ, zero, suc, List, [], ◌∷◌, Option, Ok, Err, ap, drop, length, refl, sym, subst, inl, inr}
+use Rattle.std.proofs.KnownBytes.{Appends-trans}
+use Rattle.std.specs.Io.KnownBytes.{Appends}
 use Rattle.packet_view.specs.Bytes.{AreBytes}
 use Rattle.packet_view.specs.Captures.{PacketFacts}
 use Rattle.acl_policy.specs.Policies.{PolicyFacts, policy_facts}
-use Rattle.acl_policy.specs.declared.policy.Policy.{Policy}
+use Rattle.session_state.specs.declared.verdict.Verdict.{Verdict}
 use Rattle.racl_options.specs.declared.settings.Options.{Options}
 use Rattle.racl_io.specs.declared.fault.Fault.{Fault}
 use Rattle.racl_io.specs.declared.fault.Fault.TheVariants.{Memory}
 use Rattle.racl_io.specs.declared.marker_line.Form.{Form}
 use Rattle.racl_io.specs.declared.totals_and_truncation.Captured.{Captured}
+use Rattle.racl_io.specs.declared.totals_and_truncation.Totals.{Totals}
+use Rattle.racl_io.specs.Reports.{totals_of}
 use Rattle.racl_io.specs.Faults.{IsFaultOfBytes, IsFaultOfContent}
 use Rattle.racl_io.specs.Inputs.{most_bytes}
-use Rattle.racl_report.specs.KeptInputs.{HaveCaptures, IsKeptWhere, Keeps, KeepsWhere}
-use Rattle.racl_report.specs.ReadInputs.{HasPackets, IsRead}
-use Rattle.racl_report.specs.RunReports.{JudgedFacts}
-use Rattle.racl_report.specs.declared.kept_input.Kept.{Kept}
-use Rattle.racl_report.specs.declared.kept_input.KeptCaptures.{KeptCaptures}
+use Rattle.racl_report.specs.ReadInputs.{HasPackets}
+use Rattle.racl_report.specs.RunReports.{AreLines, IsReportOn, JudgedFacts, Outcome, told_facts}
 use Rattle.racl_report.proofs.CaptureLaws.{AreFit, fit_bytes, no_fault_of_packets, one_fault_of_content, one_packets}
 use Rattle.racl_report.proofs.ReadInputLemmas.{read_in}
-use Rattle.racl_runs.specs.Reads.{AnswersInput, HasMarked, IsReached}
+use Rattle.racl_views.specs.Hits.{latest_second}
+use Rattle.racl_runs.specs.LiveRuns.{IsToldBehind}
+use Rattle.racl_runs.specs.Reads.{AnswersInput, HasMarked, HasReportedOn, IsReached, IsReportOfInput}
 use Rattle.racl_runs.specs.declared.input_front.Marked.{Marked}
-use Rattle.racl_runs.specs.inner.Plans.{HasReached}
-use Rattle.racl_runs.proofs.OutcomeLemmas.{memory_answers}
+use Rattle.racl_runs.proofs.OutcomeLemmas.{memory_answers, reported}
 use Rattle.racl_runs.proofs.RunLemmas.{fault_of_known_parts, fault_of_right_policy}
-
--- what is kept where that is asked for is kept of an input that is right
-pub kept_where : (asked : Bool) (input : List ℕ) (of : Option Kept) (policy : PolicyFacts) (packets : List PacketFacts) (told : List Captured) → KeepsWhere asked input of
-    → IsRead input policy packets told → IsKeptWhere asked input policy packets of
-kept_where asked input None policy packets told keeps read = keeps
-kept_where asked input (Some of) policy packets told keeps read = keeps policy packets told read
 
 -- ---- what follows a marker line
 
@@ -110,23 +106,47 @@ module _ (options : Options) (bytes : List ℕ) (marked : Marked) (has : HasMark
     refuses = λ other is. inl (one_fault_of_content form content fault other fit of (fault_there other is));
   }
 
-  pub answered : (met : JudgedFacts × KeptCaptures) → length bytes ≤ most_bytes → HasReached options (policy_facts marked.filter.policy) form content met
-      → AnswersInput options bytes (Ok met.0)
-  answered met few reached = taken_answers reached.packets met.0 few reached.taken reached.reached
+  -- a report on it, which tells what it is whichever policy and packets it says
+  pub taken_report : (packets : List PacketFacts) (judged : JudgedFacts) (report : List ℕ) (totals : Totals) → length bytes ≤ most_bytes
+      → HasPackets form content packets judged.outcome.captures
+      → IsReached options (policy_facts marked.filter.policy) packets judged.outcome.captures judged
+      → IsReportOn options has.parts.policy (policy_facts marked.filter.policy) packets judged report
+      → totals ≡ totals_of judged.outcome.verdicts judged.outcome.captures → IsReportOfInput options bytes report totals
+  unfolding taken_answers
+  taken_report packets judged report totals few taken reached on counted = record {
+    judged = judged;
+    answers = taken_answers packets judged few taken reached;
+    tells = λ other others read.
+        let is = read_in bytes has.parts other others judged.outcome.captures has.parted read in
+        let same =
+        one_packets form content packets others judged.outcome.captures judged.outcome.captures fit taken
+        (packets_there others judged.outcome.captures is.content) in
+        record {
+          parts = has.parts;
+          parted = has.parted;
+          on = subst (λ p. IsReportOn options has.parts.policy p others judged report) (has.policy.one other is.says)
+              (subst (λ ps. IsReportOn options has.parts.policy (policy_facts marked.filter.policy) ps judged report) same.0 on);
+        };
+    counted = counted;
+  }
 
-  -- what is kept with the policy and its text is kept of the input
-  pub kept_of : (met : JudgedFacts × KeptCaptures) (of : Kept) → HasReached options (policy_facts marked.filter.policy) form content met
-      → of.policy ≡ marked.filter.policy → of.text.items ≡ take marked.text bytes → of.captures ≡ met.1 → Keeps bytes of
-  kept_of met of reached same text captures = λ policy packets told read.
-      let here = read_in bytes has.parts policy packets told has.parted read in
-      let one = one_packets form content reached.packets packets met.0.outcome.captures told fit reached.taken (packets_there packets told here.content) in
-      let have = subst (λ (cs : KeptCaptures). HaveCaptures cs form content packets) (sym captures) (subst (λ ps. HaveCaptures met.1 form content ps) one.0 reached.have) in
-      record {
-        parts = has.parts;
-        parted = has.parted;
-        says = here.says;
-        policy_is = ap (λ (p : Policy). policy_facts p) same ∙ has.policy.one policy here.says;
-        text = text ∙ has.text;
-        captures = subst (λ f. HaveCaptures of.captures f has.parts.content packets) (sym has.form)
-            (subst (λ c. HaveCaptures of.captures form c packets) has.content have);
-      }
+-- the report on packets at hand: what workers said of them and what stands behind that, by rules that are those of the policy; and their lines
+pub reported_at_hand : (options : Options) (text : List ℕ) (policy : PolicyFacts) (packets : List PacketFacts) (told : List Captured) (verdicts : List Verdict) (lines behind : List ℕ)
+    (old mid new : Option (List ℕ)) (totals : Totals) (judged shown : List PacketFacts) (said : List Verdict) (ready : PolicyFacts) → judged ≡ packets → shown ≡ packets → said ≡ verdicts
+    → ready ≡ policy → IsToldBehind options text ready judged verdicts (latest_second judged) behind
+    → AreLines options.lines (record { policy = policy; text = text; packets = shown; verdicts = said; captures = told; shown = options.shown }) lines
+    → Appends old mid lines → totals ≡ totals_of said told → Appends mid new behind → HasReportedOn options text policy packets told old new totals
+reported_at_hand options text policy packets told verdicts lines behind old mid new totals judged shown said ready one two three four is are wrote counted more =
+    let by = subst (λ (p : PolicyFacts). IsToldBehind options text p packets verdicts (latest_second packets) behind) four
+    (subst (λ (ps : List PacketFacts). IsToldBehind options text ready ps verdicts (latest_second ps) behind) one is) in
+    let own = subst (λ (vs : List Verdict). AreLines options.lines (told_facts policy text packets (record { verdicts = vs; captures = told }) options.shown) lines) three
+    (subst (λ (ps : List PacketFacts). AreLines options.lines (told_facts policy text ps (record { verdicts = said; captures = told }) options.shown) lines) two are) in
+    let made = reported options text policy packets verdicts told lines behind by own in
+    record {
+      judged = made.0;
+      reached = made.1;
+      report = lines ++ behind;
+      told = made.2.0;
+      written = Appends-trans old mid new lines behind wrote more;
+      counted = counted ∙ ap (λ (vs : List Verdict). totals_of vs told) three ∙ ap (λ (o : Outcome). totals_of o.verdicts told) (sym made.2.1);
+    }

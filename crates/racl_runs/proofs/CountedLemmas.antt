@@ -19,8 +19,8 @@ use Rattle.racl_report.specs.RunReports.{told_facts, view_behind}
 use Rattle.racl_report.specs.declared.text_behind_totals.Behind.{Behind}
 use Rattle.racl_runs.specs.Crews.{AreAllSaidBy, AreAsAsked, AreIdleOf, AreSaid, AreSaidBy, AreSaidSoFar, HaveCountedAfter, HaveEndedCounting, HaveEndedOn, HaveSaidAfter, Orders, size_of, orders_of, views_with}
 use Rattle.racl_runs.specs.declared.sized_tables_and_workers.SizedWorkers.{SizedWorkers}
-use Rattle.racl_runs.specs.LiveRuns.{IsToldBehind, ages_in}
-use Rattle.racl_runs.specs.Runs.{AreToldOf, keeps_stored, layout_for}
+use Rattle.racl_runs.specs.LiveRuns.{IsToldBehind}
+use Rattle.racl_runs.specs.Runs.{AreToldOf, ages_in, keeps_stored, layout_for}
 use Rattle.racl_runs.specs.inner.LiveEnds.{AreBegun, MayTellBehind}
 use Rattle.racl_runs.specs.declared.counted_judging.Counted.{Counted}
 use Rattle.racl_runs.specs.declared.live_run.LiveWay.{LiveWay}

@@ -16,6 +16,7 @@ use Rattle.racl_io.specs.Reports.{totals_of}
 use Rattle.racl_io.specs.Sinks.{GotFront}
 use Rattle.racl_io.specs.Tellings.{IsTellingFault, Wording, lines_in, told_alone, with_write}
 use Rattle.racl_io.proofs.TellingLemmas.{alone_truncated, front_on}
+use Rattle.filter_run.specs.Starts.{Start, behind_header}
 use Rattle.capture_stream.specs.Lives.{HaveFailed}
 use Rattle.capture_stream.specs.Savings.{Manner, Outputs}
 use Rattle.filter_run.specs.CaptureReports.{HasJudgedAll, HasToldAll, HasToldSome, IsLiveFault}
@@ -38,8 +39,8 @@ write_failed written writing saved found failed = failed.0
 
 -- what is told of all packets is told of some
 pub all_is_some : {J K : Type 0} {Became : J → List PacketFacts → List Verdict → J → Type 0} {Judged : J → List PacketFacts → List Verdict → Type 0} {manner : Manner K} {begun : J}
-    {order : Order} {before after : Option (List ℕ)} {old new : Outputs K} {told : ReportedCapture J} (all : HasToldAll Became Judged manner begun order before after old new told)
-    → HasToldSome Judged manner begun order before after old new all.all.rest
+    {start : Start} {before after : Option (List ℕ)} {old new : Outputs K} {told : ReportedCapture J} (all : HasToldAll Became Judged manner begun start before after old new told)
+    → HasToldSome Judged manner begun start before after old new all.all.rest
 all_is_some all = record {
   read = all.all.read;
   consumed = all.all.consumed;
@@ -57,17 +58,18 @@ all_is_some all = record {
 -- ---- The end, where all packets were judged
 
 module _ {J : Type 0} {Judged : J → List PacketFacts → List Verdict → Type 0} {begun : J} (options : Options) (expectations : List Expectation) (policy : PolicyFacts)
-    (order : Order) (before after old mid : Option (List ℕ)) (totals : Totals) (all : HasJudgedAll Judged begun order before after totals)
+    (order : Order) (before after old mid : Option (List ℕ)) (totals : Totals) (all : HasJudgedAll Judged begun (behind_header order) before after totals)
     (by : ByLoneWorker options policy (packets_at 0 all.packets) all.verdicts)
     (wrote : Appends old mid (lines_in (unmet_wording expectations) 1 (packets_at 0 all.packets) all.verdicts)) where
   abbrev lines : List ℕ
   lines = lines_in (unmet_wording expectations) 1 (packets_at 0 all.packets) all.verdicts
 
-  abbrev judged : HasJudgedAll (ByLoneWorker options) policy order before after totals
+  abbrev judged : HasJudgedAll (ByLoneWorker options) policy (behind_header order) before after totals
   judged = record {
     read = all.read;
     consumed = all.consumed;
     ended = all.ended;
+    few = all.few;
     packets = all.packets;
     rest = all.rest;
     records = all.records;
@@ -81,7 +83,7 @@ module _ {J : Type 0} {Judged : J → List PacketFacts → List Verdict → Type
 
   -- of all packets their lines were written, and no more
   pub some_told : (new : Option (List ℕ)) (whole : List ℕ) → all.read ≡ whole ++ all.rest → new ≡ mid
-      → HasToldSome (ByLoneWorker options) (manner_by expectations) policy order before after (output old) (output new) all.rest
+      → HasToldSome (ByLoneWorker options) (manner_by expectations) policy (behind_header order) before after (output old) (output new) all.rest
   some_told new whole spelt same = record {
     read = all.read;
     consumed = all.consumed;
@@ -117,7 +119,7 @@ module _ {J : Type 0} {Judged : J → List PacketFacts → List Verdict → Type
     }
 
     fault_at_end : (new : Option (List ℕ)) (whole : List ℕ) → all.read ≡ whole ++ all.rest → (found : Fault) → IsTellingFault mid new (end_of expectations totals ++ last) found
-        → IsLiveFault (ByLoneWorker options) (manner_by expectations) policy order before after (output old) (output new) found ⊎ HasCutEnd options expectations policy order before after old new found
+        → IsLiveFault (ByLoneWorker options) (manner_by expectations) policy (behind_header order) before after (output old) (output new) found ⊎ HasCutEnd options expectations policy order before after old new found
     fault_at_end new whole spelt fault.Memory same = inl (all.rest, some_told new whole spelt same)
     fault_at_end new whole spelt fault.Write front = inr (record {
       failed = refl;
@@ -130,14 +132,14 @@ module _ {J : Type 0} {Judged : J → List PacketFacts → List Verdict → Type
 
     pub end_fault : (new : Option (List ℕ)) (whole : List ℕ) → all.read ≡ whole ++ all.rest → (found : Fault) (at : Wording) → at ≡ unmet_wording expectations
         → IsTellingFault mid new (at.end totals ++ last) found
-        → IsLiveFault (ByLoneWorker options) (manner_by expectations) policy order before after (output old) (output new) found ⊎ HasCutEnd options expectations policy order before after old new found
+        → IsLiveFault (ByLoneWorker options) (manner_by expectations) policy (behind_header order) before after (output old) (output new) found ⊎ HasCutEnd options expectations policy order before after old new found
     end_fault new whole spelt found at same why = fault_at_end new whole spelt found (subst (λ (w : Wording). IsTellingFault mid new (w.end totals ++ last) found) same why)
 
 -- ---- The whole run
 
 -- all bytes were read, and are a capture
 judged_capture : (options : Options) (text : List ℕ) (before left after : Option (List ℕ)) (policy : PolicyFacts) (order : Order) (totals : Totals)
-    → IsPolicyText text policy → HasReadHeader before left order → (all : HasJudgedAll (ByLoneWorker options) policy order left after totals)
+    → IsPolicyText text policy → HasReadHeader before left order → (all : HasJudgedAll (ByLoneWorker options) policy (behind_header order) left after totals)
     → ByLoneWorker options policy (packets_at 0 all.packets) all.verdicts → HasJudgedCapture options text before
 judged_capture options text before left after policy order totals says head all by =
     let (known, records) = whole_capture before left after order head all.read all.rest all.packets all.truncated all.consumed all.ended all.records all.end in
@@ -154,7 +156,7 @@ judged_capture options text before left after policy order totals says head all 
     }
 
 -- the totals are over all its packets
-totals_same : {options : Options} {policy : PolicyFacts} {order : Order} {left after : Option (List ℕ)} {totals : Totals} (all : HasJudgedAll (ByLoneWorker options) policy order left after totals)
+totals_same : {options : Options} {policy : PolicyFacts} {order : Order} {left after : Option (List ℕ)} {totals : Totals} (all : HasJudgedAll (ByLoneWorker options) policy (behind_header order) left after totals)
     → totals ≡ totals_of all.verdicts (told_alone (length (packets_at 0 all.packets)) all.truncated)
 totals_same all = all.counted ∙ ap (λ n. totals_of all.verdicts (told_alone n all.truncated)) (sym (length-map all.packets (packet_at 0)))
 

@@ -15,17 +15,15 @@ use Rattle.racl_io.specs.declared.totals_and_truncation.Captured.{Captured}
 use Rattle.racl_io.specs.declared.totals_and_truncation.Totals.{Totals}
 use Rattle.racl_io.specs.Faults.{policy_fault}
 use Rattle.racl_io.specs.Inputs.{most_bytes}
-use Rattle.racl_views.specs.RunEntries.{RunFacts}
-use Rattle.racl_views.specs.Stored.{StoredFacts}
+use Rattle.racl_io.specs.Reports.{totals_of}
 use Rattle.racl_views.specs.declared.capture_bytes.CaptureBytes.{CaptureBytes}
 use Rattle.racl_report.specs.InterfaceInputs.{AreAllBytes, AreTakenApart, IsFaultApart, IsFaultBehind, bytes_in, placeless}
 use Rattle.racl_report.specs.declared.interface_captures.PlacedFault.{PlacedFault}
-use Rattle.racl_report.specs.RunReports.{JudgedFacts, Outcome, sessions_behind, told_facts}
-use Rattle.racl_report.specs.WrittenReports.{HasTold}
+use Rattle.racl_report.specs.RunReports.{Outcome}
 use Rattle.racl_report.proofs.InterfaceLaws.{fault_not_write, found_at, no_fault_apart, one_fault_apart, one_read_apart, read_or_fault}
-use Rattle.racl_report.proofs.ViewLemmas.{outcome_of}
+use Rattle.racl_runs.proofs.OutcomeLemmas.{outcome_of}
 use Rattle.racl_runs.specs.InterfaceRuns.{HasOutcomeApart, HasRunApart, IsSystemApart}
-use Rattle.racl_runs.specs.Reads.{IsReached}
+use Rattle.racl_runs.specs.Reads.{HasReportedOn}
 use Rattle.racl_runs.specs.Runs.{AgeInTime, ByOneThread, layout_for}
 
 -- a run on them has the outcome of the one-thread filter, where no verdict says no-pages and ageing is in time
@@ -66,25 +64,20 @@ outcome_of_interfaces size times text captures few =
     ]
 
 -- the report on what was judged of a text and captures
-pub has_run_apart : (options : Options) (text : List ℕ) (captures : List CaptureBytes) (policy : PolicyFacts) (packets : List PacketFacts) (told : List Captured) (judged : JudgedFacts)
-    (run : RunFacts) (stored : StoredFacts) (old new : Option (List ℕ)) (result : Result Totals Fault) → length text + bytes_in captures ≤ most_bytes → IsPolicyText text policy
-    → AreTakenApart [] captures packets told → IsReached options policy packets told judged → run ≡ told_facts policy text packets judged.outcome options.shown
-    → stored ≡ judged.stored → (IsPolicyText run.text run.policy → IfOk result (HasTold options run stored old new)) → IfOk result (HasRunApart options text captures old new)
-has_run_apart options text captures policy packets told judged run stored old new (Ok totals) few says taken reached made stood tells =
-    let here = subst (λ (r : RunFacts). IsPolicyText r.text r.policy → HasTold options r stored old new totals) made tells says in
-    let has = subst (λ (s : StoredFacts). HasTold options (told_facts policy text packets judged.outcome options.shown) s old new totals) stood here in
-    record {
-      policy = policy;
-      packets = packets;
-      judged = judged;
-      read = record { few = few; says = says; taken = subst (λ (cs : List Captured). AreTakenApart [] captures packets cs) (sym reached.told) taken };
-      reached = record { by_workers = reached.by_workers; kept = reached.kept; by_one_thread = reached.by_one_thread; told = refl };
-      report = has.lines ++ (has.hits ++ sessions_behind options judged.stored);
-      told = record { lines = has.lines; are = has.are; hits = has.hits; told = has.told; all = refl };
-      written = has.text;
-      counted = has.counted;
-    }
-has_run_apart options text captures policy packets told judged run stored old new (Err fault) few says taken reached made stood tells = tt
+pub has_run_apart : (options : Options) (text : List ℕ) (captures : List CaptureBytes) (policy : PolicyFacts) (packets : List PacketFacts) (told : List Captured)
+    (old new : Option (List ℕ)) (totals : Totals) → length text + bytes_in captures ≤ most_bytes → IsPolicyText text policy → AreTakenApart [] captures packets told
+    → HasReportedOn options text policy packets told old new totals → HasRunApart options text captures old new totals
+has_run_apart options text captures policy packets told old new totals few says taken has = record {
+  policy = policy;
+  packets = packets;
+  judged = has.judged;
+  read = record { few = few; says = says; taken = subst (λ (cs : List Captured). AreTakenApart [] captures packets cs) (sym has.reached.told) taken };
+  reached = record { by_workers = has.reached.by_workers; kept = has.reached.kept; by_one_thread = has.reached.by_one_thread; told = refl };
+  report = has.report;
+  told = has.told;
+  written = has.written;
+  counted = has.counted ∙ ap (λ (cs : List Captured). totals_of has.judged.outcome.verdicts cs) (sym has.reached.told);
+}
 
 -- ---- which fault is answered
 

@@ -6,6 +6,7 @@ pub mod DatedLemmas
 pub mod DiffLemmas
 pub mod DigitCaptureLemmas
 pub mod ExpectingLemmas
+pub mod HeldLemmas
 pub mod InputLaws
 pub mod InterfaceLemmas
 pub mod LiveInterfaceLemmas

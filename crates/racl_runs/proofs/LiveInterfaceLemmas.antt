@@ -25,7 +25,7 @@ use Rattle.filter_run.specs.declared.captures_report.ReportedCaptures.{ReportedC
 use Rattle.filter_run.proofs.ArrivalLemmas.{gives_none}
 use Rattle.racl_runs.specs.Crews.{AreAsAsked}
 use Rattle.racl_runs.specs.LiveInterfaceRuns.{HasCutComing, HasRunComing, HasToldComing, IsComingRunFault, IsReportOfTurns, TellsComing, TellsNamed}
-use Rattle.racl_runs.specs.LiveRuns.{AreFirstVerdicts, IsToldBehind, ages_in}
+use Rattle.racl_runs.specs.LiveRuns.{AreFirstVerdicts, IsToldBehind}
 use Rattle.racl_runs.specs.declared.counted_judging.Counted.{Counted}
 use Rattle.racl_runs.specs.declared.dated_judging.Dated.{Dated}
 use Rattle.racl_runs.specs.inner.DatedPackets.{HasDated}
@@ -34,6 +34,7 @@ use Rattle.racl_runs.specs.declared.live_run.LiveWay.{LiveWay}
 use Rattle.racl_runs.specs.declared.sized_tables_and_workers.SizedTables.{SizedTables}
 use Rattle.racl_runs.specs.inner.LiveEnds.{AreBegun}
 use Rattle.racl_runs.proofs.LiveLemmas.{CountedSaid, first_verdicts}
+use Rattle.racl_runs.specs.Runs.{ages_in}
 
 -- ---- What is known of verdicts is known as something else, too
 

@@ -20,9 +20,11 @@ use Rattle.racl_options.specs.declared.settings.TableSize.{TableSize}
 use Rattle.racl_io.specs.declared.fault.Fault.{Fault}
 use Rattle.racl_io.specs.declared.fault.Fault.TheVariants.{Write}
 use Rattle.racl_io.specs.declared.totals_and_truncation.Totals.{Totals}
+use Rattle.racl_io.specs.Inputs.{most_bytes}
 use Rattle.racl_io.specs.Reports.{totals_of}
 use Rattle.racl_io.specs.Tellings.{Wording, lines_in, report_in, told_alone}
 use Rattle.racl_report.specs.declared.saved_packets.Saves.{Saves}
+use Rattle.filter_run.specs.Starts.{Start, behind_header, most_at}
 use Rattle.capture_stream.specs.Lives.{HaveFailed}
 use Rattle.capture_stream.specs.Savings.{manner_of, outputs}
 use Rattle.filter_run.proofs.TellLemmas.{failed_since, fault_as}
@@ -31,10 +33,10 @@ use Rattle.capture_shards.specs.Sharing.{lines_at, own_numbers}
 use Rattle.capture_shards.specs.inner.OwnTests.{own_among}
 use Rattle.capture_shards.proofs.SpreadLemmas.{all_in}
 use Rattle.racl_runs.specs.Crews.{AreAsAsked, AreRestingWith, AreSaid, AreSaidSoFar, HaveSaidAfter, Orders, cuts_four, orders_for, orders_in, orders_of, size_of}
-use Rattle.racl_runs.specs.LiveRuns.{AreFirstVerdicts, ByLiveWorkers, ByLoneWorker, HasHead, HasRunLive, IsEarlyFault, IsLiveReport, IsLiveRunFault, IsOrderFor, IsToldBehind, TellsAsAsked, ages_in}
+use Rattle.racl_runs.specs.LiveRuns.{AreFirstVerdicts, ByLiveWorkers, ByLoneWorker, HasHead, HasRunLive, IsEarlyFault, IsLiveReport, IsLiveRunFault, IsOrderFor, IsToldBehind, TellsAsAsked}
 use Rattle.racl_runs.specs.LiveSaves.{HaveSaved}
-use Rattle.racl_runs.specs.Runs.{ByWorkers, bucket_deal}
-use Rattle.racl_runs.specs.ShardRuns.{AreFirstOwn, no_note}
+use Rattle.racl_runs.specs.Runs.{ByWorkers, ages_in, bucket_deal}
+use Rattle.racl_runs.specs.ShardRuns.{AreFirstOwn, IsOwnReport, no_note}
 use Rattle.racl_views.specs.Hits.{latest_second}
 use Rattle.racl_runs.specs.inner.Heads.{HasReadHeader, IsHeadless}
 use Rattle.racl_runs.specs.inner.Kept.{HaveGot}
@@ -180,9 +182,16 @@ whole_capture before left after order head read rest packets truncated consumed 
       (packets, (order, rest, header.right, subst (λ (b : List ℕ). AreRecords order b packets rest) (sym behind) records, end), refl),
     )
 
+-- behind a header no byte was read before, and none of an input stands there
+pub front_behind : (start : Start) (order : Order) → start ≡ behind_header order → length start.front ≤ most_at start.input
+front_behind start order same = subst (λ (s : Start). length s.front ≤ most_at s.input) (sym same) (omega arith)
+
+pub input_behind : (start : Start) (order : Order) → start ≡ behind_header order → IfSome start.input (λ before. before ≤ most_bytes)
+input_behind start order same = subst (λ (s : Start). IfSome s.input (λ before. before ≤ most_bytes)) (sym same) tt
+
 -- ---- All packets are one's own
 
-all_own : (packets : List PacketFacts) → own_packets (own_among None) 1 packets ≡ packets
+pub all_own : (packets : List PacketFacts) → own_packets (own_among None) 1 packets ≡ packets
 all_own packets = all_in 1 packets packets refl
 
 all_lines : (wording : Wording) (n : ℕ) (packets : List PacketFacts) (verdicts : List Verdict)
@@ -198,19 +207,33 @@ all_first {T} {options} {policy} packets verdicts are =
     (subst (λ (vs : List Verdict). AreFirstVerdicts T options policy (own_packets (own_among None) 1 packets) vs)
     (sym are.spread.mine ∙ all_in 1 packets verdicts are.each) are.first)
 
+-- the report on all packets is the lines of these, what stands behind them, and behind that hits and sessions
+module _ (options : Options) (text : List ℕ) (policy : PolicyFacts) (wording : Wording) (packets : List PacketFacts) (truncated : Bool) (totals : Totals) (report : List ℕ)
+    (is : IsOwnReport options text no_note wording policy (own_among None) packets truncated totals report) where
+  pub all_told : IsToldBehind options text policy packets is.verdicts (latest_second packets) is.behind
+  all_told = subst (λ (ps : List PacketFacts). IsToldBehind options text policy ps is.verdicts (latest_second packets) is.behind) (all_own packets) is.told
+
+  pub all_counted : totals ≡ totals_of is.verdicts (told_alone (length packets) truncated)
+  all_counted = is.counted ∙ ap (λ (ps : List PacketFacts). totals_of is.verdicts (told_alone (length ps) truncated)) (all_own packets)
+
+  pub all_text : report ≡ report_in wording packets is.verdicts truncated ++ is.behind
+  unfolding all_counted
+  all_text =
+      let lines = lines_in wording 1 packets is.verdicts in
+      is.all ∙ ap (λ (l : List ℕ). l ++ (wording.end totals ++ is.behind)) (all_lines wording 1 packets is.verdicts)
+      ∙ ap (λ (t : Totals). lines ++ (wording.end t ++ is.behind)) all_counted
+      ∙ sym (append_assoc lines (wording.end (totals_of is.verdicts (told_alone (length packets) truncated))) is.behind)
+
 -- all bytes were read, and this is the report on them
 pub live_report : (options : Options) (text : List ℕ) (before left after : Option (List ℕ)) (policy : PolicyFacts) (order : Order) (wording : Wording) (totals : Totals) (report : List ℕ)
     → IsPolicyText text policy → TellsAsAsked options text policy wording → HasReadHeader before left order
-    → IsOwnReportBehind options text no_note wording policy (own_among None) order left after totals report → IsLiveReport options text before totals report
+    → IsOwnReportBehind options text no_note wording policy (own_among None) (behind_header order) left after totals report → IsLiveReport options text before totals report
 live_report options text before left after policy order wording totals report says tells head is =
     let packets = packets_at 0 is.packets in
     let verdicts = is.is.verdicts in
     let truncated = is.truncated in
     let (known, records) = whole_capture before left after order head is.read is.rest is.packets truncated is.consumed is.ended is.records is.end in
-    let told = subst (λ (ps : List PacketFacts). IsToldBehind options text policy ps verdicts (latest_second packets) is.is.behind) (all_own packets) is.is.told in
-    let counted : totals ≡ totals_of verdicts (told_alone (length packets) truncated) =
-    is.is.counted ∙ ap (λ (ps : List PacketFacts). totals_of verdicts (told_alone (length ps) truncated)) (all_own packets) in
-    let lines = lines_in wording 1 packets verdicts in
+    let told = all_told options text policy wording packets truncated totals report is.is in
     record {
       policy = policy;
       says = says;
@@ -228,23 +251,20 @@ live_report options text before left after policy order wording totals report sa
         are = tells.report packets verdicts truncated (is.count ∙ ap length (all_own packets));
         hits = told.hits;
         told = told.told (told_alone (length packets) truncated);
-        all = is.is.all ∙ ap (λ (l : List ℕ). l ++ (wording.end totals ++ is.is.behind)) (all_lines wording 1 packets verdicts)
-            ∙ ap (λ (t : Totals). lines ++ (wording.end t ++ is.is.behind)) counted
-            ∙ sym (append_assoc lines (wording.end (totals_of verdicts (told_alone (length packets) truncated))) is.is.behind)
-            ∙ ap (λ (more : List ℕ). report_in wording packets verdicts truncated ++ more) told.all;
+        all = all_text options text policy wording packets truncated totals report is.is ∙ ap (λ (more : List ℕ). report_in wording packets verdicts truncated ++ more) told.all;
       };
-      counted = counted;
+      counted = all_counted options text policy wording packets truncated totals report is.is;
     }
 
 -- the report was written and packets saved, or why they weren't
 module _ {S : Type 0} (T : Type 0) (sink : S → Option (List ℕ)) (failures : S → ℕ) (options : Options) (text : List ℕ) (before left after old new : Option (List ℕ)) (policy : PolicyFacts)
     (says : IsPolicyText text policy) (order : Order) (header : HasReadHeader before left order) (first : Saves S) (mid last : LiveSaves S) (got : HaveGot sink header.header first mid.files) where
-  pub live_ends : (wording : Wording) (result : Result Totals Fault) → TellsAsAsked options text policy wording
-      → TellsOwn T options text no_note (manner_of wording (Keeps sink failures)) policy (own_among None) order left after (outputs old mid) (outputs new last) result
+  live_ends_behind : (wording : Wording) (result : Result Totals Fault) → TellsAsAsked options text policy wording
+      → TellsOwn T options text no_note (manner_of wording (Keeps sink failures)) policy (own_among None) (behind_header order) left after (outputs old mid) (outputs new last) result
       → MatchResult result (HasRunLive sink options text before (outputs old first) (outputs new last.files))
       (IsLiveRunFault T sink options text before after (outputs old first) (outputs new last.files))
   unfolding live_report
-  live_ends wording (Ok totals) tells told = record {
+  live_ends_behind wording (Ok totals) tells told = record {
     report = told.report;
     is = live_report options text before left after policy order wording totals told.report says tells header told.is;
     written = told.written;
@@ -253,15 +273,15 @@ module _ {S : Type 0} (T : Type 0) (sink : S → Option (List ℕ)) (failures : 
         (have_saved sink failures order header.header told.is.read told.whole told.is.rest (end_of told.is.truncated) told.verdicts first mid.files last.files header.headed header.whole
         told.spelt told.is.end got told.saved);
   }
-  live_ends wording (Err fault) tells (inl why) = inr (inl (
+  live_ends_behind wording (Err fault) tells (inl why) = inr (inl (
     head_in policy says order header,
     wording,
     tells,
-    fault_as (AreFirstOwn T options (own_among None)) (AreFirstVerdicts T options) wording (Keeps sink failures) (SavesBehind sink header.header) policy policy all_first order left after old new
+    fault_as (AreFirstOwn T options (own_among None)) (AreFirstVerdicts T options) wording (Keeps sink failures) (SavesBehind sink header.header) policy policy all_first (behind_header order) left after old new
         mid last first last.files
         (λ whole verdicts saved. first_saved sink failures order header.header whole verdicts first mid.files last.files header.headed header.whole got saved) fault why,
   ))
-  live_ends wording (Err fault) tells (inr cut) = inr (inr (record {
+  live_ends_behind wording (Err fault) tells (inr cut) = inr (inr (record {
     failed = cut.failed;
     ended = cut.is.ended;
     totals = cut.totals;
@@ -269,6 +289,15 @@ module _ {S : Type 0} (T : Type 0) (sink : S → Option (List ℕ)) (failures : 
     is = live_report options text before left after policy order wording cut.totals cut.report says tells header cut.is;
     front = cut.front;
   }))
+
+  pub live_ends : (start : Start) (wording : Wording) (result : Result Totals Fault) → start ≡ behind_header order → TellsAsAsked options text policy wording
+      → TellsOwn T options text no_note (manner_of wording (Keeps sink failures)) policy (own_among None) start left after (outputs old mid) (outputs new last) result
+      → MatchResult result (HasRunLive sink options text before (outputs old first) (outputs new last.files))
+      (IsLiveRunFault T sink options text before after (outputs old first) (outputs new last.files))
+  unfolding live_ends_behind
+  live_ends start wording result same tells told =
+      live_ends_behind wording result tells
+      (subst (λ (s : Start). TellsOwn T options text no_note (manner_of wording (Keeps sink failures)) policy (own_among None) s left after (outputs old mid) (outputs new last) result) same told)
 
 -- which devices failed since then
 pub write_since : (written writing saved saving first second : ℕ) (result : Result Totals Fault) → first ≡ written → second ≡ saved

@@ -1,8 +1,9 @@
 -- What was read of an input up to the records of its capture, and what is answered of it once these are judged.
-use Rattle.std.proofs.Common.{◌≡◌, ◌∙◌, ◌+◌, ◌-◌, ◌≤◌, ℕ, List, [], ◌∷◌, ◌++◌, Option, IfOk, IfErr, Result, Ok, Err, drop, length, take, append-nil, append_assoc, arith, refl, sym, ap, subst, inl, inr}
+use Rattle.std.proofs.Common.{◌≡◌, ◌∙◌, ◌+◌, ◌-◌, ◌<◌, ◌≤◌, ℕ, List, [], ◌∷◌, ◌++◌, Option, Some, Err, drop, length, length-drop, take, append-nil, append_assoc, arith, refl, sym, ap, subst, inl, inr}
 use Rattle.std.proofs.Math.Seq.{drop-append-add}
 use Rattle.std.proofs.lemmas.List.{drop-append-le, length-append, take_at}
-use Rattle.packet_view.specs.Captures.{AreRecords, HasFileHeader, IsCaptureFault, IsHeaderFault}
+use Rattle.std.specs.Io.KnownBytes.{Consumes, IsAtEnd}
+use Rattle.packet_view.specs.Captures.{AreRecords, HasFileHeader, IsCaptureFault, IsHeaderFault, IsTooLong, RecordFacts, packets_at}
 use Rattle.packet_view.specs.declared.capture.CaptureFault.{CaptureFault}
 use Rattle.packet_view.specs.declared.capture.CaptureFault.TheVariants as capture
 use Rattle.packet_view.specs.declared.capture.Order.{Order}
@@ -10,18 +11,18 @@ use Rattle.packet_view.proofs.CaptureLemmas.{IsHeaderOf, fault_of_header, long_i
 use Rattle.packet_view.proofs.FrontLemmas.{behind_header_appended, header_appended}
 use Rattle.acl_policy.specs.Policies.{PolicyFacts, policy_facts}
 use Rattle.racl_options.specs.declared.settings.Options.{Options}
-use Rattle.racl_io.specs.declared.fault.Fault.{Fault}
-use Rattle.racl_io.specs.declared.fault.Fault.TheVariants.{Memory, Read, TooLarge, LongRecord}
+use Rattle.racl_io.specs.declared.fault.Fault.TheVariants.{TooLarge, LongRecord}
 use Rattle.racl_io.specs.declared.marker_line.Form.{Form}
 use Rattle.racl_io.specs.declared.marker_line.Form.TheVariants.{Binary}
 use Rattle.racl_io.specs.Faults.{capture_fault}
 use Rattle.racl_io.specs.Inputs.{InputFacts, IsContent, IsInput, IsMarked, most_bytes}
-use Rattle.capture_stream.specs.Streams.{HasLongRecord, IsStreamFault, records_in}
-use Rattle.capture_stream.specs.declared.stream_judging.Opening.{Opening}
-use Rattle.racl_runs.specs.Reads.{AnswersInput, AnswersRead, HasHeaded, HasJudged, IsHeaded, IsSaid}
-use Rattle.racl_report.specs.RunReports.{JudgedFacts}
+use Rattle.racl_io.specs.Reports.{totals_of}
+use Rattle.racl_io.specs.declared.totals_and_truncation.Totals.{Totals}
+use Rattle.filter_run.specs.Starts.{Start}
+use Rattle.racl_runs.specs.Reads.{AnswersInput, AnswersRead, HasHeaded, HasJudged, HoldsReport, IsHeaded, IsSaid}
+use Rattle.racl_report.specs.RunReports.{IsReportOn, JudgedFacts}
 use Rattle.racl_runs.specs.declared.input_front.Headed.{Headed}
-use Rattle.racl_runs.proofs.OutcomeLemmas.{capture_answers, verdicts_answer}
+use Rattle.racl_runs.proofs.OutcomeLemmas.{capture_answers, report_answer}
 use Rattle.racl_report.proofs.CaptureLaws.{IsUnnumbered}
 use Rattle.racl_runs.proofs.ReadLemmas.{all_known, too_many_known}
 
@@ -152,71 +153,80 @@ headed_records : (options : Options) (front read : List ℕ) (headed : Headed) �
     → HasRecords (front ++ read) (policy_facts headed.filter.policy) headed.order (drop headed.from (front ++ read))
 headed_records options front read headed has =
     let plain = in_binary front has.parts.form has.parts.policy has.parts.content has.form has.parted in
-    records_more front read (policy_facts headed.filter.policy) headed.order has.parts.policy has.parts.content headed.from plain has.policy has.header has.within has.behind
-
--- an opening of the input stands where its records begin
-pub record IsOpeningOf (front : List ℕ) (headed : Headed) (opening : Opening) : Type 0 where
-  pub bytes : opening.bytes.items ≡ front
-  pub from : opening.from ≡ headed.from
-  pub order : opening.order ≡ headed.order
-  pub few : length front ≤ most_bytes
+    records_more front read (policy_facts headed.filter.policy) headed.order has.parts.policy has.parts.content headed.from plain has.policy has.header has.within.1 has.behind
 
 -- ---- what is answered
 
-module _ (options : Options) (front : List ℕ) (headed : Headed) (opening : Opening) (is : IsOpeningOf front headed opening) (has : HasHeaded options front headed) where
-  stands : (read : List ℕ) → HasRecords (front ++ read) (policy_facts headed.filter.policy) opening.order (records_in opening read)
+-- where the records of a capture begin that an input has
+abbrev pub start_of : List ℕ → Headed → Start
+start_of front headed = record { order = headed.order; front = drop headed.from front; input = Some headed.from }
+
+module _ (options : Options) (front : List ℕ) (headed : Headed) (has : HasHeaded options front headed) where
+  abbrev policy : PolicyFacts
+  policy = policy_facts headed.filter.policy
+
+  stands : (read : List ℕ) → HasRecords (front ++ read) policy headed.order (drop headed.from front ++ read)
   stands read =
-      subst (λ (o : Order). HasRecords (front ++ read) (policy_facts headed.filter.policy) o (records_in opening read)) (sym is.order)
-      (subst (λ n. HasRecords (front ++ read) (policy_facts headed.filter.policy) headed.order (drop n (opening.bytes.items ++ read))) (sym is.from)
-      (subst (λ (b : List ℕ). HasRecords (front ++ read) (policy_facts headed.filter.policy) headed.order (drop headed.from (b ++ read))) (sym is.bytes)
-      (headed_records options front read headed has)))
+      let all = headed_records options front read headed has in
+      record {
+        parts = all.parts;
+        parted = all.parted;
+        said = all.said;
+        plain = all.plain;
+        capture = all.capture;
+        spelt = all.spelt;
+        header = all.header;
+        behind = sym (drop-append-le headed.from front read has.within.1) ∙ all.behind;
+      }
 
-  few_in_all : (read : List ℕ) → length opening.bytes.items + length read ≤ most_bytes → length (front ++ read) ≤ most_bytes
-  few_in_all read fits = let sizes = length-append front read in let same = ap length is.bytes in omega arith
+  few_in_all : (read : List ℕ) → length front ≤ most_bytes → length (drop headed.from front ++ read) ≤ most_bytes - headed.from → length (front ++ read) ≤ most_bytes
+  few_in_all read few fits =
+      let within = has.within.1 in
+      let behind = length-drop headed.from front in
+      let own = length-append (drop headed.from front) read in
+      let all = length-append front read in
+      omega arith
 
-  judged_answers : (before after : Option (List ℕ)) (met : JudgedFacts) → HasJudged options (policy_facts headed.filter.policy) opening before after met
-      → AnswersRead options front before (Ok met)
-  judged_answers before after met judged =
-      let at = stands judged.read in
-      let few = few_in_all judged.read judged.whole.few in
-      let all : AreRecords opening.order (drop 24 at.capture) judged.packets judged.rest =
-      subst (λ (b : List ℕ). AreRecords opening.order b judged.packets judged.rest) at.behind judged.records in
-      inr (record {
-        read = judged.read;
-        known = all_known before after judged.read judged.whole.consumed judged.whole.ended;
+  pub headed_report : (before after : Option (List ℕ)) (judged : JudgedFacts) (report : List ℕ) (totals : Totals) → length front ≤ most_bytes
+      → (is : HasJudged options policy (start_of front headed) before after judged) → IsReportOn options has.parts.policy policy (packets_at 0 is.packets) judged report
+      → totals ≡ totals_of judged.outcome.verdicts judged.outcome.captures → HoldsReport options front before report totals
+  unfolding stands headed_records records_more
+  headed_report before after judged report totals fits is on counted =
+      let at = stands is.read in
+      let few = few_in_all is.read fits is.few in
+      let all : AreRecords headed.order (drop 24 at.capture) is.packets is.rest = subst (λ (b : List ℕ). AreRecords headed.order b is.packets is.rest) at.behind is.records in
+      record {
+        read = is.read;
+        known = all_known before after is.read is.consumed is.ended;
         few = few;
-        answers = verdicts_answer options (front ++ judged.read) at.parts (policy_facts headed.filter.policy) at.parted at.said at.plain at.capture at.spelt opening.order
-            at.header judged.packets judged.rest judged.truncated met few all judged.end judged.reached;
-      })
+        is = report_answer options (front ++ is.read) at.parts policy at.parted at.said at.plain at.capture at.spelt headed.order at.header is.packets is.rest is.truncated judged report totals
+            few all is.end is.reached on counted;
+      }
 
-  long_answers : (before after : Option (List ℕ)) (number : ℕ) → HasLongRecord opening before after number
+  -- all was read, and a record is too long
+  pub long_answers : (before after : Option (List ℕ)) (read rest : List ℕ) (packets : List RecordFacts) (number : ℕ) → length front ≤ most_bytes
+      → Consumes before after read → IsAtEnd after → length (drop headed.from front ++ read) ≤ most_bytes - headed.from
+      → AreRecords headed.order (drop headed.from front ++ read) packets rest → IsTooLong headed.order rest → number ≡ length packets + 1
       → AnswersRead options front before (Err (LongRecord number))
-  long_answers before after number long =
-      let at = stands long.read in
-      let few = few_in_all long.read long.whole.few in
-      let all : AreRecords opening.order (drop 24 at.capture) long.packets long.rest =
-      subst (λ (b : List ℕ). AreRecords opening.order b long.packets long.rest) at.behind long.records in
+  long_answers before after read rest packets number fits consumed ended less records long counted =
+      let at = stands read in
+      let few = few_in_all read fits less in
+      let all : AreRecords headed.order (drop 24 at.capture) packets rest = subst (λ (b : List ℕ). AreRecords headed.order b packets rest) at.behind records in
       inr (record {
-        read = long.read;
-        known = all_known before after long.read long.whole.consumed long.whole.ended;
+        read = read;
+        known = all_known before after read consumed ended;
         few = few;
-        answers = capture_answers options (front ++ long.read) at.parts (policy_facts headed.filter.policy) at.parted at.said at.plain at.capture at.spelt (capture.LongRecord number)
-            (long_is_wrong opening.order at.capture at.header long.packets long.rest all long.long)
-            (opening.order, long.packets, long.rest, at.header.right, all, long.long, long.counted)
-            (λ cause of. ap capture.LongRecord long.counted ∙ sym (long_refuses opening.order at.capture at.header long.packets long.rest all long.long cause of));
+        answers = capture_answers options (front ++ read) at.parts policy at.parted at.said at.plain at.capture at.spelt (capture.LongRecord number)
+            (long_is_wrong headed.order at.capture at.header packets rest all long)
+            (headed.order, packets, rest, at.header.right, all, long, counted)
+            (λ cause of. ap capture.LongRecord counted ∙ sym (long_refuses headed.order at.capture at.header packets rest all long cause of));
       })
 
-  fault_answers : (before after : Option (List ℕ)) (fault : Fault) → IsStreamFault opening before after fault → AnswersRead options front before (Err fault)
-  fault_answers before after Memory of = inl (Memory, refl, inl refl)
-  fault_answers before after Read of = inl (Read, refl, inr (inl refl))
-  fault_answers before after TooLarge (more, gone, consumed, many) =
-      let same = ap length is.bytes in
-      inl (TooLarge, refl, inr (inr (refl, too_many_known (length front) before after gone consumed (omega arith))))
-  fault_answers before after (LongRecord number) of = long_answers before after number of
-  fault_answers before after fault of = absurd of
-
-  pub stream_answers : (before after : Option (List ℕ)) (result : Result JudgedFacts Fault)
-      → IfOk result (HasJudged options (policy_facts headed.filter.policy) opening before after) → IfErr result (IsStreamFault opening before after)
-      → AnswersRead options front before result
-  stream_answers before after (Ok met) judged fault = judged_answers before after met judged
-  stream_answers before after (Err found) judged fault = fault_answers before after found fault
+  -- too much was read
+  pub large_answers : (before after : Option (List ℕ)) (read : List ℕ) → length front ≤ most_bytes → Consumes before after read
+      → most_bytes - headed.from < length (drop headed.from front ++ read) → AnswersRead options front before (Err TooLarge)
+  large_answers before after read fits consumed many =
+      let within = has.within.1 in
+      let behind = length-drop headed.from front in
+      let own = length-append (drop headed.from front) read in
+      inl (TooLarge, refl, inr (inr (refl, too_many_known (length front) before after read consumed (omega arith))))

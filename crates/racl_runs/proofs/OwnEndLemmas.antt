@@ -17,6 +17,7 @@ use Rattle.racl_io.specs.Tellings.{IsTellingFault, Wording, lines_in, told_alone
 use Rattle.racl_io.proofs.ReportLemmas.{passed_or_dropped}
 use Rattle.racl_io.proofs.TellingLemmas.{alone_truncated, front_on}
 use Rattle.racl_options.specs.declared.settings.Options.{Options}
+use Rattle.filter_run.specs.Starts.{Start}
 use Rattle.capture_stream.specs.Lives.{AreCounted}
 use Rattle.filter_run.specs.CaptureReports.{HasToldAll, HasToldSome, IsLiveFault}
 use Rattle.capture_stream.specs.Savings.{Outputs, manner_of, outputs}
@@ -29,7 +30,7 @@ use Rattle.capture_shards.specs.inner.OwnTests.{own_among}
 use Rattle.capture_shards.proofs.LineLemmas.{shard_lines}
 use Rattle.capture_shards.proofs.PickedLists.{own_counts}
 use Rattle.racl_runs.specs.Crews.{AreAsAsked}
-use Rattle.racl_runs.specs.LiveRuns.{IsToldBehind, ages_in}
+use Rattle.racl_runs.specs.LiveRuns.{IsToldBehind}
 use Rattle.racl_runs.specs.ShardRuns.{AreFirstOwn, IsOwnFault, Note, own_lines, own_manner}
 use Rattle.racl_runs.specs.declared.dated_judging.Dated.{Dated}
 use Rattle.racl_runs.specs.inner.DatedPackets.{HasDated}
@@ -41,6 +42,7 @@ use Rattle.racl_runs.specs.declared.sized_tables_and_workers.SizedTables.{SizedT
 use Rattle.racl_runs.specs.inner.LiveEnds.{AreBegun}
 use Rattle.racl_runs.specs.inner.OwnRuns.{HasCutOwn, HasToldOwn, IsOwnReportBehind, note_for, own_totals}
 use Rattle.racl_runs.proofs.LiveLemmas.{CountedSaid, first_verdicts}
+use Rattle.racl_runs.specs.Runs.{ages_in}
 
 pub said_counts : {T : Type 0} → AreCounted (CountedSaid {T = T})
 said_counts begun packets said are = are.count
@@ -56,7 +58,7 @@ note_same options (Some shard) n m k l same at = ap₂ (note_for options (Some s
 
 module _ {T K : Type 0} (way : LiveWay) (tables : SizedTables) (dated : Dated (ShardJudge (Counted T))) (is : AreBegun way tables dated.inner.inner)
     (asked : AreAsAsked way.options.now.tables (ages_in way.options.now) tables) (times : way.filter.now.times ≡ way.options.now.times) (wording : Wording)
-    (Saved : K → Order → List ℕ → List Verdict → K → Type 0) (order : Order) (before after : Option (List ℕ)) (old mid : Outputs K) where
+    (Saved : K → Order → List ℕ → List Verdict → K → Type 0) (start : Start) (before after : Option (List ℕ)) (old mid : Outputs K) where
   abbrev begun : ShardJudge (Counted T)
   begun = dated.inner
 
@@ -78,14 +80,14 @@ module _ {T K : Type 0} (way : LiveWay) (tables : SizedTables) (dated : Dated (S
   }
 
   -- not all was told
-  pub own_fault : (found : Fault) → IsLiveFault DatedShared (manner_of (shard_wording own wording) Saved) dated order before after old mid found
-      → IsOwnFault T options (manner_of wording Saved) policy own order before after old mid found
+  pub own_fault : (found : Fault) → IsLiveFault DatedShared (manner_of (shard_wording own wording) Saved) dated start before after old mid found
+      → IsOwnFault T options (manner_of wording Saved) policy own start before after old mid found
   own_fault found why =
-      fault_as DatedShared (AreFirstOwn T options own) (shard_wording own wording) Saved Saved dated policy first order before after old.report mid.report old.saver mid.saver
+      fault_as DatedShared (AreFirstOwn T options own) (shard_wording own wording) Saved Saved dated policy first start before after old.report mid.report old.saver mid.saver
       old.saver mid.saver (λ whole verdicts saved. saved) found why
 
   module _ {Became : Counted T → List PacketFacts → List Verdict → Counted T → Type 0} (told : ReportedCapture (Dated (ShardJudge (Counted T))))
-      (all : HasToldAll (HasDated (HaveShared Became CountedSaid)) DatedShared (manner_of (shard_wording own wording) Saved) dated order before after old mid told) where
+      (all : HasToldAll (HasDated (HaveShared Became CountedSaid)) DatedShared (manner_of (shard_wording own wording) Saved) dated start before after old mid told) where
     abbrev packets : List PacketFacts
     packets = packets_at 0 all.all.packets
 
@@ -106,7 +108,7 @@ module _ {T K : Type 0} (way : LiveWay) (tables : SizedTables) (dated : Dated (S
 
     -- of all packets their lines were written, and no more
     some_told : (new : Option (List ℕ)) → new ≡ mid.report
-        → HasToldSome (AreFirstOwn T options own) (own_manner own (manner_of wording Saved)) policy order before after old (outputs new mid.saver) all.all.rest
+        → HasToldSome (AreFirstOwn T options own) (own_manner own (manner_of wording Saved)) policy start before after old (outputs new mid.saver) all.all.rest
     some_told new same = record {
       read = all.all.read;
       consumed = all.all.consumed;
@@ -122,7 +124,7 @@ module _ {T K : Type 0} (way : LiveWay) (tables : SizedTables) (dated : Dated (S
     }
 
     -- memory ran out
-    pub own_unwritten : IsOwnFault T options (manner_of wording Saved) policy own order before after old mid fault.Memory
+    pub own_unwritten : IsOwnFault T options (manner_of wording Saved) policy own start before after old mid fault.Memory
     own_unwritten = (all.all.rest, some_told mid.report refl)
 
     said_own : length said ≡ length (own_packets own 1 packets)
@@ -162,13 +164,14 @@ module _ {T K : Type 0} (way : LiveWay) (tables : SizedTables) (dated : Dated (S
       abbrev report : List ℕ
       report = own_lines wording own packets said ++ end
 
-      is_report : IsOwnReportBehind options way.text.now note wording policy own order before after over report
+      is_report : IsOwnReportBehind options way.text.now note wording policy own start before after over report
       is_report = record {
         read = all.all.read;
         consumed = all.all.consumed;
         ended = all.all.ended;
         packets = all.all.packets;
         rest = all.all.rest;
+        few = all.all.few;
         records = all.all.records;
         truncated = all.all.truncated;
         end = all.all.end;
@@ -181,10 +184,10 @@ module _ {T K : Type 0} (way : LiveWay) (tables : SizedTables) (dated : Dated (S
           (shard_lines own wording 1 packets all.all.verdicts each ∙ ap (lines_at wording (own_numbers own 1 packets) (own_packets own 1 packets)) spread.mine)
 
       pub own_end_told : (at : Wording) (totals : Totals) → totals ≡ over → at ≡ shard_wording own wording → Appends mid.report new (at.end totals ++ text)
-          → HasToldOwn options way.text.now note (manner_of wording Saved) policy own order before after old (outputs new mid.saver) totals
+          → HasToldOwn options way.text.now note (manner_of wording Saved) policy own start before after old (outputs new mid.saver) totals
       unfolding is_report
       own_end_told at totals sum same more =
-          subst (HasToldOwn options way.text.now note (manner_of wording Saved) policy own order before after old (outputs new mid.saver)) (sym sum)
+          subst (HasToldOwn options way.text.now note (manner_of wording Saved) policy own start before after old (outputs new mid.saver)) (sym sum)
           (record {
             report = report;
             is = is_report;
@@ -200,8 +203,8 @@ module _ {T K : Type 0} (way : LiveWay) (tables : SizedTables) (dated : Dated (S
           })
 
       fault_at_end : (found : Fault) → IsTellingFault mid.report new end found
-          → IsOwnFault T options (manner_of wording Saved) policy own order before after old (outputs new mid.saver) found
-          ⊎ HasCutOwn options way.text.now note wording policy own order before after old.report new found
+          → IsOwnFault T options (manner_of wording Saved) policy own start before after old (outputs new mid.saver) found
+          ⊎ HasCutOwn options way.text.now note wording policy own start before after old.report new found
       fault_at_end fault.Memory same = inl (all.all.rest, some_told new same)
       fault_at_end fault.Write front = inr (record {
         failed = refl;
@@ -213,8 +216,8 @@ module _ {T K : Type 0} (way : LiveWay) (tables : SizedTables) (dated : Dated (S
       fault_at_end found wrong = absurd wrong
 
       pub own_end_fault : (found : Fault) (at : Wording) (totals : Totals) → totals ≡ over → at ≡ shard_wording own wording → IsTellingFault mid.report new (at.end totals ++ text) found
-          → IsOwnFault T options (manner_of wording Saved) policy own order before after old (outputs new mid.saver) found
-          ⊎ HasCutOwn options way.text.now note wording policy own order before after old.report new found
+          → IsOwnFault T options (manner_of wording Saved) policy own start before after old (outputs new mid.saver) found
+          ⊎ HasCutOwn options way.text.now note wording policy own start before after old.report new found
       own_end_fault found at totals sum same why =
           fault_at_end found (subst (λ (w : Wording). IsTellingFault mid.report new (w.end over ++ text) found) same
           (subst (λ (t : Totals). IsTellingFault mid.report new (at.end t ++ text) found) sum why))

@@ -12,7 +12,8 @@ use Rattle.racl_io.specs.Faults.{IsInputFault, IsSystemFault}
 use Rattle.racl_io.specs.Transfers.{GaveAtMost, HasRead, HasReadWithin, failures_after_reads}
 use Rattle.racl_io.proofs.TransferLemmas.{gave_more}
 use Rattle.racl_io.specs.Inputs.{most_bytes}
-use Rattle.racl_runs.specs.Reads.{AnswersInput, AnswersRead, AreKnown, HasRest, IsOutcomeOfAll, IsUnread}
+use Rattle.racl_io.specs.declared.totals_and_truncation.Totals.{Totals}
+use Rattle.racl_runs.specs.Reads.{AnswersInput, AnswersRead, AreKnown, HasRest, HoldsReport, IsUnread}
 use Rattle.racl_runs.specs.Runs.{HasOutcome}
 use Rattle.racl_report.specs.RunReports.{JudgedFacts, Outcome}
 use Rattle.racl_runs.proofs.RunLemmas.{IsWhole, device_or, excluded_by_input, fault_of_input, no_device, steady}
@@ -68,6 +69,16 @@ answers_more options before after front read result consumed (inr whole) =
       answers = subst (λ (b : List ℕ). AnswersInput options b result) one whole.answers;
     })
 
+-- and so is a report on them
+pub held_more : (options : Options) (before after : Option (List ℕ)) (front report : List ℕ) (totals : Totals) → Consumes before after front
+    → HoldsReport options front after report totals → HoldsReport options [] before report totals
+held_more options before after front report totals consumed held = record {
+  read = front ++ held.read;
+  known = known_before before after front held.read consumed held.known;
+  few = held.few;
+  is = held.is;
+}
+
 -- what is answered of bytes is answered of a source that had them
 pub answers_whole : (options : Options) (before after : Option (List ℕ)) (bytes : List ℕ) (result : Result JudgedFacts Fault) → Consumes before after bytes
     → IsAtEnd after → length bytes ≤ most_bytes → AnswersInput options bytes result → AnswersRead options [] before result
@@ -118,16 +129,6 @@ gave_none (Some known) (Some left) most other ended (given, consumed, few) =
 
 -- ---- what is answered of an input that was read
 
--- an outcome is that of all bytes that were read
-pub record HasReached (options : Options) (given : Option (List ℕ)) (judged : JudgedFacts) : Type 0 where
-  pub bytes : List ℕ
-  pub whole : IsWhole given bytes
-  pub answers : AnswersInput options bytes (Ok judged)
-
-pub outcome_read : (options : Options) (given : Option (List ℕ)) (judged : JudgedFacts) → AnswersRead options [] given (Ok judged) → HasReached options given judged
-outcome_read options given outcome (inl (fault, same, unread)) = absurd (let f : ⊥ = cc in f)
-outcome_read options given outcome (inr whole) = record { bytes = whole.read; whole = record { whole = whole.known; few = whole.few }; answers = whole.answers }
-
 -- an input of an outcome of the one-thread filter reads as what was read
 pub known_read : (size : TableSize) (times : Timeouts) (known : Option (List ℕ)) (bytes : List ℕ) (Holds : List ℕ → Outcome → Type 0) → IsWhole known bytes
     → ((outcome : Outcome) → HasOutcome size times bytes outcome → Holds bytes outcome)
@@ -177,11 +178,3 @@ unwritten options given fault (inl (other, same, inl memory)) write = let f : �
 unwritten options given fault (inl (other, same, inr (inl failed))) write = let f : ⊥ = cc in f
 unwritten options given fault (inl (other, same, inr (inr (large, many)))) write = let f : ⊥ = cc in f
 unwritten options given fault (inr whole) write = (no_device options whole.read fault whole.answers).1 write
-
--- what is answered right is the outcome of all bytes
-pub all_judged : (options : Options) (given : Option (List ℕ)) (result : Result JudgedFacts Fault) → AnswersRead options [] given result
-    → IfOk result (IsOutcomeOfAll options given)
-all_judged options given (Ok outcome) answers =
-    let r = outcome_read options given outcome answers in
-    record { bytes = r.bytes; known = r.whole.whole; few = r.whole.few; answers = r.answers }
-all_judged options given (Err fault) answers = tt

@@ -10,6 +10,7 @@ use Rattle.racl_io.specs.Tellings.{Wording}
 use Rattle.racl_options.specs.ShardWords.{shard_facts}
 use Rattle.racl_options.specs.declared.settings.Options.{Options}
 use Rattle.racl_options.specs.declared.settings.ShardAsked.{ShardAsked}
+use Rattle.filter_run.specs.Starts.{Start, behind_header}
 use Rattle.capture_stream.specs.Savings.{manner_of, outputs}
 use Rattle.filter_run.proofs.TellLemmas.{fault_as}
 use Rattle.racl_report.specs.declared.saved_packets.Saves.{Saves}
@@ -49,7 +50,7 @@ note_is options asked shard over = λ i packets latest.
 -- all bytes were read, and this is the report on them
 pub shard_report : (options : Options) (asked : ShardAsked) (text : List ℕ) (before left after : Option (List ℕ)) (policy : PolicyFacts) (order : Order) (wording : Wording) (own : Own)
     (totals : Totals) (report : List ℕ) → IsPolicyText text policy → TellsAsAsked options text policy wording → AreOwn options (shard_facts asked) own → HasReadHeader before left order
-    → IsOwnReportBehind options text (shard_note options (shard_facts asked)) wording policy own order left after totals report → IsShardReport options (shard_facts asked) text before totals report
+    → IsOwnReportBehind options text (shard_note options (shard_facts asked)) wording policy own (behind_header order) left after totals report → IsShardReport options (shard_facts asked) text before totals report
 shard_report options asked text before left after policy order wording own totals report says tells mine head is =
     let (known, records) = whole_capture before left after order head is.read is.rest is.packets is.truncated is.consumed is.ended is.records is.end in
     record {
@@ -78,7 +79,7 @@ module _ {S : Type 0} (T : Type 0) (sink : S → Option (List ℕ)) (failures : 
   gave = HaveSharedSaves (Keeps sink failures)
 
   shard_ends : (wording : Wording) (result : Result Totals Fault) → TellsAsAsked options text policy wording
-      → TellsOwn T options text (shard_note options (shard_facts asked)) (manner_of wording gave) policy own order left after (outputs old mid) (outputs new last) result
+      → TellsOwn T options text (shard_note options (shard_facts asked)) (manner_of wording gave) policy own (behind_header order) left after (outputs old mid) (outputs new last) result
       → MatchResult result (HasRunShard sink options (shard_facts asked) text before (outputs old first) (outputs new last.inner.files))
       (IsShardFault T sink options (shard_facts asked) text before after (outputs old first) (outputs new last.inner.files))
   unfolding shard_report
@@ -96,7 +97,7 @@ module _ {S : Type 0} (T : Type 0) (sink : S → Option (List ℕ)) (failures : 
     tells,
     own,
     mine,
-    fault_as (AreFirstOwn T options own) (AreFirstOwn T options own) (shard_wording own wording) gave (SavesOwn sink own header.header) policy policy (λ packets verdicts by. by) order
+    fault_as (AreFirstOwn T options own) (AreFirstOwn T options own) (shard_wording own wording) gave (SavesOwn sink own header.header) policy policy (λ packets verdicts by. by) (behind_header order)
         left after old new mid last first last.inner.files
         (λ whole verdicts saved. first_own_saved sink failures order header.header whole verdicts first mid last header.headed header.whole got saved) fault why,
   ))
@@ -110,18 +111,19 @@ module _ {S : Type 0} (T : Type 0) (sink : S → Option (List ℕ)) (failures : 
   }))
 
   -- and so where what saves them was given the files, and gave them back
-  pub shard_ends_with : (shard : Shard) (final : LiveSaves S) (wording : Wording) (result : Result Totals Fault) → mid.shard ≡ shard → final ≡ last.inner
+  pub shard_ends_with : (start : Start) (shard : Shard) (final : LiveSaves S) (wording : Wording) (result : Result Totals Fault) → start ≡ behind_header order → mid.shard ≡ shard → final ≡ last.inner
       → IsShardOver options.tables asked shard → TellsAsAsked options text policy wording
-      → TellsOwn T options text (note_for options (Some shard)) (manner_of wording gave) policy (own_of shard) order left after (outputs old mid) (outputs new last) result
+      → TellsOwn T options text (note_for options (Some shard)) (manner_of wording gave) policy (own_of shard) start left after (outputs old mid) (outputs new last) result
       → MatchResult result (HasRunShard sink options (shard_facts asked) text before (outputs old first) (outputs new final.files))
       (IsShardFault T sink options (shard_facts asked) text before after (outputs old first) (outputs new final.files))
-  shard_ends_with shard final wording result at back over tells told =
+  shard_ends_with start shard final wording result same at back over tells told =
       subst (λ (f : LiveSaves S). MatchResult result (HasRunShard sink options (shard_facts asked) text before (outputs old first) (outputs new f.files))
       (IsShardFault T sink options (shard_facts asked) text before after (outputs old first) (outputs new f.files))) (sym back)
       (shard_ends wording result tells
-      (subst (λ (s : Shard). TellsOwn T options text (shard_note options (shard_facts asked)) (manner_of wording gave) policy (own_of s) order left after (outputs old mid) (outputs new last) result) (sym at)
-      (subst (λ (n : Note). TellsOwn T options text n (manner_of wording gave) policy (own_of shard) order left after (outputs old mid) (outputs new last) result)
-      (note_is options asked shard over) told)))
+      (subst (λ (s : Shard). TellsOwn T options text (shard_note options (shard_facts asked)) (manner_of wording gave) policy (own_of s) (behind_header order) left after (outputs old mid) (outputs new last) result) (sym at)
+      (subst (λ (n : Note). TellsOwn T options text n (manner_of wording gave) policy (own_of shard) (behind_header order) left after (outputs old mid) (outputs new last) result)
+      (note_is options asked shard over)
+      (subst (λ (s : Start). TellsOwn T options text (note_for options (Some shard)) (manner_of wording gave) policy (own_of shard) s left after (outputs old mid) (outputs new last) result) same told))))
 
 -- which devices failed since files were given and given back
 pub failed_with : {S : Type 0} (failures : S → ℕ) (written writing first : ℕ) (saves begun mid last final : LiveSaves S) (result : Result Totals Fault) → first ≡ written

@@ -27,7 +27,7 @@ use Rattle.racl_io.specs.declared.totals_and_truncation.Totals.{Totals}
 use Rattle.racl_options.specs.declared.settings.Options.{Options}
 use Rattle.racl_views.specs.Hits.{latest_second}
 use Rattle.racl_views.specs.Stored.{StoredFacts, live_at, live_pairs}
-use Rattle.racl_runs.specs.Runs.{AgeInTime, AreStoredOf, AreToldOf, ByWorkers, HasRun, bucket_deal, keeps_stored, layout_for, told_at}
+use Rattle.racl_runs.specs.Runs.{AgeInTime, AreStoredOf, AreToldOf, ByWorkers, HasRun, ages_in, bucket_deal, keeps_stored, layout_for, told_at}
 use Rattle.racl_runs.specs.StoredRuns.{AreLeftByOneThread, AreLiveByOneThread, pairs_of}
 use Rattle.racl_runs.proofs.OutcomeLemmas.{by_one, judged_unaged}
 use Rattle.racl_runs.proofs.SortedPairs.{AreSorted, in_filter, of_filter, same_pairs, sorted_filter}
@@ -44,7 +44,7 @@ stored_unaged layout times ages latest views told unaged are =
     subst (AreStoredOf layout views) (sym (are.told_is ∙ ap (λ (b : Bool). told_at times b latest are.stored) unaged)) are.are
 
 pub left_by_run : (options : Options) (given old new : Option (List ℕ)) (totals : Totals) (run : HasRun options given old new totals)
-    → options.ages ≡ false → HavePages run.outcome.verdicts → keeps_stored options ≡ true
+    → ages_in options ≡ false → HavePages run.outcome.verdicts → keeps_stored options ≡ true
     → AreLeftByOneThread (layout_for options.tables) options.times run.policy run.packets run.outcome.verdicts run.stored
 left_by_run options given old new totals run unaged paged asked =
     let by = run.by_workers in
@@ -61,7 +61,7 @@ left_by_run options given old new totals run unaged paged asked =
       left = λ home inside. left_by_one _ _ _ _ _ judged (inl refl) home inside (pairs_of run.stored home.family)
           (stored_in (layout_for options.tables) judged.views run.stored
           (subst (λ v. AreStoredOf (layout_for options.tables) v run.stored) (sym was.1)
-          (stored_unaged (layout_for options.tables) options.times options.ages _ by.views run.stored unaged (run.kept asked))) home.family);
+          (stored_unaged (layout_for options.tables) options.times (ages_in options) _ by.views run.stored unaged (run.kept asked))) home.family);
     }
 
 -- ---- Workers that age

@@ -121,15 +121,6 @@ abbrev pub AreRestingWith : {T : Type 0} → List PacketFacts → List Verdict �
 AreRestingWith packets said (Standard workers) = AreRestingBehind said packets workers
 AreRestingWith packets said (Large workers) = AreRestingBehind said packets workers
 
--- of which they handed over nothing
-abbrev pub AreResting : {T : Type 0} → List PacketFacts → SizedWorkers T → Type 0
-AreResting packets workers = AreRestingWith packets [] workers
-
--- workers with these orders after these packets
-pub record AreAfter {T : Type 0} (orders : Orders) (packets : List PacketFacts) (workers : SizedWorkers T) : Type 0 where
-  pub given : orders_of workers ≡ orders
-  pub rest : AreResting packets workers
-
 -- they judged some packets
 abbrev pub HaveJudgedSome : {T : Type 0} → SizedWorkers T → Type 0
 HaveJudgedSome workers = (packets : List PacketFacts) × (said : List Verdict) × AreRestingWith packets said workers

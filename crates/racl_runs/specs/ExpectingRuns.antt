@@ -13,6 +13,7 @@ use Rattle.racl_io.specs.Reports.{totals_of}
 use Rattle.racl_io.specs.Sinks.{GotFront}
 use Rattle.racl_io.specs.Tellings.{told_alone}
 use Rattle.filter_run.specs.CaptureReports.{HasJudgedAll, IsLiveFault}
+use Rattle.filter_run.specs.Starts.{behind_header}
 use Rattle.capture_stream.specs.Savings.{Manner, Outputs, manner_of, outputs}
 use Rattle.compared_verdicts.specs.Meeting.{are_met, told_of, unmet_wording}
 use Rattle.compared_verdicts.specs.declared.expectation.Expectation.{Expectation}
@@ -30,7 +31,7 @@ output bytes = outputs bytes tt
 pub record HasComparedAll (options : Options) (expectations : List Expectation) (policy : PolicyFacts) (order : Order) (before after old new : Option (List ℕ))
     (compared : Compared) : Type 0 where
   pub totals : Totals
-  pub judged : HasJudgedAll (ByLoneWorker options) policy order before after totals
+  pub judged : HasJudgedAll (ByLoneWorker options) policy (behind_header order) before after totals
   pub by : ByLoneWorker options policy (packets_at 0 judged.packets) judged.verdicts
   pub written : Appends old new (told_of expectations judged.verdicts totals)
   pub met : compared.met ≡ are_met expectations judged.verdicts totals
@@ -41,7 +42,7 @@ pub record HasCutEnd (options : Options) (expectations : List Expectation) (poli
     (fault : Fault) : Type 0 where
   pub failed : fault ≡ Write
   pub totals : Totals
-  pub judged : HasJudgedAll (ByLoneWorker options) policy order before after totals
+  pub judged : HasJudgedAll (ByLoneWorker options) policy (behind_header order) before after totals
   pub by : ByLoneWorker options policy (packets_at 0 judged.packets) judged.verdicts
   pub front : GotFront old new (told_of expectations judged.verdicts totals)
 
@@ -50,7 +51,7 @@ abbrev pub ComparesAll : Options → List Expectation → PolicyFacts → Order 
     → Result Compared Fault → Type 0
 ComparesAll options expectations policy order before after old new result =
     MatchResult result (HasComparedAll options expectations policy order before after old new)
-    (λ fault. IsLiveFault (ByLoneWorker options) (manner_by expectations) policy order before after (output old) (output new) fault
+    (λ fault. IsLiveFault (ByLoneWorker options) (manner_by expectations) policy (behind_header order) before after (output old) (output new) fault
     ⊎ HasCutEnd options expectations policy order before after old new fault)
 
 -- The source's bytes are a capture, and one worker gave these verdicts on its packets.
@@ -87,7 +88,7 @@ abbrev pub IsExpectingFault : Options → List ℕ → List Expectation → Opti
 IsExpectingFault options text expectations before after old new fault =
     (IsEarlyFault text before after fault × (new ≡ old))
     ⊎ ((head : HasHead text before)
-    × IsLiveFault (ByLoneWorker options) (manner_by expectations) head.policy head.order head.left after (output old) (output new) fault)
+    × IsLiveFault (ByLoneWorker options) (manner_by expectations) head.policy (behind_header head.order) head.left after (output old) (output new) fault)
     ⊎ HasCutExpecting options text expectations before after old new fault
 
 -- how a run ends

@@ -26,18 +26,15 @@ use Rattle.racl_views.specs.Stored.{StoredFacts}
 use Rattle.racl_views.specs.PartTellings.{AreExplainedLines, AreObjectLines, TellsRun}
 use Rattle.racl_views.specs.RunEntries.{RunFacts}
 use Rattle.filter_run.specs.CaptureReports.{IsLiveFault}
+use Rattle.filter_run.specs.Starts.{behind_header}
 use Rattle.capture_stream.specs.Savings.{Outputs}
 use Rattle.racl_runs.specs.Crews.{AreRestingWith, Orders, orders_of}
 use Rattle.racl_runs.specs.declared.sized_tables_and_workers.SizedWorkers.{SizedWorkers}
 use Rattle.racl_runs.specs.LiveSaves.{HaveSaved}
-use Rattle.racl_runs.specs.Runs.{AgeInTime, AreToldOf, ByOneThread, ByWorkers, bucket_deal, keeps_stored, layout_for}
+use Rattle.racl_runs.specs.Runs.{AgeInTime, AreToldOf, ByOneThread, ByWorkers, ages_in, bucket_deal, keeps_stored, layout_for}
 use Rattle.racl_report.specs.ReadInputs.{told_of}
 use Rattle.racl_report.specs.RunReports.{AreLines, IsReportOn, sessions_behind, told_facts, view_behind}
 use Rattle.racl_report.specs.declared.saved_packets.Saves.{Saves}
-
--- whether sessions that have ended are removed: in a live run, which may never end, and where that is asked for
-abbrev pub ages_in : Options → Bool
-ages_in options = options.live || options.ages
 
 -- Workers gave these verdicts, who age where sessions are removed, and no more of them than the words ask for. They are those of
 -- the one-thread filter, which forgets nothing, where none of them says no-pages, and ageing is in time.
@@ -155,5 +152,5 @@ IsLiveRunFault T sink options text before after old new fault =
     (IsEarlyFault text before after fault × (new.report ≡ old.report) × (fault ≢ Write → new.saver ≡ old.saver))
     ⊎ ((head : HasHead text before) × (wording : Wording) × TellsAsAsked options text head.policy wording
     × IsLiveFault (AreFirstVerdicts T options)
-    (record { wording = wording; saved = λ before order records verdicts after. HaveSaved sink (head.header ++ records) verdicts before after }) head.policy head.order head.left after old new fault)
+    (record { wording = wording; saved = λ before order records verdicts after. HaveSaved sink (head.header ++ records) verdicts before after }) head.policy (behind_header head.order) head.left after old new fault)
     ⊎ HasCutLive options text before after old.report new.report fault

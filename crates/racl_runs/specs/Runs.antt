@@ -28,6 +28,10 @@ use Rattle.racl_report.specs.RunReports.{IsReport, Outcome}
 
 -- ---- verdicts
 
+-- whether sessions that have ended are removed: in a live run, which may never end, and where that is asked for
+abbrev pub ages_in : Options → Bool
+ages_in options = options.live || options.ages
+
 -- The tables that the words ask for. Standard ones have 4096 buckets and 16384 pages for IPv4, 1024 buckets and 4096 pages for
 -- IPv6; large ones 65536 buckets and 262144 pages for each family. A bucket holds at most 256 pairs and changes at most
 -- 8589934591 times.
@@ -112,9 +116,9 @@ pub record HasRun (options : Options) (given old new : Option (List ℕ)) (total
   pub packets : List PacketFacts
   pub outcome : Outcome
   pub read : IsRead bytes policy packets outcome.captures
-  pub by_workers : ByWorkers options options.ages policy packets outcome.verdicts
+  pub by_workers : ByWorkers options (ages_in options) policy packets outcome.verdicts
   pub stored : StoredFacts
-  pub kept : keeps_stored options ≡ true → AreToldOf (layout_for options.tables) options.times options.ages (latest_second packets) by_workers.views stored
+  pub kept : keeps_stored options ≡ true → AreToldOf (layout_for options.tables) options.times (ages_in options) (latest_second packets) by_workers.views stored
   pub by_one_thread : HavePages outcome.verdicts → AgeInTime by_workers → ByOneThread options.tables options.times policy packets outcome.verdicts
   pub report : List ℕ
   pub told : IsReport options bytes policy packets (record { outcome = outcome; stored = stored }) report

@@ -15,6 +15,7 @@ use Rattle.racl_io.specs.Sinks.{GotFront}
 use Rattle.racl_io.specs.Tellings.{Wording, told_alone}
 use Rattle.capture_stream.specs.Lives.{HaveFailed}
 use Rattle.filter_run.specs.CaptureReports.{IsLiveFault}
+use Rattle.filter_run.specs.Starts.{Start, behind_header}
 use Rattle.capture_stream.specs.Savings.{Manner, Outputs}
 use Rattle.capture_shards.specs.Sharing.{IsSpread, lines_at, own_numbers, shard_wording}
 use Rattle.capture_shards.specs.Shards.{IsOwnOf, Own, own_packets}
@@ -70,10 +71,10 @@ abbrev pub own_manner : {K : Type 0} → Own → Manner K → Manner K
 own_manner own manner = record { wording = shard_wording own manner.wording; saved = manner.saved }
 
 -- why not all of them were told, before the totals
-abbrev pub IsOwnFault : {K : Type 0} → Type 0 → Options → Manner K → PolicyFacts → Own → Order → Option (List ℕ) → Option (List ℕ) → Outputs K → Outputs K
+abbrev pub IsOwnFault : {K : Type 0} → Type 0 → Options → Manner K → PolicyFacts → Own → Start → Option (List ℕ) → Option (List ℕ) → Outputs K → Outputs K
     → Fault → Type 0
-IsOwnFault T options manner policy own order before after old new fault =
-    IsLiveFault (AreFirstOwn T options own) (own_manner own manner) policy order before after old new fault
+IsOwnFault T options manner policy own start before after old new fault =
+    IsLiveFault (AreFirstOwn T options own) (own_manner own manner) policy start before after old new fault
 
 -- The source's bytes are a capture, and this is the report on its packets of the shard.
 pub record IsShardReport (options : Options) (shard : ShardFacts) (text : List ℕ) (given : Option (List ℕ)) (totals : Totals) (report : List ℕ) : Type 0 where
@@ -115,7 +116,7 @@ abbrev pub IsShardFault : {S : Type 0} → Type 0 → (S → Option (List ℕ)) 
 IsShardFault T sink options shard text before after old new fault =
     (IsEarlyFault text before after fault × (new.report ≡ old.report) × (fault ≢ Write → new.saver ≡ old.saver))
     ⊎ ((head : HasHead text before) × (wording : Wording) × TellsAsAsked options text head.policy wording × (own : Own) × AreOwn options shard own
-    × IsOwnFault T options (record { wording = wording; saved = SavesOwn sink own head.header }) head.policy own head.order head.left after old new fault)
+    × IsOwnFault T options (record { wording = wording; saved = SavesOwn sink own head.header }) head.policy own (behind_header head.order) head.left after old new fault)
     ⊎ HasCutShard options shard text before after old.report new.report fault
 
 -- where a write's fault is answered a report's device or what saves packets failed once, and else neither did

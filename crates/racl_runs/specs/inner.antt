@@ -3,10 +3,8 @@ pub mod Captures
 pub mod Comparings
 pub mod DatedPackets
 pub mod Heads
+pub mod HeldTexts
 pub mod InterfaceChecks
 pub mod Kept
 pub mod LiveEnds
 pub mod OwnRuns
-pub mod Plans
-pub mod Stored
-pub mod Streams

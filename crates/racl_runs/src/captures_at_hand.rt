@@ -1,236 +1,125 @@
-//! An input of which all was read: what the packets of its captures met, and what is kept of it.
-ghost use Rattle.std.specs.Prelude.{◌≡◌, ◌≢◌, ◌≤◌, ◌<◌, ◌^◌, ◌⊎◌, Err, IfErr, IfOk, List, Ok, drop, length};
+//! Captures of which all bytes are at hand: the report on them.
+ghost use Rattle.std.specs.Prelude.{◌≡◌, ◌++◌, ◌-◌, ◌<◌, ◌^◌, IfErr, IfOk, List, length};
 ghost use Rattle.packet_view.specs.Captures.{PacketFacts};
 ghost use Rattle.packet_view.specs.CheckedCaptures.{remaining};
-ghost use Rattle.acl_policy.specs.Policies.{policy_facts};
+ghost use Rattle.acl_policy.specs.Policies.{IsPolicyText, policy_facts};
 ghost use Rattle.racl_io.specs.declared.fault.Fault.TheVariants.{Memory};
-ghost use Rattle.racl_io.specs.declared.marker_line.Form.TheVariants.{Binary};
-ghost use Rattle.racl_io.specs.Faults.{IsFaultOfContent};
-ghost use Rattle.racl_io.specs.Inputs.{most_bytes};
 ghost use Rattle.racl_io.specs.Reports;
 ghost use Rattle.racl_views.specs.CapturePackets.{HavePackets};
-ghost use Rattle.racl_report.specs.KeptInputs.{Keeps};
-ghost use Rattle.racl_runs.specs.Reads.{AnswersInput, HasMarked, IsReached};
-ghost use Rattle.racl_runs.specs.inner.Plans.{HasReached, IsPlanFor, MayJudgeMarked};
+ghost use Rattle.racl_views.specs.Hits;
+ghost use Rattle.racl_report.specs.WrittenReports.{EndsOnce};
+ghost use Rattle.racl_runs.specs.LiveRuns.{IsToldBehind};
+ghost use Rattle.racl_runs.specs.Reads.{HasReportedOn};
 
-use crate::dated_judging::latest_where;
-use crate::digit_captures::{Decoded, decode_captures};
-use crate::ended_workers::Ended;
-use crate::input_front::Marked;
-use crate::pace::Stopwatch;
-use crate::run_plan::plan_for;
-use crate::sized_tables_and_workers::{Manner, SizedWorkers, create_sized};
-use crate::stored_sessions::{needs_latest, with_stored};
-use crate::workers_as_judges::Crew;
+use crate::live_run::{LiveWay, ages_early, told_behind_live, workers_over};
+use crate::run_plan::{EXPECTED, threads_beside};
+use crate::sized_tables_and_workers::create_sized;
 use capture_stream::Judge;
-use flow_workers::Filter;
-use packet_view::{Packets, check_capture};
-use racl_io::{Captured, Fault, Form};
+use flow_workers::{Filter, Verdict};
+use packet_view::Packets;
+use racl_io::{Captured, Fault, Sink, Totals};
 use racl_options::Options;
-use racl_report::{Judged, Kept, KeptCaptures, PlacedCapture};
-use racl_views::{CaptureBytes, packets_in};
+use racl_report::{Behind, write_behind, write_lines};
+use racl_views::{CaptureBytes, Run, latest_second, packets_in};
 use std::alloc::Global;
 use std::sync::Wait;
 use std::thread::Threads;
 use std::time::Clock;
 
-// What these packets met, which workers judge in this manner. This is told of the captures that have them.
-fn judge_in_manner<T: Clock + Threads + Wait + Sync>(
+/// Captures of which all bytes are at hand, with a policy, its text, and what is told of each capture.
+#[derive(Clone, Copy)]
+pub struct AtHand<'a> {
+    pub filter: &'a Filter,
+    pub text: &'a [u8],
+    pub captures: &'a [CaptureBytes],
+    pub told: &'a [Captured],
+}
+
+// What workers say of these packets who go by this way, and what stands behind the totals over them.
+fn judge_at_hand<T: Clock + Threads + Wait + Sync>(
     rt: &T,
     alloc: Global,
-    options: &Options,
-    manner: Manner<'_, '_>,
+    way: LiveWay<'_, '_>,
     packets: Packets<'_>,
-    told: Vec<Captured>,
-) -> Result<Judged, Fault>
-    requires plan { IsPlanFor options.now manner }
+) -> Result<(Vec<Verdict>, Behind), Fault>
+    requires says { IsPolicyText way.text.now (policy_facts way.filter.now.policy.now) }
+    requires times { way.filter.now.times ≡ way.options.now.times }
     requires fits { length (remaining packets) < 2 ^ 64 }
-    requires told { Reports.packets_in told.items ≡ length (remaining packets) }
-    ensures ok { IfOk result (IsReached options.now (policy_facts manner.entry.filter.now.policy.now) (remaining packets.entry) told.items) }
+    ensures told { IfOk result (λ r. IsToldBehind way.entry.options.now way.entry.text.now (policy_facts way.entry.filter.now.policy.now) (remaining packets.entry) r.0.items
+        (Hits.latest_second (remaining packets.entry)) (r.1.hits.items ++ r.1.sessions.items)) }
+    ensures each { IfOk result (λ r. length r.0.items ≡ length (remaining packets.entry)) }
     ensures fault { IfErr result (λ fault. fault ≡ Memory) }
 {
-    let Ok((tables, callers)) = create_sized(alloc, options.tables, options.ages) else {
+    let ages = ages_early(way.options);
+    let Ok((tables, callers)) = create_sized(alloc, way.options.tables, ages) else {
         return Err(Fault::Memory);
     };
-    let Ok(workers) = SizedWorkers::new(rt, alloc, manner, &tables, callers) else {
+    let Ok(mut counted) = workers_over(rt, alloc, way, &tables, callers) else {
         return Err(Fault::Memory);
     };
-    let watch = Stopwatch::new(rt);
-    let mut crew = Crew {
-        alloc,
-        workers,
-        watch,
-    };
-    let Ok(_) = crew.judge(packets) else {
+    let Ok(verdicts) = counted.judge(packets) else {
         return Err(Fault::Memory);
     };
-    let Crew { workers, .. } = crew;
-    let Ok((verdicts, callers)) = workers.end(alloc) else {
+    let Ok((counts, callers)) = counted.end(alloc) else {
         return Err(Fault::Memory);
     };
-    let ended = Ended {
-        verdicts,
-        captures: told,
-        latest: latest_where(needs_latest(options), 0, packets),
-        callers,
-    };
-    with_stored(alloc, options, tables, ended)
-}
-
-/// What these packets met by this filter, by a plan for as many as they are. This is told of the captures that have them.
-pub fn judge_packets<T: Clock + Threads + Wait + Sync>(
-    rt: &T,
-    alloc: Global,
-    options: &Options,
-    filter: &Filter,
-    packets: Packets<'_>,
-    told: Vec<Captured>,
-) -> Result<Judged, Fault>
-    requires times { filter.now.times ≡ options.now.times }
-    requires told { Reports.packets_in told.items ≡ length (remaining packets) }
-    ensures ok { IfOk result (IsReached options.now (policy_facts filter.now.policy) (remaining packets.entry) told.items) }
-    ensures fault { IfErr result (λ fault. fault ≡ Memory) }
-{
-    let (expected, workers) = plan_for(options, true, packets.count());
-    let Ok(prepared) = filter.prepare(alloc, expected) else {
-        return Err(Fault::Memory);
-    };
-    let Ok(ready) = filter.ready_with(alloc, &prepared) else {
-        return Err(Fault::Memory);
-    };
-    let manner = Manner {
-        filter: &ready,
-        workers,
-    };
-    judge_in_manner(rt, alloc, options, manner, packets, told)
-}
-
-// What the packets met of a capture where it stands, which is kept.
-fn judge_placed<T: Clock + Threads + Wait + Sync>(
-    rt: &T,
-    alloc: Global,
-    options: &Options,
-    filter: &Filter,
-    placed: PlacedCapture,
-) -> Result<(Judged, KeptCaptures), Fault>
-    requires { filter.now.times ≡ options.now.times }
-    ensures ok { IfOk result (HasReached options.now (policy_facts filter.now.policy) Binary (drop placed.from placed.bytes.items)) }
-    ensures fault { IfErr result (λ fault. (fault ≡ Memory) ⊎ IsFaultOfContent Binary (drop placed.from placed.bytes.items) fault) }
-{
-    let checked = check_capture(placed.capture(), 0)?;
-    let mut told = Vec::new(alloc);
-    told.push(Captured {
-        named: None,
-        packets: checked.records.count(),
-        truncated: checked.truncated,
-    })?;
-    let packets = Packets::Records(checked.records);
-    match judge_packets(rt, alloc, options, filter, packets, told) {
-        Ok(judged) => Ok((judged, KeptCaptures::Placed(placed))),
-        Err(fault) => Err(fault),
+    let latest = latest_second(0, packets);
+    match told_behind_live(alloc, way, tables, &counts, callers, latest) {
+        Ok(behind) => Ok((verdicts, behind)),
+        Err(_) => Err(Fault::Memory),
     }
 }
 
-// What the packets met of captures that were decoded, of which this is told.
-fn judge_decoded<T: Clock + Threads + Wait + Sync>(
+/// Workers judge the packets of captures, one after the other, and the report on them is written. Nothing is written before all
+/// packets were judged.
+pub fn report_at_hand<W: Sink, T: Clock + Threads + Wait + Sync>(
     rt: &T,
     alloc: Global,
     options: &Options,
-    filter: &Filter,
-    captures: &[CaptureBytes],
-    told: Vec<Captured>,
-) -> Result<Judged, Fault>
-    requires times { filter.now.times ≡ options.now.times }
-    requires told { (packets : List PacketFacts) × HavePackets captures.now packets × (Reports.packets_in told.items ≡ length packets) }
-    ensures ok { IfOk result (λ judged. (packets : List PacketFacts) → HavePackets captures.now packets
-        → IsReached options.now (policy_facts filter.now.policy) packets told.items judged) }
-    ensures fault { IfErr result (λ fault. fault ≡ Memory) }
+    at_hand: AtHand<'_>,
+    writer: &mut W,
+) -> Result<Totals, Fault>
+    requires says { IsPolicyText at_hand.text.now (policy_facts at_hand.filter.now.policy) }
+    requires times { at_hand.filter.now.times ≡ options.now.times }
+    requires told { (packets : List PacketFacts) × HavePackets at_hand.captures.now packets × (Reports.packets_in at_hand.told.now ≡ length packets) }
+    requires sound { W.failures writer.old < 2 ^ 64 - 1 }
+    ensures ok { IfOk result (λ totals. (packets : List PacketFacts) → HavePackets at_hand.entry.captures.now packets
+        → HasReportedOn options.now at_hand.entry.text.now (policy_facts at_hand.entry.filter.now.policy) packets at_hand.entry.told.now (W.bytes writer.old) (W.bytes writer.new) totals) }
+    ensures ends { EndsOnce W.failures writer.old writer.new result }
 {
-    let Ok(listed) = packets_in(alloc, captures) else {
+    let Ok(listed) = packets_in(alloc, at_hand.captures) else {
         return Err(Fault::Memory);
     };
-    judge_packets(rt, alloc, options, filter, Packets::Slice(&listed), told)
-}
-
-// What the packets met of captures as digits, which are decoded, and kept.
-fn judge_digits<T: Clock + Threads + Wait + Sync>(
-    rt: &T,
-    alloc: Global,
-    options: &Options,
-    bytes: Vec<u8>,
-    marked: &Marked,
-) -> Result<(Judged, KeptCaptures), Fault>
-    requires may { MayJudgeMarked options.now bytes.items marked.now }
-    requires digits { marked.now.form ≢ Binary }
-    ensures ok { IfOk result (HasReached options.now (policy_facts marked.now.filter.policy) marked.now.form (drop marked.now.from bytes.items)) }
-    ensures fault { IfErr result (λ fault. (fault ≡ Memory) ⊎ IsFaultOfContent marked.now.form (drop marked.now.from bytes.items) fault) }
-{
-    let Decoded { captures, told } = match decode_captures(
-        alloc,
-        marked.form,
-        &bytes[marked.from..],
-    ) {
-        Ok(decoded) => decoded,
+    let Ok(prepared) = at_hand.filter.prepare(alloc, listed.len().min(EXPECTED)) else {
+        return Err(Fault::Memory);
+    };
+    let Ok(ready) = at_hand.filter.ready_with(alloc, &prepared) else {
+        return Err(Fault::Memory);
+    };
+    let way = LiveWay {
+        options,
+        text: at_hand.text,
+        filter: &ready,
+    };
+    let (verdicts, behind) = match judge_at_hand(rt, alloc, way, Packets::Slice(&listed)) {
+        Ok(judged) => judged,
         Err(fault) => return Err(fault),
     };
-    drop(bytes);
-    match judge_decoded(rt, alloc, options, &marked.filter, &captures, told) {
-        Ok(judged) => Ok((judged, KeptCaptures::Decoded(captures))),
-        Err(fault) => Err(fault),
-    }
-}
-
-// What the packets met of all captures of an input, and these captures.
-fn judge_captures<T: Clock + Threads + Wait + Sync>(
-    rt: &T,
-    alloc: Global,
-    options: &Options,
-    bytes: Vec<u8>,
-    marked: &Marked,
-) -> Result<(Judged, KeptCaptures), Fault>
-    requires { MayJudgeMarked options.now bytes.items marked.now }
-    ensures ok { IfOk result (HasReached options.now (policy_facts marked.now.filter.policy) marked.now.form (drop marked.now.from bytes.items)) }
-    ensures fault { IfErr result (λ fault. (fault ≡ Memory) ⊎ IsFaultOfContent marked.now.form (drop marked.now.from bytes.items) fault) }
-{
-    match marked.form {
-        Form::Binary => {
-            let from = marked.from;
-            let placed = PlacedCapture { bytes, from };
-            judge_placed(rt, alloc, options, &marked.filter, placed)
-        }
-        Form::Hexadecimal | Form::Numbered(_) => judge_digits(rt, alloc, options, bytes, marked),
-    }
-}
-
-/// What the packets of all captures met, of an input of which all was read; and what is kept of it.
-pub fn judge_at_hand<T: Clock + Threads + Wait + Sync>(
-    rt: &T,
-    alloc: Global,
-    options: &Options,
-    bytes: Vec<u8>,
-    marked: Marked,
-) -> Result<(Judged, Kept), Fault>
-    requires marked { HasMarked options.now bytes.items marked }
-    requires few { length bytes.items ≤ most_bytes }
-    ensures ok { IfOk result (λ met. AnswersInput options.now bytes.items (Ok met.0) × Keeps bytes.items met.1) }
-    ensures fault { IfErr result (λ fault. AnswersInput options.now bytes.items (Err fault)) }
-{
-    let Ok(text) = Vec::from_slice(alloc, &bytes[..marked.text]) else {
-        return Err(Fault::Memory);
+    let run = Run {
+        policy: &at_hand.filter.policy,
+        text: at_hand.text,
+        packets: Packets::Slice(&listed),
+        verdicts: &verdicts,
+        captures: at_hand.told,
+        shown: options.shown,
     };
-    match judge_captures(rt, alloc, options, bytes, &marked) {
-        Ok((judged, captures)) => {
-            let Marked { filter, .. } = marked;
-            let Filter { policy, .. } = filter;
-            Ok((
-                judged,
-                Kept {
-                    policy,
-                    text,
-                    captures,
-                },
-            ))
-        }
+    let beside = threads_beside(rt, options.workers > 1);
+    let totals = match write_lines(beside, alloc, writer, options.lines, run) {
+        Ok(totals) => totals,
+        Err(fault) => return Err(fault),
+    };
+    match write_behind(writer, &behind) {
+        Ok(()) => Ok(totals),
         Err(fault) => Err(fault),
     }
 }

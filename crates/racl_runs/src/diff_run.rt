@@ -3,8 +3,8 @@ ghost use Rattle.std.specs.Prelude.{◌≡◌, ◌-◌, ◌<◌, ◌^◌, MatchR
 ghost use Rattle.racl_runs.specs.DiffRuns.{AreTimesOf, ComparesWith, EndsDiff, HaveFailed, policies_in, with_diff_read, with_diff_write};
 
 use crate::capture_header_reading::read_header;
-use crate::live_run::EXPECTED;
 use crate::pace::Stopwatch;
+use crate::run_plan::EXPECTED;
 use crate::sized_tables_and_workers::{Manner, SizedWorkers, create_sized};
 use crate::workers_as_judges::HandingCrew;
 use acl_policy::{PolicyFault, read_policy};

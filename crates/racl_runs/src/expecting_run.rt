@@ -8,14 +8,14 @@ ghost use Rattle.racl_runs.specs.ExpectingRuns.{ComparesAll, EndsExpecting};
 
 use crate::capture_header_reading::read_header;
 use crate::compared_judging::Comparing;
-use crate::live_run::EXPECTED;
 use crate::pace::Stopwatch;
+use crate::run_plan::EXPECTED;
 use crate::sized_tables_and_workers::{Manner, SizedWorkers, create_sized};
 use crate::workers_as_judges::HandingCrew;
 use acl_policy::read_policy;
 use capture_stream::Unsaved;
 use compared_verdicts::{Expectation, UnmetLines, any_open, is_met, write_met};
-use filter_run::{OpenCapture, ReportedCapture, report_capture};
+use filter_run::{CaptureStart, OpenCapture, ReportedCapture, report_capture};
 use flow_filter::InterfaceFilters;
 use flow_workers::Filter;
 use packet_view::Order;
@@ -114,7 +114,7 @@ fn compare_all<R: Source, W: Sink, T: Clock + Threads + Wait + Sync>(
     };
     let capture = OpenCapture {
         judges,
-        order: head.order,
+        start: CaptureStart::behind_header(alloc, head.order),
         many: None,
     };
     let mut saver = Unsaved;

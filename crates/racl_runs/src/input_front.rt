@@ -17,13 +17,15 @@ use std::alloc::Global;
 #[derive(Drop)]
 pub struct Headed {
     pub filter: Filter,
+    /// Where the policy's text ends in the input.
+    pub text: usize,
     /// The order of the capture's numbers.
     pub order: Order,
     /// Where the records begin in the input.
     pub from: usize,
 }
 
-/// What stands before captures that are judged when all of the input was read.
+/// What stands before captures as digits, which are judged when all of the input was read.
 #[derive(Drop)]
 pub struct Marked {
     pub filter: Filter,
@@ -38,21 +40,16 @@ pub struct Marked {
 /// What stands before the packets of an input.
 #[derive(Drop)]
 pub enum Opened {
-    /// A capture as it is, of which nothing is kept.
+    /// A capture as it is.
     Bytes(Headed),
-    /// One of which all is kept, or captures as digits: one that has no number, or one or several with numbers.
+    /// Captures as digits: one that has no number, or one or several with numbers.
     Whole(Marked),
 }
 
 /// What stands before the packets of the input that these bytes are, or that they are the front of; or the fault that they
-/// have before them. A capture as it is isn't looked at where it is kept.
-pub fn open_input(
-    alloc: Global,
-    options: &Options,
-    keeps: bool,
-    bytes: &[u8],
-) -> Result<Opened, Fault>
-    ensures ok { IfOk result (HasOpened options.now keeps bytes.now) }
+/// have before them.
+pub fn open_input(alloc: Global, options: &Options, bytes: &[u8]) -> Result<Opened, Fault>
+    ensures ok { IfOk result (HasOpened options.now bytes.now) }
     ensures fault { IfErr result (λ fault. AnswersInput options.now bytes.now (Err fault)) }
 {
     let Some(input) = split_input(bytes) else {
@@ -65,18 +62,19 @@ pub fn open_input(
     };
     let from = bytes.len() - input.content.len();
     match input.form {
-        Form::Binary if !keeps => {
+        Form::Binary => {
             let order = capture_header(input.content)?;
             Ok(Opened::Bytes(Headed {
                 filter,
+                text: input.policy.len(),
                 order,
                 from: from + 24,
             }))
         }
-        form => Ok(Opened::Whole(Marked {
+        Form::Hexadecimal | Form::Numbered(_) => Ok(Opened::Whole(Marked {
             filter,
             text: input.policy.len(),
-            form,
+            form: input.form,
             from,
         })),
     }
@@ -93,18 +91,13 @@ pub struct InputFront {
 }
 
 // The front of an input of which all was read.
-fn open_whole(
-    alloc: Global,
-    options: &Options,
-    keeps: bool,
-    bytes: Vec<u8>,
-) -> Result<InputFront, Fault>
+fn open_whole(alloc: Global, options: &Options, bytes: Vec<u8>) -> Result<InputFront, Fault>
     ensures bytes { IfOk result (λ front. front.bytes ≡ bytes) }
     ensures ended { IfOk result (λ front. front.ended ≡ true) }
-    ensures opened { IfOk result (λ front. HasOpened options.now keeps bytes.items front.opened) }
+    ensures opened { IfOk result (λ front. HasOpened options.now bytes.items front.opened) }
     ensures fault { IfErr result (λ fault. AnswersInput options.now bytes.items (Err fault)) }
 {
-    match open_input(alloc, options, keeps, &bytes) {
+    match open_input(alloc, options, &bytes) {
         Ok(opened) => Ok(InputFront {
             bytes,
             ended: true,
@@ -129,28 +122,24 @@ pub fn read_behind_front<R: Source>(reader: &mut R, bytes: &mut Vec<u8>) -> Resu
 }
 
 // What stands before records at the front of an input that are judged while the rest is read, where these bytes begin so.
-fn open_front(alloc: Global, options: &Options, keeps: bool, bytes: &[u8]) -> Option<Headed>
-    ensures { IfSome result (λ headed. HasOpened options.now keeps bytes.now (Bytes headed)) }
+fn open_front(alloc: Global, options: &Options, bytes: &[u8]) -> Option<Headed>
+    ensures { IfSome result (λ headed. HasOpened options.now bytes.now (Bytes headed)) }
 {
-    if keeps {
-        return None;
-    }
-    match open_input(alloc, options, keeps, bytes) {
+    match open_input(alloc, options, bytes) {
         Ok(Opened::Bytes(headed)) => Some(headed),
         _ => None,
     }
 }
 
-/// Reads the front of an input, up to records of a capture as it is: or all of it where it is kept, or where it has a fault
-/// there, or captures as digits.
+/// Reads the front of an input, up to records of a capture as it is: or all of it where it has a fault there, or captures as
+/// digits.
 pub fn open_source<R: Source>(
     alloc: Global,
     options: &Options,
-    keeps: bool,
     reader: &mut R,
 ) -> Result<InputFront, Fault>
     requires { R.failures reader.old < 2 ^ 64 - 1 }
-    ensures ok { IfOk result (HasFront options.now keeps (R.bytes reader.old) (R.bytes reader.new)) }
+    ensures ok { IfOk result (HasFront options.now (R.bytes reader.old) (R.bytes reader.new)) }
     ensures fault { IfErr result (λ fault. AnswersRead options.now [] (R.bytes reader.old) (Err fault)) }
     ensures within { HasReadWithin R.bytes R.failures (most_bytes + 1) reader.old reader.new result }
 {
@@ -160,9 +149,9 @@ pub fn open_source<R: Source>(
         Err(fault) => return Err(fault),
     };
     if ended {
-        return open_whole(alloc, options, keeps, bytes);
+        return open_whole(alloc, options, bytes);
     }
-    if let Some(headed) = open_front(alloc, options, keeps, &bytes) {
+    if let Some(headed) = open_front(alloc, options, &bytes) {
         return Ok(InputFront {
             bytes,
             ended,
@@ -170,7 +159,7 @@ pub fn open_source<R: Source>(
         });
     }
     match read_behind_front(reader, &mut bytes) {
-        Ok(()) => open_whole(alloc, options, keeps, bytes),
+        Ok(()) => open_whole(alloc, options, bytes),
         Err(fault) => Err(fault),
     }
 }

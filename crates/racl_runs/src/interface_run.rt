@@ -6,15 +6,12 @@ ghost use Rattle.racl_report.specs.WrittenReports.{EndsOnce};
 ghost use Rattle.racl_runs.specs.InterfaceRuns.{AnswersRightApart, HasRunApart, IsSystemApart, RefusesApart};
 ghost use Rattle.racl_runs.specs.inner.InterfaceChecks.{AreRightParts};
 
-use crate::captures_at_hand::judge_packets;
-use crate::run_plan::threads_beside;
+use crate::captures_at_hand::{AtHand, report_at_hand};
 use acl_policy::read_policy;
 use flow_workers::Filter;
-use packet_view::Packets;
 use racl_io::{Captured, Fault, Sink, Totals};
 use racl_options::Options;
-use racl_report::{InterfaceInput, PlacedFault, told_of_interfaces, write_run};
-use racl_views::{Run, packets_in};
+use racl_report::{InterfaceInput, PlacedFault, told_of_interfaces};
 use std::alloc::Global;
 use std::sync::Wait;
 use std::thread::Threads;
@@ -62,33 +59,21 @@ fn run_checked<W: Sink, T: Clock + Threads + Wait + Sync>(
     alloc: Global,
     options: &Options,
     input: &InterfaceInput,
-    right: RightInput,
+    right: &RightInput,
     writer: &mut W,
 ) -> Result<Totals, Fault>
-    requires right { AreRightParts options.now input.now right }
+    requires right { AreRightParts options.now input.now right.now }
     requires sound { W.failures writer.old < 2 ^ 64 - 1 }
     ensures ok { IfOk result (HasRunApart options.now input.now.text.items input.now.captures.items (W.bytes writer.old) (W.bytes writer.new)) }
     ensures ends { EndsOnce W.failures writer.old writer.new result }
 {
-    let RightInput { filter, told } = right;
-    let Ok(listed) = packets_in(alloc, &input.captures) else {
-        return Err(Fault::Memory);
-    };
-    let packets = Packets::Slice(&listed);
-    let judged = match judge_packets(rt, alloc, options, &filter, packets, told) {
-        Ok(judged) => judged,
-        Err(fault) => return Err(fault),
-    };
-    let run = Run {
-        policy: &filter.policy,
+    let at_hand = AtHand {
+        filter: &right.filter,
         text: &input.text,
-        packets: Packets::Slice(&listed),
-        verdicts: &judged.verdicts,
-        captures: &judged.captures,
-        shown: options.shown,
+        captures: &input.captures,
+        told: &right.told,
     };
-    let beside = threads_beside(rt, options.workers > 1);
-    write_run(beside, alloc, writer, options, run, &judged.stored)
+    report_at_hand(rt, alloc, options, at_hand, writer)
 }
 
 /// Filters captures of interfaces, one after the other, by a policy, and writes the report. What has a fault gets the first
@@ -115,7 +100,7 @@ pub fn run_interfaces<W: Sink, T: Clock + Threads + Wait + Sync>(
         Ok(right) => right,
         Err(found) => return Err(found),
     };
-    match run_checked(rt, alloc, options, input, right, writer) {
+    match run_checked(rt, alloc, options, input, &right, writer) {
         Ok(totals) => Ok(totals),
         Err(fault) => Err(PlacedFault { fault, place: None }),
     }

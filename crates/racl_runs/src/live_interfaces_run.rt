@@ -10,7 +10,8 @@ ghost use Rattle.racl_runs.specs.LiveInterfaceRuns.{HasRunComing, IsComingRunFau
 
 use crate::asked_lines::AskedLines;
 use crate::dated_judging::Dated;
-use crate::live_run::{EXPECTED, LiveAsked, LiveWay, ages_early, told_behind_live, workers_over};
+use crate::live_run::{LiveAsked, LiveWay, ages_early, told_behind_live, workers_over};
+use crate::run_plan::EXPECTED;
 use crate::sized_tables_and_workers::create_sized;
 use crate::stored_sessions::keeps_stored;
 use acl_policy::read_policy;

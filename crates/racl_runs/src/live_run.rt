@@ -1,19 +1,23 @@
 //! One run over a capture that is told while it comes.
-ghost use Rattle.std.specs.Prelude.{[], ◌≡◌, ◌-◌, ◌<◌, ◌≤◌, ◌^◌, ◌++◌, if◌then◌else◌, IfOk, IfSome, List, MatchResult, None, Some, nat_lt, true, ℕ};
+ghost use Rattle.std.specs.Prelude.{[], ◌≡◌, ◌+◌, ◌-◌, ◌<◌, ◌≤◌, ◌^◌, ◌++◌, if◌then◌else◌, IfOk, IfSome, List, MatchResult, None, Some, length, nat_lt, true, ℕ};
 ghost use Rattle.packet_view.specs.Captures.{PacketFacts};
 ghost use Rattle.acl_policy.specs.Policies.{IsPolicyText, policy_facts};
 ghost use Rattle.session_state.specs.declared.verdict.Verdict.{Verdict};
+ghost use Rattle.racl_io.specs.Inputs.{most_bytes};
 ghost use Rattle.racl_io.specs.Tellings.{HasToldText};
+ghost use Rattle.racl_io.specs.Transfers.{GaveAtMost};
+ghost use Rattle.filter_run.specs.Starts.{most_at, start_facts};
 ghost use Rattle.capture_stream.specs.Lives.{HaveFailed, with_read};
 ghost use Rattle.capture_stream.specs.Savings.{Outputs, manner_of, outputs};
 ghost use Rattle.capture_shards.specs.inner.OwnTests.{own_among};
 ghost use Rattle.racl_report.specs.declared.saved_packets.Saves.{Saves};
 ghost use Rattle.racl_runs.specs.Crews.{AreFirstOf};
-ghost use Rattle.racl_runs.specs.LiveRuns.{HasRunLive, IsLiveRunFault, IsToldBehind, ages_in};
+ghost use Rattle.racl_runs.specs.LiveRuns.{HasRunLive, IsLiveRunFault, IsToldBehind};
 ghost use Rattle.racl_runs.specs.LiveSaves.{failures_in};
 ghost use Rattle.racl_runs.specs.ShardRuns.{HasFailedOnce};
 ghost use Rattle.racl_runs.specs.inner.LiveEnds.{AreBegun, MayTellBehind};
 ghost use Rattle.racl_runs.specs.Runs;
+ghost use Rattle.racl_runs.specs.Runs.{ages_in};
 ghost use Rattle.racl_runs.specs.inner.OwnRuns.{TellsOwn, note_for, own_totals};
 
 use crate::asked_lines::AskedLines;
@@ -22,6 +26,7 @@ use crate::counted_judging::Counted;
 use crate::dated_judging::Dated;
 use crate::live_saves::LiveSaves;
 use crate::pace::Stopwatch;
+use crate::run_plan::EXPECTED;
 use crate::sized_tables_and_workers::{
     MANY_PACKETS, Manner, SizedCallers, SizedTables, SizedWorkers, create_sized,
 };
@@ -30,10 +35,9 @@ use crate::workers_as_judges::HandingCrew;
 use acl_policy::read_policy;
 use capture_shards::{Shard, ShardJudge, ShardTeller};
 use capture_stream::Saver;
-use filter_run::{OpenCapture, ReportedCapture, report_capture};
+use filter_run::{CaptureStart, OpenCapture, ReportedCapture, report_capture};
 use flow_filter::InterfaceFilters;
 use flow_workers::Filter;
-use packet_view::Order;
 use racl_io::{Fault, Sink, Source, Teller, Totals};
 use racl_options::Options;
 use racl_report::{Behind, behind_totals, view_behind, write_behind};
@@ -42,9 +46,6 @@ use std::alloc::{AllocError, Global};
 use std::sync::Wait;
 use std::thread::Threads;
 use std::time::Clock;
-
-/// For how many packets rules of a live run are prepared.
-pub const EXPECTED: usize = 16_777_216;
 
 /// What a live run is asked for: its options, and its policy's text.
 #[derive(Clone, Copy)]
@@ -61,13 +62,12 @@ pub struct LiveWay<'t, 'f> {
     pub filter: &'t InterfaceFilters<'f>,
 }
 
-/// What a run on one capture goes by: its way, the order of the capture's numbers, where it gets memory, and the shard whose
-/// packets it judges and tells; all where there is none.
+/// What a run on one capture goes by: its way, where it gets memory, and the shard whose packets it judges and tells; all where
+/// there is none.
 #[derive(Clone, Copy)]
 pub struct LiveHead<'t, 'f> {
     pub alloc: Global,
     pub way: LiveWay<'t, 'f>,
-    pub order: Order,
     pub shard: Option<Shard>,
 }
 
@@ -214,8 +214,8 @@ fn totals_over(totals: &Totals, own: u64) -> Totals
     }
 }
 
-/// Workers judge the packets of the capture behind its header, or the shard's where there is one, and they are told and saved
-/// while they come. The tables cut blocks where sessions that have ended are removed.
+/// Workers judge the packets of the capture from where its records begin, or the shard's where there is one, and they are told and
+/// saved while they come. The tables cut blocks where sessions that have ended are removed.
 pub fn tell_capture<
     L: Teller + Drop,
     K: Saver,
@@ -225,6 +225,7 @@ pub fn tell_capture<
 >(
     rt: &T,
     head: LiveHead<'_, '_>,
+    start: CaptureStart,
     reader: &mut R,
     writer: &mut W,
     lines: L,
@@ -232,18 +233,16 @@ pub fn tell_capture<
 ) -> Result<Totals, Fault>
     requires says { IsPolicyText head.way.text.now (policy_facts head.way.filter.now.policy.now) }
     requires sound { (head.way.filter.now.times ≡ head.way.options.now.times) × (R.failures reader.old < 2 ^ 64 - 1) × (W.failures writer.old < 2 ^ 64 - 1) }
-    requires saves { K.saved saver.old head.order [] [] saver.old }
+    requires front { length start.front.items ≤ most_at start.input }
+    requires input { IfSome start.input (λ before. before ≤ most_bytes) }
+    requires saves { K.saved saver.old start.order [] [] saver.old }
     ensures told { let way = head.entry.way in TellsOwn T way.options.now way.text.now (note_for way.options.now head.entry.shard) (manner_of (L.wording lines) K.saved) (policy_facts way.filter.now.policy.now) (own_among head.entry.shard)
-        head.entry.order (R.bytes reader.old) (R.bytes reader.new) (outputs (W.bytes writer.old) saver.old) (outputs (W.bytes writer.new) saver.new) result }
+        (start_facts start) (R.bytes reader.old) (R.bytes reader.new) (outputs (W.bytes writer.old) saver.old) (outputs (W.bytes writer.new) saver.new) result }
+    ensures far { GaveAtMost (R.bytes reader.old) (R.bytes reader.new) (most_at start.input + 1 - length start.front.items) }
     ensures read { MatchResult result (λ _. R.failures reader.new ≡ R.failures reader.old) (λ fault. R.failures reader.new ≡ with_read (R.failures reader.old) fault) }
     ensures write { HasFailedOnce result (W.failures writer.old) (W.failures writer.new) (K.failures saver.old) (K.failures saver.new) }
 {
-    let LiveHead {
-        alloc,
-        way,
-        order,
-        shard,
-    } = head;
+    let LiveHead { alloc, way, shard } = head;
     let ages = ages_early(way.options);
     let Ok((tables, callers)) = create_sized(alloc, way.options.tables, ages) else {
         return Err(Fault::Memory);
@@ -263,7 +262,7 @@ pub fn tell_capture<
             noted: notes_latest(way.options, shard),
             latest: 0,
         },
-        order,
+        start,
         many: many_for(way.options.workers),
     };
     let mut teller = ShardTeller {
@@ -360,8 +359,8 @@ pub fn run_live<R: Source, W: Sink, S: Sink, T: Clock + Threads + Wait + Sync>(
     let head = LiveHead {
         alloc,
         way,
-        order,
         shard: None,
     };
-    tell_capture(rt, head, reader, writer, lines, saves)
+    let start = CaptureStart::behind_header(alloc, order);
+    tell_capture(rt, head, start, reader, writer, lines, saves)
 }

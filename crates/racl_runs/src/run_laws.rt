@@ -18,8 +18,8 @@ ghost use Rattle.racl_views.specs.declared.capture_bytes.CaptureBytes.{CaptureBy
 ghost use Rattle.racl_report.specs.InterfaceInputs.{AreAllBytes, IsFaultApart, bytes_in};
 ghost use Rattle.racl_report.specs.declared.interface_captures.PlacedFault.{PlacedFault};
 ghost use Rattle.racl_runs.specs.InterfaceRuns.{HasOutcomeApart};
-ghost use Rattle.racl_runs.specs.LiveRuns.{IsToldBehind, ages_in};
-ghost use Rattle.racl_runs.specs.Runs.{AgeInTime, HasOutcome, HasRun, keeps_stored, layout_for};
+ghost use Rattle.racl_runs.specs.LiveRuns.{IsToldBehind};
+ghost use Rattle.racl_runs.specs.Runs.{AgeInTime, HasOutcome, HasRun, ages_in, keeps_stored, layout_for};
 ghost use Rattle.racl_report.specs.RunReports.{Outcome};
 ghost use Rattle.racl_runs.specs.StoredRuns.{AreLeftByOneThread, AreLiveByOneThread};
 ghost use Rattle.racl_views.specs.Hits.{latest_second};
@@ -54,7 +54,7 @@ pub fn interfaces_have_one_outcome()
 /// no-pages.
 pub fn told_sessions_are_those_of_one_thread()
     ensures { (options : Options) (given old new : Option (List ℕ)) (totals : Totals) (run : HasRun options given old new totals)
-        → options.ages ≡ false → HavePages run.outcome.verdicts → keeps_stored options ≡ true
+        → ages_in options ≡ false → HavePages run.outcome.verdicts → keeps_stored options ≡ true
         → AreLeftByOneThread (layout_for options.tables) options.times run.policy run.packets run.outcome.verdicts run.stored }
 {}
 
@@ -63,7 +63,7 @@ pub fn told_sessions_are_those_of_one_thread()
 /// are of a run that tells packets while they come, and of a shard, at the latest second of its whole capture.
 pub fn told_live_sessions_are_those_of_one_thread()
     ensures run { (options : Options) (given old new : Option (List ℕ)) (totals : Totals) (run : HasRun options given old new totals)
-        → options.ages ≡ true → HavePages run.outcome.verdicts → AgeInTime run.by_workers → keeps_stored options ≡ true
+        → ages_in options ≡ true → HavePages run.outcome.verdicts → AgeInTime run.by_workers → keeps_stored options ≡ true
         → AreLiveByOneThread (layout_for options.tables) options.times (latest_second run.packets) run.policy run.packets run.outcome.verdicts run.stored }
     ensures behind { (options : Options) (text : List ℕ) (policy : PolicyFacts) (packets : List PacketFacts) (verdicts : List Verdict) (latest : ℕ) (behind : List ℕ)
         (is : IsToldBehind options text policy packets verdicts latest behind) → ages_in options ≡ true → HavePages verdicts

@@ -4,32 +4,27 @@ ghost use Rattle.racl_io.specs.declared.fault.Fault.{Fault};
 ghost use Rattle.racl_io.specs.Faults.{IsInputFault, IsSystemFault, RefusesRead};
 ghost use Rattle.racl_io.specs.Inputs.{most_bytes};
 ghost use Rattle.racl_io.specs.Transfers.{GaveAtMost, HasReadWithin};
-ghost use Rattle.racl_runs.specs.Reads.{AnswersRead, HasMet};
+ghost use Rattle.racl_runs.specs.Reads.{AnswersRead, HoldsReport};
 ghost use Rattle.racl_runs.specs.Runs.{AnswersRight, HasRun};
 
-use crate::captures_at_hand::judge_at_hand;
-use crate::input_front::{Headed, InputFront, Opened, open_source};
-use crate::judge_by_plan::judge_records;
-use crate::run_plan::threads_beside;
-use capture_stream::Opening;
-use racl_io::{Fault, Sink, Source, Totals};
+use crate::held_reports::{HeldReport, report_digits, report_headed};
+use crate::input_front::{InputFront, Opened, open_source};
+use racl_io::{Fault, Sink, Source, Totals, write_all};
 use racl_options::Options;
-use racl_report::{Judged, Kept, needs_bytes, write_judged};
 use std::alloc::Global;
 use std::sync::Wait;
 use std::thread::Threads;
 use std::time::Clock;
 
-// What the packets met of an input that a run reads from its front to its end, and what is kept of it, where that is asked for.
-fn judge_source<R: Source + Send, T: Clock + Threads + Wait + Sync>(
+// The report on an input that is read from its front to its end, held until all of it was judged.
+fn report_source<R: Source, T: Clock + Threads + Wait + Sync>(
     rt: &T,
     alloc: Global,
     options: &Options,
-    keeps: bool,
     reader: &mut R,
-) -> Result<(Judged, Option<Kept>), Fault>
+) -> Result<HeldReport, Fault>
     requires { R.failures reader.old < 2 ^ 64 - 1 }
-    ensures ok { IfOk result (HasMet options.now keeps (R.bytes reader.old)) }
+    ensures ok { IfOk result (λ held. HoldsReport options.now [] (R.bytes reader.old) held.text.items held.totals) }
     ensures fault { IfErr result (λ fault. AnswersRead options.now [] (R.bytes reader.old) (Err fault)) }
     ensures within { HasReadWithin R.bytes R.failures (most_bytes + 1) reader.old reader.new result }
 {
@@ -37,34 +32,20 @@ fn judge_source<R: Source + Send, T: Clock + Threads + Wait + Sync>(
         bytes,
         ended,
         opened,
-    } = match open_source(alloc, options, keeps, reader) {
+    } = match open_source(alloc, options, reader) {
         Ok(front) => front,
         Err(fault) => return Err(fault),
     };
     match opened {
-        Opened::Bytes(headed) => {
-            let Headed {
-                filter,
-                order,
-                from,
-            } = headed;
-            let opening = Opening::new(bytes, from, order, 0, ended);
-            match judge_records(rt, alloc, options, reader, &filter, opening) {
-                Ok(judged) => Ok((judged, None)),
-                Err(fault) => Err(fault),
-            }
-        }
-        Opened::Whole(marked) => match judge_at_hand(rt, alloc, options, bytes, marked) {
-            Ok((judged, kept)) => Ok((judged, Some(kept))),
-            Err(fault) => Err(fault),
-        },
+        Opened::Bytes(headed) => report_headed(rt, alloc, options, reader, &bytes, ended, headed),
+        Opened::Whole(marked) => report_digits(rt, alloc, options, &bytes, marked),
     }
 }
 
 /// Reads an input, filters its captures by its policy, and writes the report.
 ///
 /// Nothing is written before the whole input was judged.
-pub fn run<R: Source + Send, W: Sink, T: Clock + Threads + Wait + Sync>(
+pub fn run<R: Source, W: Sink, T: Clock + Threads + Wait + Sync>(
     rt: &T,
     alloc: Global,
     options: &Options,
@@ -94,11 +75,12 @@ pub fn run<R: Source + Send, W: Sink, T: Clock + Threads + Wait + Sync>(
     ensures steady { result ≢ Err Fault.Write → W.failures writer.new ≡ W.failures writer.old }
     ensures unwritten { IfErr result (λ fault. fault ≢ Fault.Write → writer.new ≡ writer.old) }
 {
-    let keeps = needs_bytes(options);
-    let (judged, kept) = match judge_source(rt, alloc, options, keeps, reader) {
-        Ok(met) => met,
+    let HeldReport { text, totals } = match report_source(rt, alloc, options, reader) {
+        Ok(held) => held,
         Err(fault) => return Err(fault),
     };
-    let beside = threads_beside(rt, options.workers > 1);
-    write_judged(beside, alloc, writer, options, &kept, &judged)
+    match write_all(writer, &text) {
+        Ok(()) => Ok(totals),
+        Err(fault) => Err(fault),
+    }
 }

@@ -10,10 +10,12 @@ ghost use Rattle.racl_runs.specs.inner.OwnRuns.{IsShardOver};
 
 use crate::asked_lines::AskedLines;
 use crate::capture_header_reading::keep_header;
-use crate::live_run::{EXPECTED, LiveAsked, LiveHead, LiveWay, tell_capture};
+use crate::live_run::{LiveAsked, LiveHead, LiveWay, tell_capture};
 use crate::live_saves::LiveSaves;
+use crate::run_plan::EXPECTED;
 use acl_policy::read_policy;
 use capture_shards::{Shard, ShardSaver};
+use filter_run::CaptureStart;
 use flow_workers::Filter;
 use racl_io::{Fault, Sink, Source, Totals};
 use racl_options::{ShardAsked, TableSize};
@@ -128,11 +130,11 @@ pub fn run_shard<R: Source, W: Sink, S: Sink + Drop, T: Clock + Threads + Wait +
     let head = LiveHead {
         alloc,
         way,
-        order,
         shard: Some(shard),
     };
+    let start = CaptureStart::behind_header(alloc, order);
     swap(saves, &mut saver.inner);
-    let told = tell_capture(rt, head, reader, writer, lines, &mut saver);
+    let told = tell_capture(rt, head, start, reader, writer, lines, &mut saver);
     swap(saves, &mut saver.inner);
     told
 }

@@ -3,7 +3,7 @@ ghost use Rattle.std.specs.Prelude.{[], ◌≡◌, ◌≤◌, IfOk};
 ghost use Rattle.bihash_words.specs.Sizes.{IsSound, sizes_of};
 ghost use Rattle.flow_dealing.specs.declared.worker_of_flow.Dealing.TheVariants.{Bucket};
 ghost use Rattle.racl_views.specs.Stored.{stored_facts};
-ghost use Rattle.racl_runs.specs.Crews.{AreAfter, AreAsAsked, AreFirst, AreFirstOf, AreIdleOf, HaveEndedOn, HaveJudgedSome};
+ghost use Rattle.racl_runs.specs.Crews.{AreAsAsked, AreFirst, AreFirstOf, AreIdleOf, HaveEndedOn, HaveJudgedSome, HaveSaidAfter};
 ghost use Rattle.racl_runs.specs.Crews.{cuts_four, many_packets, orders_for, size_of, views_with};
 ghost use Rattle.racl_runs.specs.Runs.{AreStoredOf, layout_for};
 
@@ -180,7 +180,7 @@ impl<'t, 'f, T: Wait> SizedWorkers<'t, 'f, T> {
     ) -> Result<SizedWorkers<'t, 'f, T>, AllocError>
         requires first { AreFirstOf tables.now callers }
         requires count { (1 ≤ manner.workers) × (manner.workers ≤ 16) }
-        ensures { IfOk result (AreAfter (orders_for tables.now manner.entry.filter.now manner.entry.workers (cuts_four tables.now)) []) }
+        ensures { IfOk result (HaveSaidAfter (orders_for tables.now manner.entry.filter.now manner.entry.workers (cuts_four tables.now)) [] []) }
     {
         match callers {
             SizedCallers::Standard(callers) => {

@@ -10,39 +10,6 @@ use std::sync::Wait;
 use std::thread::Threads;
 use std::time::Clock;
 
-/// Workers, where they get memory, and what times them.
-#[derive(Drop)]
-pub struct Crew<'t, 'f, T: Wait> {
-    pub alloc: Global,
-    pub workers: SizedWorkers<'t, 'f, T>,
-    pub watch: Stopwatch<'t, T>,
-}
-
-impl<'t, 'f, T: Clock + Threads + Wait + Sync> Judge for Crew<'t, 'f, T> {
-    ghost use Rattle.std.specs.Prelude.{⊤};
-    ghost use Rattle.std.specs.Thread.{IsSync};
-    ghost use Rattle.racl_runs.specs.Crews.{AreAfter, orders_of};
-
-    ghost became = { λ begun packets said crew. IsSync T.row × AreAfter (orders_of begun.workers) packets crew.workers };
-
-    ghost judged = { λ begun packets said. ⊤ };
-
-    // The workers of either size of tables judge these packets, as judges of a capture, and keep the verdicts.
-    fn judge(&mut self, packets: Packets<'_>) -> Result<Vec<Verdict>, AllocError> {
-        let began = self.watch.start(packets.count());
-        let by_turns = self.watch.pace.takes_turns();
-        let judged = match &mut self.workers {
-            SizedWorkers::Standard(workers) => workers.judge(self.alloc, packets, by_turns),
-            SizedWorkers::Large(workers) => workers.judge(self.alloc, packets, by_turns),
-        };
-        self.watch.stop(began, packets.count());
-        match judged {
-            Ok(()) => Ok(Vec::new(self.alloc)),
-            Err(_) => Err(AllocError),
-        }
-    }
-}
-
 /// Workers that hand over their verdicts, where they get memory, and what times them.
 #[derive(Drop)]
 pub struct HandingCrew<'t, 'f, T: Wait> {

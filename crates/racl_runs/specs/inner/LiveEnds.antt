@@ -5,11 +5,11 @@ use Rattle.acl_policy.specs.Policies.{IsPolicyText, policy_facts}
 use Rattle.session_state.specs.declared.verdict.Verdict.{Verdict}
 use Rattle.racl_views.specs.declared.hit_counts.HitCounts.{HitCounts}
 use Rattle.racl_runs.specs.Crews.{AreAsAsked, HaveCountedAfter, HaveEndedCounting, Orders, cuts_four, orders_for, orders_of}
-use Rattle.racl_runs.specs.LiveRuns.{ages_in}
 use Rattle.racl_runs.specs.declared.counted_judging.Counted.{Counted}
 use Rattle.racl_runs.specs.declared.live_run.LiveWay.{LiveWay}
 use Rattle.racl_runs.specs.declared.sized_tables_and_workers.SizedCallers.{SizedCallers}
 use Rattle.racl_runs.specs.declared.sized_tables_and_workers.SizedTables.{SizedTables}
+use Rattle.racl_runs.specs.Runs.{ages_in}
 
 -- workers over these tables, who go by this way and judged no packet
 pub record AreBegun {T : Type 0} (way : LiveWay) (tables : SizedTables) (counted : Counted T) : Type 0 where

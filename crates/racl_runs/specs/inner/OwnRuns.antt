@@ -1,8 +1,7 @@
 -- A run on one capture whose packets are one's own, or a shard's: what it tells behind the capture's header.
-use Rattle.std.specs.Prelude.{◌≡◌, ◌-◌, ◌⊎◌, ◌++◌, ℕ, Bool, List, Option, None, Some, Result, MatchResult, length}
+use Rattle.std.specs.Prelude.{◌≡◌, ◌≤◌, ◌-◌, ◌⊎◌, ◌++◌, ℕ, Bool, List, Option, None, Some, Result, MatchResult, length}
 use Rattle.std.specs.Io.KnownBytes.{Appends, Consumes, IsAtEnd}
 use Rattle.packet_view.specs.Captures.{AreRecords, IsEnd, RecordFacts, end_of, packets_at}
-use Rattle.packet_view.specs.declared.capture.Order.{Order}
 use Rattle.acl_policy.specs.Policies.{PolicyFacts}
 use Rattle.session_state.specs.declared.verdict.Verdict.{Verdict}
 use Rattle.racl_io.specs.declared.fault.Fault.{Fault}
@@ -14,6 +13,7 @@ use Rattle.racl_options.specs.declared.settings.Options.{Options}
 use Rattle.racl_options.specs.declared.settings.ShardAsked.{ShardAsked}
 use Rattle.racl_options.specs.declared.settings.TableSize.{TableSize}
 use Rattle.capture_stream.specs.Savings.{Manner, Outputs}
+use Rattle.filter_run.specs.Starts.{Start, most_at}
 use Rattle.capture_shards.specs.Sharing.{IsSpread}
 use Rattle.capture_shards.specs.Shards.{IsOver, Own, own_packets}
 use Rattle.capture_shards.specs.declared.shard.Shard.{Shard}
@@ -45,45 +45,46 @@ own_totals totals own = record {
 }
 
 -- all of a capture behind its header was read, and this is the report on one's own packets
-pub record IsOwnReportBehind (options : Options) (text : List ℕ) (note : Note) (wording : Wording) (policy : PolicyFacts) (own : Own) (order : Order)
+pub record IsOwnReportBehind (options : Options) (text : List ℕ) (note : Note) (wording : Wording) (policy : PolicyFacts) (own : Own) (start : Start)
     (before after : Option (List ℕ)) (totals : Totals) (report : List ℕ) : Type 0 where
   pub read : List ℕ
   pub consumed : Consumes before after read
   pub ended : IsAtEnd after
   pub packets : List RecordFacts
   pub rest : List ℕ
-  pub records : AreRecords order read packets rest
+  pub records : AreRecords start.order (start.front ++ read) packets rest
+  pub few : length (start.front ++ read) ≤ most_at start.input
   pub truncated : Bool
-  pub end : IsEnd order rest (end_of truncated)
+  pub end : IsEnd start.order rest (end_of truncated)
   pub is : IsOwnReport options text note wording policy own (packets_at 0 packets) truncated totals report
   pub count : length is.verdicts ≡ length (own_packets own 1 (packets_at 0 packets))
 
 -- a write failed behind a front of it
-pub record HasCutOwn (options : Options) (text : List ℕ) (note : Note) (wording : Wording) (policy : PolicyFacts) (own : Own) (order : Order)
+pub record HasCutOwn (options : Options) (text : List ℕ) (note : Note) (wording : Wording) (policy : PolicyFacts) (own : Own) (start : Start)
     (before after old new : Option (List ℕ)) (fault : Fault) : Type 0 where
   pub failed : fault ≡ Write
   pub totals : Totals
   pub report : List ℕ
-  pub is : IsOwnReportBehind options text note wording policy own order before after totals report
+  pub is : IsOwnReportBehind options text note wording policy own start before after totals report
   pub front : GotFront old new report
 
 -- or it was written, and what saves packets was given all records
-pub record HasToldOwn {K : Type 0} (options : Options) (text : List ℕ) (note : Note) (manner : Manner K) (policy : PolicyFacts) (own : Own) (order : Order)
+pub record HasToldOwn {K : Type 0} (options : Options) (text : List ℕ) (note : Note) (manner : Manner K) (policy : PolicyFacts) (own : Own) (start : Start)
     (before after : Option (List ℕ)) (old new : Outputs K) (totals : Totals) : Type 0 where
   pub report : List ℕ
-  pub is : IsOwnReportBehind options text note manner.wording policy own order before after totals report
+  pub is : IsOwnReportBehind options text note manner.wording policy own start before after totals report
   pub written : Appends old.report new.report report
   pub whole : List ℕ
-  pub spelt : is.read ≡ whole ++ is.rest
+  pub spelt : start.front ++ is.read ≡ whole ++ is.rest
   pub verdicts : List Verdict
   pub spread : IsSpread own 1 (packets_at 0 is.packets) is.is.verdicts verdicts
   pub each : length verdicts ≡ length is.packets
-  pub saved : manner.saved old.saver order whole verdicts new.saver
+  pub saved : manner.saved old.saver start.order whole verdicts new.saver
 
 -- so, or why it wasn't
-abbrev pub TellsOwn : {K : Type 0} → Type 0 → Options → List ℕ → Note → Manner K → PolicyFacts → Own → Order → Option (List ℕ) → Option (List ℕ) → Outputs K → Outputs K
+abbrev pub TellsOwn : {K : Type 0} → Type 0 → Options → List ℕ → Note → Manner K → PolicyFacts → Own → Start → Option (List ℕ) → Option (List ℕ) → Outputs K → Outputs K
     → Result Totals Fault → Type 0
-TellsOwn T options text note manner policy own order before after old new result =
-    MatchResult result (HasToldOwn options text note manner policy own order before after old new)
-    (λ fault. IsOwnFault T options manner policy own order before after old new fault
-    ⊎ HasCutOwn options text note manner.wording policy own order before after old.report new.report fault)
+TellsOwn T options text note manner policy own start before after old new result =
+    MatchResult result (HasToldOwn options text note manner policy own start before after old new)
+    (λ fault. IsOwnFault T options manner policy own start before after old new fault
+    ⊎ HasCutOwn options text note manner.wording policy own start before after old.report new.report fault)

@@ -1,24 +1,32 @@
-use Rattle.std.proofs.Common.{◌∙◌, ap, refl, take}
-use Rattle.racl_report.specs.RunReports.{JudgedFacts}
-use Rattle.racl_report.specs.declared.kept_input.KeptCaptures.{KeptCaptures}
-use Rattle.racl_runs.proofs.AtHandLemmas.{answered, fault_answers, fit_behind, kept_of}
+use Rattle.std.proofs.Common.{◌≡◌, ◌∙◌, [], arith, max, rules}
+use Rattle.packet_view.specs.CheckedCaptures.{remaining}
+use Rattle.racl_views.specs.Hits.{latest_second}
+use Rattle.racl_runs.proofs.CountedLemmas.{may_tell_behind}
+use Rattle.racl_runs.proofs.LiveLemmas.{as_asked}
 use Rattle.racl_runs.proofs.captures_at_hand.judge_at_hand.Goals as goal
 
-pub returns-in-Ok-judge_captures-clause-ok : goal.returns-in-Ok-judge_captures-clause-ok
-returns-in-Ok-judge_captures-clause-ok g c =
-    let options = c.args.options.now in
-    let bytes = c.args.bytes.items in
-    let marked = c.args.marked in
-    let fit = fit_behind marked.form bytes marked.from c.requires.marked.fit in
-    let met : JudgedFacts × KeptCaptures = (c.in-Ok-judge_captures.judged, c.in-Ok-judge_captures.captures) in (
-      answered options bytes marked c.requires.marked fit met c.requires.few c.in-Ok-judge_captures.ensures.ok,
-      kept_of options bytes marked c.requires.marked fit met (record { policy = marked.filter.policy; text = c.in-Ok.text; captures = c.in-Ok-judge_captures.captures })
-          c.in-Ok-judge_captures.ensures.ok refl (c.in-Ok.ensures.items ∙ ap (take marked.text) c.deref.ensures.value) refl,
-    )
+pub judge-requires : goal.judge-requires
+judge-requires g c =
+    let fits = c.requires.fits in
+    record { begun = c.in-Ok-workers_over.counted; packets = []; said = []; stand = (search rules, c.in-Ok-workers_over.ensures.none); fits = omega arith }
 
-pub returns-in-Err-clause-fault : goal.returns-in-Err-clause-fault
-returns-in-Err-clause-fault g c =
-    let bytes = c.args.bytes.items in
-    let marked = c.args.marked in
-    let fit = fit_behind marked.form bytes marked.from c.requires.marked.fit in
-    fault_answers c.args.options.now bytes marked c.requires.marked fit c.in-Err.fault c.in-Err.ensures.fault
+pub end-requires : goal.end-requires
+end-requires g c =
+    let stand = c.in-Ok-judge.ensures.follows c.in-Ok-workers_over.counted [] [] (search rules, c.in-Ok-workers_over.ensures.none) in
+    (_, _, remaining c.args.packets, c.in-Ok-judge.verdicts.items, stand.1)
+
+pub told_behind_live-requires : goal.told_behind_live-requires
+told_behind_live-requires g c =
+    let stand = c.in-Ok-judge.ensures.follows c.in-Ok-workers_over.counted [] [] (search rules, c.in-Ok-workers_over.ensures.none) in
+    let asked = as_asked c.in-Ok.ensures.asked c.ages_early-ages.ensures in
+    let may = may_tell_behind c.args.way _ c.in-Ok-workers_over.counted _ _ _ _ c.requires.says c.requires.times asked c.in-Ok-workers_over.ensures (c.in-Ok-end.ensures _ _ _ _ stand.1) in
+    (_, _, may)
+
+pub returns-in-Ok-told_behind_live-clause-told : goal.returns-in-Ok-told_behind_live-clause-told
+returns-in-Ok-told_behind_live-clause-told g c =
+    let stand = c.in-Ok-judge.ensures.follows c.in-Ok-workers_over.counted [] [] (search rules, c.in-Ok-workers_over.ensures.none) in
+    let asked = as_asked c.in-Ok.ensures.asked c.ages_early-ages.ensures in
+    let may = may_tell_behind c.args.way _ c.in-Ok-workers_over.counted _ _ _ _ c.requires.says c.requires.times asked c.in-Ok-workers_over.ensures (c.in-Ok-end.ensures _ _ _ _ stand.1) in
+    let second = latest_second (remaining c.args.packets) in
+    let first : max 0 second ≡ second = omega arith in
+    c.in-Ok-told_behind_live.ensures (remaining c.args.packets) c.in-Ok-judge.verdicts.items second may (λ kept. c.latest_second-latest.ensures ∙ first)

@@ -34,10 +34,10 @@ returns-in_ok-order-in-Binary-clause-ok c =
     let header = c.in_ok-order-in-Binary.ensures in
     let parted : IsInput bytes (record { policy = input.policy.now; form = Binary; content = input.content.now }) =
     subst (λ (form : Form). IsInput bytes (record { policy = input.policy.now; form = form; content = input.content.now })) c.in-Binary.is c.in-Some.ensures.some in
-    let last = capture_stands input.policy.now input.content.now bytes header.ok.whole parted in (
-      search rules,
-      record {
-        parts = record { policy = input.policy.now; form = Binary; content = input.content.now };
+    let last = capture_stands input.policy.now input.content.now bytes header.ok.whole parted in
+    let parts : InputFacts = record { policy = input.policy.now; form = Binary; content = input.content.now } in
+    record {
+        parts = parts;
         parted = parted;
         policy = record { says = c.in_ok-policy.ensures.ok; one = c.in_ok-policy.ensures.accepts; right = c.in_ok-policy.ensures.refuses };
         times = refl;
@@ -47,17 +47,17 @@ returns-in_ok-order-in-Binary-clause-ok c =
           one = λ other right. let e = header.accepts other right in cc;
           none = λ cause is. let e = header.refuses cause is in cc;
         };
-        within = records_within_input bytes input.content.now last header.ok.whole;
+        text = text_before bytes parts parted;
+        within = (text_within bytes parts parted, records_within_input bytes input.content.now last header.ok.whole);
         behind = records_behind_header bytes input.content.now last;
-      },
-    )
+    }
 
 pub returns-in_default-form-clause-ok : goal.returns-in_default-form-clause-ok
 returns-in_default-form-clause-ok c =
     let input = c.in-Some.input in
     let bytes = c.args.bytes.now in
     let parts = input_facts input in
-    record {
+    (record {
       parts = parts;
       parted = c.in-Some.ensures.some;
       policy = record { says = c.in_ok-policy.ensures.ok; one = c.in_ok-policy.ensures.accepts; right = c.in_ok-policy.ensures.refuses };
@@ -67,4 +67,4 @@ returns-in_default-form-clause-ok c =
       within = (text_within bytes parts c.in-Some.ensures.some, omega arith);
       content = content_behind bytes parts c.in-Some.ensures.some;
       fit = λ place. omega (arith, c.type_inv.bytes place);
-    }
+    }, c.in_default-form.binary)

@@ -43,8 +43,8 @@ returns-in-Ok-run_checked-clause-refuses g c = λ cause of.
     let right = c.in-Ok.ensures.ok in
     no_fault_apart input.text.items input.captures.items input.fit (policy_facts c.in-Ok.right.filter.policy) right.packets c.in-Ok.right.told.items cause right.says.says right.taken of
 
-pub returns-in-Err-run_checked-clause-refuses : goal.returns-in-Err-run_checked-clause-refuses
-returns-in-Err-run_checked-clause-refuses g c = λ cause of.
+pub returns-clause-refuses : goal.returns-clause-refuses
+returns-clause-refuses g c = λ cause of.
     let input = c.args.input.now in
     let right = c.in-Ok.ensures.ok in
     absurd (no_fault_apart input.text.items input.captures.items input.fit (policy_facts c.in-Ok.right.filter.policy) right.packets c.in-Ok.right.told.items cause right.says.says right.taken of)

@@ -2,7 +2,7 @@ use Rattle.std.proofs.Common.{◌∙◌, List, inl, refl, subst, sym, ℕ}
 use Rattle.acl_policy.specs.Policies.{policy_facts}
 use Rattle.filter_run.proofs.TellLemmas.{saver_failed}
 use Rattle.racl_runs.specs.inner.Kept.{HaveGot}
-use Rattle.racl_runs.proofs.LiveLemmas.{early_fault, early_header, live_ends, ready_says, write_since}
+use Rattle.racl_runs.proofs.LiveLemmas.{early_fault, early_header, front_behind, input_behind, live_ends, ready_says, write_since}
 use Rattle.racl_runs.proofs.LiveSaveLemmas.{none_kept}
 use Rattle.racl_runs.proofs.live_run.run_live.Goals as goal
 
@@ -25,9 +25,15 @@ returns-in-Err-begin-clause-told g c =
 pub tell_capture-requires-clause-says : goal.tell_capture-requires-clause-says
 tell_capture-requires-clause-says g c κs lives = ready_says c.in-Ok-ready_with.ensures.policy c.in-Ok.ensures.ok
 
+pub tell_capture-requires-clause-front : goal.tell_capture-requires-clause-front
+tell_capture-requires-clause-front g c κs lives = front_behind _ _ c.behind_header-start.ensures
+
+pub tell_capture-requires-clause-input : goal.tell_capture-requires-clause-input
+tell_capture-requires-clause-input g c κs lives = input_behind _ _ c.behind_header-start.ensures
+
 pub tell_capture-requires-clause-saves : goal.tell_capture-requires-clause-saves
 tell_capture-requires-clause-saves g c κs lives =
-    none_kept g.S.Sink.bytes g.S.Sink.failures c.begin.new.self.files c.in-Ok-keep_header.order c.in-Ok-begin.ensures.got.1
+    none_kept g.S.Sink.bytes g.S.Sink.failures c.begin.new.self.files c.behind_header-start.result.order c.in-Ok-begin.ensures.got.1
 
 pub returns-clause-told : goal.returns-clause-told
 returns-clause-told g c =
@@ -35,7 +41,7 @@ returns-clause-told g c =
     live_ends _ g.S.Sink.bytes g.S.Sink.failures c.args.asked.options.now c.args.asked.text.now _ _ _ _ _ _
     (ready_says c.in-Ok-ready_with.ensures.policy c.in-Ok.ensures.ok) c.in-Ok-keep_header.order header c.args.saves.now.files c.begin.new.self c.tell_capture.new.saver
     (subst (λ (h : List ℕ). HaveGot g.S.Sink.bytes h c.args.saves.now.files c.begin.new.self.files) (c.as_slice.ensures.value ∙ sym kept) c.in-Ok-begin.ensures.got.0)
-    _ c.tell_capture.result c.in-Ok-new.ensures c.tell_capture.ensures.told
+    _ _ c.tell_capture.result c.behind_header-start.ensures c.in-Ok-new.ensures c.tell_capture.ensures.told
 
 pub returns-in-Err-begin-clause-write : goal.returns-in-Err-begin-clause-write
 returns-in-Err-begin-clause-write g c = saver_failed _ _ _ _ c.in-Err-begin.fault refl c.in-Err-begin.ensures.failed.1 c.in-Err-begin.ensures.failed.2

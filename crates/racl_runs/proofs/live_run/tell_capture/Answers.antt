@@ -17,14 +17,14 @@ returns-in_default-clause-told g c =
     let way = c.args.head.way in
     let own = own_among c.args.head.shard in
     inl (none_told (AreFirstOwn _ way.options.now own) (own_manner own (manner_of (g.L.Teller.wording c.args.lines) g.K.Saver.saved)) (policy_facts way.filter.now.policy.now)
-    c.args.head.order (g.R.Source.bytes c.args.reader.now) (outputs (g.W.Sink.bytes c.args.writer.now) c.args.saver.now) c.requires.saves)
+    (start_facts c.args.start) (g.R.Source.bytes c.args.reader.now) (outputs (g.W.Sink.bytes c.args.writer.now) c.args.saver.now) c.requires.saves)
 
 pub returns-in_default-workers_over-clause-told : goal.returns-in_default-workers_over-clause-told
 returns-in_default-workers_over-clause-told g c =
     let way = c.args.head.way in
     let own = own_among c.args.head.shard in
     inl (none_told (AreFirstOwn _ way.options.now own) (own_manner own (manner_of (g.L.Teller.wording c.args.lines) g.K.Saver.saved)) (policy_facts way.filter.now.policy.now)
-    c.args.head.order (g.R.Source.bytes c.args.reader.now) (outputs (g.W.Sink.bytes c.args.writer.now) c.args.saver.now) c.requires.saves)
+    (start_facts c.args.start) (g.R.Source.bytes c.args.reader.now) (outputs (g.W.Sink.bytes c.args.writer.now) c.args.saver.now) c.requires.saves)
 
 pub report_capture-requires-clause-begun : goal.report_capture-requires-clause-begun
 report_capture-requires-clause-begun g c = record {

@@ -1,13 +1,13 @@
 use Rattle.std.proofs.Common.{◌≤◌}
 use Rattle.capture_shards.proofs.PickedLists.{own_all}
-use Rattle.racl_runs.specs.LiveRuns.{ages_in}
 use Rattle.racl_views.specs.Hits.{latest_second}
 use Rattle.racl_runs.proofs.StoredLaws.{live_by_one, until_latest}
 use Rattle.racl_runs.proofs.run_laws.told_live_sessions_are_those_of_one_thread.Goals as goal
+use Rattle.racl_runs.specs.Runs.{ages_in}
 
 pub returns-clause-run : goal.returns-clause-run
 returns-clause-run c options given old new totals run aged paged in_time asked =
-    live_by_one options options.ages run.policy run.packets run.outcome.verdicts (latest_second run.packets) run.stored run.by_workers aged paged in_time
+    live_by_one options (ages_in options) run.policy run.packets run.outcome.verdicts (latest_second run.packets) run.stored run.by_workers aged paged in_time
     (until_latest run.packets) (run.kept asked)
 
 pub returns-clause-behind : goal.returns-clause-behind
