@@ -1,5 +1,4 @@
 pub mod OwnRecords
-pub mod SharedSaves
 pub mod Sharing
 pub mod Shards
 pub mod inner

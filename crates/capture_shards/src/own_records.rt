@@ -25,16 +25,16 @@ pub struct OwnRecords {
 
 // A whole record at the front of others.
 #[derive(Clone, Copy)]
-pub(crate) struct FrontRecord<'a> {
-    pub bytes: &'a [u8],
-    pub packet: Packet<'a>,
+struct FrontRecord<'a> {
+    bytes: &'a [u8],
+    packet: Packet<'a>,
     // Those behind it.
-    pub rest: &'a [u8],
+    rest: &'a [u8],
 }
 
 // The whole record at the front; None where there is none.
 #[inline(always)]
-pub(crate) fn front_record(bytes: &[u8], order: Order) -> Option<FrontRecord<'_>>
+fn front_record(bytes: &[u8], order: Order) -> Option<FrontRecord<'_>>
     ensures some { IfSome result (λ front. HasFrontRecord order bytes.now front.bytes.now (packet_facts front.packet) front.rest.now) }
     ensures none { IfNone result (HasNoRecord order bytes.now) }
 {

@@ -10,6 +10,7 @@ pub mod OwnBatchLemmas
 mod OwnLemmas
 mod PartLemmas
 pub mod OwnReportLemmas
+pub mod OwnTellLemmas
 pub mod ReportLemmas
 pub mod RunLemmas
 pub mod SaveLemmas

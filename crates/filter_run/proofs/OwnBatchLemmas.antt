@@ -13,8 +13,7 @@ use Rattle.capture_shards.specs.Sharing.{lines_at, own_numbers}
 use Rattle.capture_shards.specs.declared.shard.Shard.{Shard}
 use Rattle.capture_shards.specs.inner.OwnTests.{own_among}
 use Rattle.capture_shards.proofs.OwnRecordLemmas.{own_numbers_both, own_numbers_count, pieces_are, whole_in}
-use Rattle.capture_shards.proofs.PickedLists.{own_both, own_map}
-use Rattle.capture_shards.proofs.SpreadLemmas.{all_in}
+use Rattle.capture_shards.proofs.PickedLists.{all_in, own_both, own_map}
 use Rattle.filter_run.specs.Batches.{AreAllWhole, AreEach, BatchFacts, JudgedBatch, batches_of, count_from, given_or, numbers_in, packets_in, packets_of, said_of, total}
 use Rattle.filter_run.specs.Lines.{batch_text, text_of}
 use Rattle.filter_run.specs.OneCapture.{AreNumbered, bytes_of, records_of}
