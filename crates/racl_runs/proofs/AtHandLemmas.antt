@@ -1,5 +1,5 @@
 -- An input with captures as digits, of which all was read: what is answered of it.
-use Rattle.std.proofs.Common.{◌≡◌, ◌∙◌, ◌≤◌, ◌⊎◌, ◌++◌, ℕ, zero, suc, List, [], ◌∷◌, Option, Ok, Err, ap, drop, length, refl, sym, subst, inl, inr}
+use Rattle.std.proofs.Common.{◌≡◌, ◌∙◌, ◌≤◌, ◌⊎◌, ◌++◌, ℕ, zero, suc, List, [], ◌∷◌, Option, Some, Ok, Err, ap, drop, length, refl, sym, subst, inl, inr}
 use Rattle.std.proofs.KnownBytes.{Appends-trans}
 use Rattle.std.specs.Io.KnownBytes.{Appends}
 use Rattle.packet_view.specs.Bytes.{AreBytes}
@@ -25,6 +25,11 @@ use Rattle.racl_runs.specs.Reads.{AnswersInput, HasMarked, HasReportedOn, IsReac
 use Rattle.racl_runs.specs.declared.input_front.Marked.{Marked}
 use Rattle.racl_runs.proofs.OutcomeLemmas.{memory_answers, reported}
 use Rattle.racl_runs.proofs.RunLemmas.{fault_of_known_parts, fault_of_right_policy}
+
+-- what was written to what held nothing is all that it holds
+pub held_text : (old new : Option (List ℕ)) (text report : List ℕ) → old ≡ Some [] → new ≡ Some text → Appends old new report → text ≡ report
+held_text old new text report none some wrote =
+    subst (λ (n : Option (List ℕ)). Appends (Some []) n report) some (subst (λ (o : Option (List ℕ)). Appends o new report) none wrote)
 
 -- ---- what follows a marker line
 
@@ -130,6 +135,21 @@ module _ (options : Options) (bytes : List ℕ) (marked : Marked) (has : HasMark
     counted = counted;
   }
 
+  -- the report on their packets is one on the input
+  pub digits_report : (packets : List PacketFacts) (captures : List Captured) (text held : List ℕ) (old new : Option (List ℕ)) (totals : Totals) → length bytes ≤ most_bytes
+      → HasPackets form content packets captures → text ≡ has.parts.policy → old ≡ Some [] → new ≡ Some held
+      → HasReportedOn options text (policy_facts marked.filter.policy) packets captures old new totals → IsReportOfInput options bytes held totals
+  unfolding taken_report
+  digits_report packets captures text held old new totals few taken same none some told =
+      let judged = told.judged in
+      let policy = policy_facts marked.filter.policy in
+      let spelt = held_text old new held told.report none some told.written in
+      taken_report packets judged held totals few (subst (λ (cs : List Captured). HasPackets form content packets cs) (sym told.reached.told) taken)
+      (record { by_workers = told.reached.by_workers; kept = told.reached.kept; by_one_thread = told.reached.by_one_thread; told = refl })
+      (subst (IsReportOn options has.parts.policy policy packets judged) (sym spelt)
+      (subst (λ (t : List ℕ). IsReportOn options t policy packets judged told.report) same told.told))
+      (told.counted ∙ ap (λ (cs : List Captured). totals_of judged.outcome.verdicts cs) (sym told.reached.told))
+
 -- the report on packets at hand: what workers said of them and what stands behind that, by rules that are those of the policy; and their lines
 pub reported_at_hand : (options : Options) (text : List ℕ) (policy : PolicyFacts) (packets : List PacketFacts) (told : List Captured) (verdicts : List Verdict) (lines behind : List ℕ)
     (old mid new : Option (List ℕ)) (totals : Totals) (judged shown : List PacketFacts) (said : List Verdict) (ready : PolicyFacts) → judged ≡ packets → shown ≡ packets → said ≡ verdicts
@@ -146,7 +166,7 @@ reported_at_hand options text policy packets told verdicts lines behind old mid 
       judged = made.0;
       reached = made.1;
       report = lines ++ behind;
-      told = made.2.0;
+      told = made.2;
       written = Appends-trans old mid new lines behind wrote more;
-      counted = counted ∙ ap (λ (vs : List Verdict). totals_of vs told) three ∙ ap (λ (o : Outcome). totals_of o.verdicts told) (sym made.2.1);
+      counted = counted ∙ ap (λ (vs : List Verdict). totals_of vs told) three ∙ ap (λ (o : Outcome). totals_of o.verdicts told) (sym made.3);
     }

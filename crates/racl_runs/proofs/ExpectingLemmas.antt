@@ -37,6 +37,19 @@ write_failed written writing saved fault.Write (inr failed) = let more = failed.
 write_failed written writing saved fault.Memory failed = failed.0
 write_failed written writing saved found failed = failed.0
 
+-- what is told from a start that is right behind a header is told from there
+pub told_at_header : {J K : Type 0} {Became : J → List PacketFacts → List Verdict → J → Type 0} {Judged : J → List PacketFacts → List Verdict → Type 0} {manner : Manner K} {begun : J}
+    {start : Start} {order : Order} {before after : Option (List ℕ)} {old new : Outputs K} {told : ReportedCapture J} → start ≡ behind_header order
+    → HasToldAll Became Judged manner begun start before after old new told → HasToldAll Became Judged manner begun (behind_header order) before after old new told
+told_at_header {Became = Became} {Judged = Judged} {manner = manner} {begun = begun} {before = before} {after = after} {old = old} {new = new} {told = told} same all =
+    subst (λ (s : Start). HasToldAll Became Judged manner begun s before after old new told) same all
+
+pub fault_at_header : {J K : Type 0} (Judged : J → List PacketFacts → List Verdict → Type 0) (manner : Manner K) (begun : J) (start : Start) (order : Order)
+    (before after : Option (List ℕ)) (old new : Outputs K) (found : Fault) → start ≡ behind_header order → IsLiveFault Judged manner begun start before after old new found
+    → IsLiveFault Judged manner begun (behind_header order) before after old new found
+fault_at_header Judged manner begun start order before after old new found same why =
+    subst (λ (s : Start). IsLiveFault Judged manner begun s before after old new found) same why
+
 -- what is told of all packets is told of some
 pub all_is_some : {J K : Type 0} {Became : J → List PacketFacts → List Verdict → J → Type 0} {Judged : J → List PacketFacts → List Verdict → Type 0} {manner : Manner K} {begun : J}
     {start : Start} {before after : Option (List ℕ)} {old new : Outputs K} {told : ReportedCapture J} (all : HasToldAll Became Judged manner begun start before after old new told)

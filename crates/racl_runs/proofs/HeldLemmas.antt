@@ -1,6 +1,5 @@
 -- A report that is held until all of an input was judged: what its telling says of the input.
-use Rattle.std.proofs.Common.{◌≡◌, ◌∙◌, ◌+◌, ◌-◌, ◌≤◌, ◌⊎◌, ℕ, List, [], None, Option, Some, Err, ap, arith, inl, inr, length, refl, subst, sym}
-use Rattle.std.specs.Io.KnownBytes.{Appends}
+use Rattle.std.proofs.Common.{◌≡◌, ◌∙◌, ◌+◌, ◌-◌, ◌≤◌, ◌⊎◌, ℕ, List, [], None, Option, Some, Err, ap, ap₂, arith, drop, inl, inr, length, refl, subst, sym}
 use Rattle.packet_view.specs.Captures.{packets_at}
 use Rattle.packet_view.specs.declared.capture.Order.{Order}
 use Rattle.acl_policy.specs.Policies.{PolicyFacts, policy_facts}
@@ -23,14 +22,16 @@ use Rattle.racl_runs.specs.declared.input_front.Headed.{Headed}
 use Rattle.racl_runs.specs.inner.HeldTexts.{without_device}
 use Rattle.racl_runs.specs.inner.OwnRuns.{HasCutOwn, HasToldOwn}
 use Rattle.filter_run.proofs.OwnTellLemmas.{all_own}
+use Rattle.racl_runs.proofs.AtHandLemmas.{held_text}
 use Rattle.racl_runs.proofs.LiveLemmas.{all_counted, all_text, all_told}
 use Rattle.racl_runs.proofs.OpenedLemmas.{headed_report, large_answers, long_answers, start_of}
 use Rattle.racl_runs.proofs.OutcomeLemmas.{reported}
 
--- what was written to what held nothing is all that it holds
-held_text : (old new : Option (List ℕ)) (text report : List ℕ) → old ≡ Some [] → new ≡ Some text → Appends old new report → text ≡ report
-held_text old new text report none some wrote =
-    subst (λ (n : Option (List ℕ)). Appends (Some []) n report) some (subst (λ (o : Option (List ℕ)). Appends o new report) none wrote)
+-- a start with the bytes of the input behind a header is where its records begin
+pub start_with : (order : Order) (behind front : List ℕ) (headed : Headed) → behind ≡ drop headed.from front → order ≡ headed.order
+    → record { order = order; front = behind; input = Some headed.from } ≡ start_of front headed
+start_with order behind front headed same one =
+    ap₂ (λ (o : Order) (b : List ℕ). let start : Start = record { order = o; front = b; input = Some headed.from } in start) one same
 
 module _ {K : Type 0} (options : Options) (bytes : List ℕ) (headed : Headed) (has : HasHeaded options bytes headed) (fits : length bytes ≤ most_bytes) (wording : Wording)
     (Saved : K → Order → List ℕ → List Verdict → K → Type 0) (before after : Option (List ℕ)) (old new : Outputs K) where
@@ -66,8 +67,8 @@ module _ {K : Type 0} (options : Options) (bytes : List ℕ) (headed : Headed) (
         end = is.end;
         reached = made.1;
       })
-      (subst (IsReportOn options has.parts.policy policy packets made.0) (sym (written ∙ spelt)) made.2.0)
-      (all_counted options has.parts.policy policy wording packets truncated totals told.report is.is ∙ ap (λ (o : Outcome). totals_of o.verdicts o.captures) (sym made.2.1))
+      (subst (IsReportOn options has.parts.policy policy packets made.0) (sym (written ∙ spelt)) made.2)
+      (all_counted options has.parts.policy policy wording packets truncated totals told.report is.is ∙ ap (λ (o : Outcome). totals_of o.verdicts o.captures) (sym made.3))
 
   -- or why it wasn't
   own_fault : (T : Type 0) (found : Fault) → IsOwnFault T options (manner_of wording Saved) policy (own_among None) start before after old new found

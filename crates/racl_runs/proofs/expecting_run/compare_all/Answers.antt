@@ -4,7 +4,7 @@ use Rattle.std.specs.Prelude.{⊤}
 use Rattle.acl_policy.specs.Policies.{policy_facts}
 use Rattle.packet_view.specs.Captures.{packets_at}
 use Rattle.racl_io.specs.Tellings.{lines_in}
-use Rattle.filter_run.specs.CaptureReports.{HasToldAll, IsLiveFault}
+use Rattle.filter_run.specs.CaptureReports.{IsLiveFault}
 use Rattle.filter_run.specs.Starts.{behind_header}
 use Rattle.filter_run.proofs.TellLemmas.{fault_as, none_told}
 use Rattle.racl_io.specs.declared.fault.Fault.TheVariants.{Memory}
@@ -13,7 +13,7 @@ use Rattle.compared_verdicts.specs.declared.expectation.Expectation.{Expectation
 use Rattle.racl_runs.specs.Crews.{orders_of, views_with}
 use Rattle.racl_runs.specs.ExpectingRuns.{manner_by, output}
 use Rattle.racl_runs.specs.LiveRuns.{ByLoneWorker}
-use Rattle.racl_runs.proofs.ExpectingLemmas.{all_is_some, end_fault, end_told}
+use Rattle.racl_runs.proofs.ExpectingLemmas.{all_is_some, end_fault, end_told, fault_at_header, told_at_header}
 use Rattle.racl_runs.proofs.LiveLemmas.{by_lone, by_lone_worker, front_behind, input_behind}
 use Rattle.racl_runs.proofs.expecting_run.compare_all.Goals as goal
 
@@ -57,7 +57,7 @@ returns-in-Err-clause-told g c =
     (fault_as _ (ByLoneWorker options) (unmet_wording c.in-Ok.teller.expectations.now) _ (λ begun order records verdicts now. ⊤) _ (policy_facts ready.policy.now)
     (λ packets verdicts judged. tells packets verdicts c.in-Ok-new-2.ensures.given c.in-Ok-create_sized.ensures.asked.four c.in-Ok-create_sized.ensures.asked.size c.requires.times options.few.0 judged)
     _ _ _ _ _ _ _ tt tt (λ whole verdicts saved. tt) c.in-Err.fault
-    (subst (λ s. IsLiveFault _ _ _ s _ _ _ _ c.in-Err.fault) c.behind_header.ensures c.in-Err.ensures.told)))
+    (fault_at_header _ _ _ _ c.args.head.order _ _ _ _ c.in-Err.fault c.behind_header.ensures c.in-Err.ensures.told)))
 
 pub end-requires : goal.end-requires
 end-requires g c = let told = c.in-Ok-report_capture.ensures.told in (_, _, _, told.stand.1.after, told.stand.1.each)
@@ -66,7 +66,7 @@ pub returns-in_default-end-clause-told : goal.returns-in_default-end-clause-told
 returns-in_default-end-clause-told g c =
     let options = c.args.head.options.now in
     let ready = c.args.head.filter.now in
-    let told = subst (λ s. HasToldAll _ _ _ _ s _ _ _ _ c.in-Ok-report_capture.told) c.behind_header.ensures c.in-Ok-report_capture.ensures.told in
+    let told = told_at_header c.behind_header.ensures c.in-Ok-report_capture.ensures.told in
     let tells = by_lone_worker options ready _ (orders_of c.in-Ok-new-2.workers) in
     inl (subst (λ (es : List Expectation). IsLiveFault (ByLoneWorker options) (manner_by es) (policy_facts ready.policy.now) (behind_header c.args.head.order)
     (g.R.Source.bytes c.args.reader.now) (g.R.Source.bytes c.report_capture.new.reader) (output (g.W.Sink.bytes c.args.writer.now)) (output (g.W.Sink.bytes c.report_capture.new.writer)) Memory)
@@ -80,7 +80,7 @@ returns-in-Ok-tell_last-clause-told g c =
     let options = c.args.head.options.now in
     let ready = c.args.head.filter.now in
     let expectations = c.args.head.expectations.now in
-    let told = subst (λ s. HasToldAll _ _ _ _ s _ _ _ _ c.in-Ok-report_capture.told) c.behind_header.ensures c.in-Ok-report_capture.ensures.told in
+    let told = told_at_header c.behind_header.ensures c.in-Ok-report_capture.ensures.told in
     let packets = packets_at 0 told.all.packets in
     let totals = c.in-Ok-report_capture.told.totals in
     let said = c.in-Ok-end.ensures _ packets told.all.verdicts told.stand.1.after told.stand.1.each in
@@ -97,7 +97,7 @@ returns-clause-told g c =
     let options = c.args.head.options.now in
     let ready = c.args.head.filter.now in
     let expectations = c.args.head.expectations.now in
-    let told = subst (λ s. HasToldAll _ _ _ _ s _ _ _ _ c.in-Ok-report_capture.told) c.behind_header.ensures c.in-Ok-report_capture.ensures.told in
+    let told = told_at_header c.behind_header.ensures c.in-Ok-report_capture.ensures.told in
     let packets = packets_at 0 told.all.packets in
     let totals = c.in-Ok-report_capture.told.totals in
     let said = c.in-Ok-end.ensures _ packets told.all.verdicts told.stand.1.after told.stand.1.each in

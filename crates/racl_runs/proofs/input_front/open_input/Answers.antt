@@ -1,8 +1,8 @@
-use Rattle.std.proofs.Common.{arith, refl, rules, sym, subst}
+use Rattle.std.proofs.Common.{arith, inl, inr, refl, rules, sym, subst}
 use Rattle.std.proofs.lemmas.Result.{err_from_is_err_and}
 use Rattle.racl_io.specs.declared.marker_line.Form.{Form}
 use Rattle.racl_io.specs.declared.marker_line.Form.TheVariants.{Binary}
-use Rattle.racl_io.specs.Inputs.{IsContent, IsInput, input_facts}
+use Rattle.racl_io.specs.Inputs.{InputFacts, IsContent, IsInput, input_facts}
 use Rattle.racl_report.proofs.CaptureLaws.{IsUnnumbered}
 use Rattle.racl_runs.proofs.OpenedLemmas.{capture_stands, content_behind, header_answers, records_behind_header, records_within_input, text_before, text_within}
 use Rattle.racl_runs.proofs.OutcomeLemmas.{no_marker_answers, policy_answers}
@@ -37,36 +37,40 @@ returns-in_ok-order-in-Binary-clause-ok c =
     let last = capture_stands input.policy.now input.content.now bytes header.ok.whole parted in
     let parts : InputFacts = record { policy = input.policy.now; form = Binary; content = input.content.now } in
     record {
-      parts = parts;
-      parted = parted;
-      policy = record { says = c.in_ok-policy.ensures.ok; one = c.in_ok-policy.ensures.accepts; right = c.in_ok-policy.ensures.refuses };
-      times = refl;
-      form = refl;
-      header = record {
-        right = header.ok;
-        one = λ other right. let e = header.accepts other right in cc;
-        none = λ cause is. let e = header.refuses cause is in cc;
-      };
-      text = text_before bytes parts parted;
-      within = (text_within bytes parts parted, records_within_input bytes input.content.now last header.ok.whole);
-      behind = records_behind_header bytes input.content.now last;
-    }
-
-pub returns-in_default-form-clause-ok : goal.returns-in_default-form-clause-ok
-returns-in_default-form-clause-ok c =
-    let input = c.in-Some.input in
-    let bytes = c.args.bytes.now in
-    let parts = input_facts input in (
-      record {
         parts = parts;
-        parted = c.in-Some.ensures.some;
+        parted = parted;
         policy = record { says = c.in_ok-policy.ensures.ok; one = c.in_ok-policy.ensures.accepts; right = c.in_ok-policy.ensures.refuses };
         times = refl;
         form = refl;
-        text = text_before bytes parts c.in-Some.ensures.some;
-        within = (text_within bytes parts c.in-Some.ensures.some, omega arith);
-        content = content_behind bytes parts c.in-Some.ensures.some;
-        fit = λ place. omega (arith, c.type_inv.bytes place);
-      },
-      c.in_default-form.binary,
-    )
+        header = record {
+          right = header.ok;
+          one = λ other right. let e = header.accepts other right in cc;
+          none = λ cause is. let e = header.refuses cause is in cc;
+        };
+        text = text_before bytes parts parted;
+        within = (text_within bytes parts parted, records_within_input bytes input.content.now last header.ok.whole);
+        behind = records_behind_header bytes input.content.now last;
+    }
+
+pub returns-in-Hexadecimal : goal.returns-in-Hexadecimal
+returns-in-Hexadecimal c =
+    let input = c.in-Some.input in
+    let bytes = c.args.bytes.now in
+    let parts = input_facts input in
+    record {
+      ok = (
+        record {
+          parts = parts;
+          parted = c.in-Some.ensures.some;
+          policy = record { says = c.in_ok-policy.ensures.ok; one = c.in_ok-policy.ensures.accepts; right = c.in_ok-policy.ensures.refuses };
+          times = refl;
+          form = refl;
+          text = text_before bytes parts c.in-Some.ensures.some;
+          within = (text_within bytes parts c.in-Some.ensures.some, omega arith);
+          content = content_behind bytes parts c.in-Some.ensures.some;
+          fit = λ place. omega (arith, c.type_inv.bytes place);
+        },
+        λ binary. elim c.in-Hexadecimal.is [ inl same ↦ (let f : ⊥ = cc in f) | inr numbered ↦ (let same = numbered.1 in let f : ⊥ = cc in f) ],
+      );
+      fault = tt;
+    }
