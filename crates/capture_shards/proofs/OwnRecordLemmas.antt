@@ -1,8 +1,8 @@
 -- Records of one's own packets that are found one after the other.
-use Rattle.std.proofs.Common.{◌≡◌, ◌∙◌, ◌+◌, ◌<◌, ◌≤◌, ◌++◌, ℕ, suc, Bool, true, false, cond, List, [], ◌∷◌, ap, append-nil, append_assoc, arith, length, max, refl, subst, sym}
+use Rattle.std.proofs.Common.{◌≡◌, ◌∙◌, ◌+◌, ◌<◌, ◌≤◌, ◌++◌, ℕ, suc, Bool, true, false, cond, List, [], ◌∷◌, ap, append-nil, append_assoc, arith, length, max, refl, subst, sym, take}
 use Rattle.std.specs.List.{All, AllZip, concat}
 use Rattle.std.proofs.lemmas.List.Elements.{All-cons, All-nil}
-use Rattle.std.proofs.lemmas.List.{length-append}
+use Rattle.std.proofs.lemmas.List.{length-append, take_at}
 use Rattle.packet_view.specs.Captures.{AreRecords, Cut, IsPiece, Nothing, PacketFacts, PieceFacts, Record, RecordFacts, TooLong, packet_at, packets_at}
 use Rattle.packet_view.specs.Fronts.{Stops}
 use Rattle.packet_view.specs.declared.capture.Order.{Order}
@@ -26,6 +26,15 @@ no_record order rest none = record { stops = go (part_of order rest) (part_shown
     go Nothing is = tt
     go Cut is = tt
     go TooLong is = tt
+
+-- the bytes of a record that is at the front
+pub front_bytes : (order : Order) (bytes : List ℕ) (facts : RecordFacts) (rest : List ℕ) → IsPiece order bytes (Record facts rest)
+    → IsWholeRecord order (take (16 + length facts.frame) bytes) facts
+front_bytes order bytes facts rest (header, spelt, is) =
+    let size = length-append header facts.frame in
+    let front : length (header ++ facts.frame) ≡ 16 + length facts.frame = omega (arith, size, is.sixteen) in
+    let whole : bytes ≡ (header ++ facts.frame) ++ rest = spelt ∙ sym (append_assoc header facts.frame rest) in
+    (header, ap (take (16 + length facts.frame)) whole ∙ take_at (header ++ facts.frame) rest (16 + length facts.frame) front, is)
 
 -- where whole records stop
 pub stop_none : (order : Order) (rest : List ℕ) (at_end : Stop) → Stops order rest at_end → at.HasNoRecord order rest

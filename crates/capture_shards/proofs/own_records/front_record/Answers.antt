@@ -1,7 +1,7 @@
 use Rattle.std.proofs.Common.{refl, subst, sym}
 use Rattle.packet_view.specs.Captures.{RecordFacts}
 use Rattle.capture_shards.specs.OwnRecords.{IsWholeRecord}
-use Rattle.capture_shards.proofs.SharedSaveLemmas.{front_bytes}
+use Rattle.capture_shards.proofs.OwnRecordLemmas.{front_bytes}
 use Rattle.capture_shards.proofs.own_records.front_record.Goals as goal
 
 pub returns-in-Whole-clause-some : goal.returns-in-Whole-clause-some
