@@ -1,11 +1,11 @@
 -- A run over a capture that is told while it comes.
 use Rattle.std.proofs.KnownBytes.{Consumes-all, Consumes-trans}
-use Rattle.std.proofs.Common.{◌≡◌, ◌∙◌, ◌+◌, ◌≤◌, ◌++◌, ℕ, Bool, List, [], ◌∷◌, Option, None, Result, Ok, Err, MatchResult, ap, append_assoc, arith, inl, inr, length, refl, subst, sym, drop}
+use Rattle.std.proofs.Common.{◌≡◌, ◌∙◌, ◌≤◌, ◌++◌, ℕ, Bool, List, [], Option, None, Result, Ok, Err, MatchResult, ap, append_assoc, arith, inl, inr, length, refl, subst, sym, drop}
 use Rattle.std.specs.Io.KnownBytes.{Consumes, IsAtEnd}
 use Rattle.std.specs.Prelude.{IfSome}
 use Rattle.std.specs.List.{concat}
-use Rattle.std.proofs.lemmas.List.{drop_all, length-map}
-use Rattle.packet_view.specs.Captures.{AreRecords, IsCaptureAt, IsEnd, PacketFacts, RecordFacts, end_of, packet_at, packets_at}
+use Rattle.std.proofs.lemmas.List.{drop_all}
+use Rattle.packet_view.specs.Captures.{AreRecords, IsCaptureAt, IsEnd, PacketFacts, RecordFacts, end_of, packets_at}
 use Rattle.packet_view.specs.declared.capture.Order.{Order}
 use Rattle.packet_view.proofs.FrontLemmas.{behind_header_appended, header_appended}
 use Rattle.acl_policy.specs.Policies.{IsPolicyText, PolicyFacts, policy_facts}
@@ -30,12 +30,9 @@ use Rattle.capture_stream.specs.Lives.{HaveFailed}
 use Rattle.capture_stream.specs.Savings.{manner_of, outputs}
 use Rattle.filter_run.proofs.OwnTellLemmas.{all_fault, all_lines, all_own, all_pieces}
 use Rattle.filter_run.proofs.TellLemmas.{failed_since, fault_as}
-use Rattle.capture_shards.specs.Shards.{own_packets}
-use Rattle.capture_shards.specs.Sharing.{lines_at, own_numbers}
 use Rattle.capture_shards.specs.inner.OwnTests.{own_among}
 use Rattle.racl_runs.specs.Crews.{AreAsAsked, AreRestingWith, AreSaid, AreSaidSoFar, HaveSaidAfter, Orders, cuts_four, orders_for, orders_in, orders_of, size_of}
 use Rattle.racl_runs.specs.LiveRuns.{AreFirstVerdicts, ByLiveWorkers, ByLoneWorker, HasHead, HasRunLive, IsEarlyFault, IsLiveReport, IsLiveRunFault, IsOrderFor, IsToldBehind, TellsAsAsked}
-use Rattle.racl_runs.specs.LiveSaves.{HaveSaved}
 use Rattle.racl_runs.specs.Runs.{ByWorkers, ages_in, bucket_deal}
 use Rattle.racl_runs.specs.ShardRuns.{IsOwnReport, no_note}
 use Rattle.racl_views.specs.Hits.{latest_second}

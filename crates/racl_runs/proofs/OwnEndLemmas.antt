@@ -10,7 +10,6 @@ use Rattle.acl_policy.specs.Policies.{PolicyFacts, policy_facts}
 use Rattle.session_state.specs.declared.verdict.Verdict.{Verdict}
 use Rattle.racl_io.specs.declared.fault.Fault.{Fault}
 use Rattle.racl_io.specs.declared.fault.Fault.TheVariants as fault
-use Rattle.racl_io.specs.Sinks.{GotFront}
 use Rattle.racl_io.specs.Tellings.{IsTellingFault, Wording}
 use Rattle.racl_io.proofs.TellingLemmas.{front_on}
 use Rattle.racl_options.specs.declared.settings.Options.{Options}

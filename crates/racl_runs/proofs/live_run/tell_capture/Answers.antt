@@ -1,4 +1,4 @@
-use Rattle.std.proofs.Common.{◌∙◌, ◌++◌, ℕ, List, ap, inl, refl, rules}
+use Rattle.std.proofs.Common.{◌∙◌, ◌++◌, ℕ, List, ap, inl, rules}
 use Rattle.std.proofs.lemmas.Option.{IfSome_then}
 use Rattle.acl_policy.specs.Policies.{policy_facts}
 use Rattle.capture_stream.specs.Savings.{manner_of, outputs}
