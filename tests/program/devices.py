@@ -4,7 +4,7 @@ import tempfile
 
 from support.captures import CAPTURE, MOST_BYTES, NAMES, REFLECTED, report_of
 from support.cases import FEW_WORKERS, TOP, Case, each, wanted
-from support.large_inputs import many_windows
+from support.large_inputs import many_reads
 
 INPUT = NAMES + b"pcap\n" + CAPTURE
 AT_TERMINAL = "racl: the policy and the capture are read from this terminal; racl --help says how files are named\n"
@@ -12,7 +12,7 @@ AT_TERMINAL = "racl: the policy and the capture are read from this terminal; rac
 # Inputs whose reads and writes are interrupted, and what is wanted on them.
 INTERRUPTED = [
     ("a short input interrupted", lambda: INPUT, lambda: wanted(REFLECTED)),
-    ("many windows interrupted", lambda: many_windows()[0], lambda: wanted(report_of(many_windows()[1]))),
+    ("many reads interrupted", lambda: many_reads()[0], lambda: wanted(report_of(many_reads()[1]))),
     ("a fault interrupted", lambda: b"", lambda: wanted(stderr="racl: no pcap or hex line\n", status=1)),
 ]
 

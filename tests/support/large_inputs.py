@@ -176,7 +176,7 @@ def one_bucket():
 
 
 @functools.lru_cache(maxsize=None)
-def many_windows():
+def many_reads():
     """More packets than several workers judge at once: a flow for each of 8000 ports, and 70 answers of each."""
     data, _ = many_flows()
     ports = range(1024, 9024)
@@ -186,4 +186,4 @@ def many_windows():
 
 LARGE = [("many flows", many_flows), ("paired flows", paired_flows), ("strangers", strangers), ("many rules", many_rules),
          ("many prefixes", many_prefixes), ("rules one by one", lambda: grid(0)), ("prepared rules", lambda: grid(60)),
-         ("many lines", many_lines), ("one bucket", one_bucket), ("many windows", many_windows)]
+         ("many lines", many_lines), ("one bucket", one_bucket), ("many reads", many_reads)]

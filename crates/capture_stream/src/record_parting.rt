@@ -43,7 +43,8 @@ impl RecordParting {
     ghost use Rattle.capture_stream.specs.Found.{HaveFound};
     ghost use Rattle.capture_stream.specs.Lives.{with_read};
     ghost use Rattle.capture_stream.specs.Parting.{HasSettled, rest_in};
-    ghost use Rattle.capture_stream.specs.inner.Partings.{HasGot, IsBegun, IsUnread};
+    ghost use Rattle.capture_stream.specs.inner.Partings.{HasGot, IsBegun, IsLost, IsUnread};
+    ghost use Rattle.racl_io.specs.Inputs.{most_bytes};
 
     /// One of a capture that was taken at this interface, where these bytes wait, and no record was parted off.
     pub fn new(alloc: Global, order: Order, interface: u8, front: Vec<u8>) -> RecordParting
@@ -90,6 +91,25 @@ impl RecordParting {
             Ok(n) => {
                 self.found = find_records(self.window.bytes(), self.order);
                 Ok(n)
+            }
+            Err(fault) => Err(fault),
+        }
+    }
+
+    /// Reads bytes behind those that wait until so many came, or the source is at its end: how many they are. Where it fails, bytes
+    /// that were read before are lost.
+    pub fn fill<R: Source>(&mut self, reader: &mut R, most: usize) -> Result<usize, Fault>
+        requires some { 1 ≤ most }
+        requires few { length (rest_in self.old) + most ≤ most_bytes + 1 }
+        requires sound { R.failures reader.old < 2 ^ 64 - 1 }
+        ensures got { MatchResult result (HasGot (R.bytes reader.old) (R.bytes reader.new) self.old self.new most) (IsLost most (R.bytes reader.old) (R.bytes reader.new)) }
+        ensures failures { MatchResult result (λ _. R.failures reader.new ≡ R.failures reader.old) (λ fault. R.failures reader.new ≡ with_read (R.failures reader.old) fault) }
+    {
+        let held = self.window.bytes().len();
+        match self.window.read_until(reader, held + most) {
+            Ok(_) => {
+                self.found = find_records(self.window.bytes(), self.order);
+                Ok(self.window.bytes().len() - held)
             }
             Err(fault) => Err(fault),
         }

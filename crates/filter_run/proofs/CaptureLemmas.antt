@@ -26,14 +26,14 @@ use Rattle.capture_stream.specs.Found.{HaveFound, behind_of}
 use Rattle.capture_stream.specs.Parting.{HasSettled, rest_in}
 use Rattle.capture_stream.specs.declared.found_records.Found.{Found}
 use Rattle.capture_stream.specs.Lives.{with_read}
-use Rattle.capture_stream.specs.inner.Partings.{HasGot, IsBegun, IsCutAt, IsUnread}
+use Rattle.capture_stream.specs.inner.Partings.{HasGot, IsBegun, IsCutAt, IsLost, IsUnread}
 use Rattle.capture_stream.specs.declared.record_parting.RecordParting.{RecordParting}
 use Rattle.filter_run.specs.Batches.{BatchFacts, IsWhole, batch_facts, listed}
 use Rattle.filter_run.specs.OneCapture.{AreNumbered, GaveWithin, HasFailedBehind, HasGiven, HasGivenAll, HasGivenSome, HasParted, IsWhy, bytes_of, records_of, start_of}
 use Rattle.filter_run.specs.Starts.{IsInputOut, IsUnreadRest, most_at}
 use Rattle.filter_run.specs.declared.batch.Batch.{Batch}
 use Rattle.filter_run.specs.declared.one_capture.OneCapture.{OneCapture}
-use Rattle.filter_run.specs.inner.Reads.{HasReadOut, IsOutFault}
+use Rattle.filter_run.specs.inner.Reads.{HasReadOut, IsMissed, IsOutFault}
 use Rattle.filter_run.proofs.NumberLemmas.{numbered_none}
 use Rattle.filter_run.proofs.RunLemmas.{flat_push}
 
@@ -94,11 +94,11 @@ within_most (Some before) read within few = omega (arith, within, few)
 -- the rest where a read failed
 unread_rest : (input : Option ℕ) (order : Order) (rest : List ℕ) (truncated : Bool) → IsEnd order rest (end_of truncated) → IsUnreadRest input order rest
 unread_rest None order rest truncated end = (truncated, end)
-unread_rest (Some before) order rest truncated end = inl (truncated, end)
+unread_rest (Some before) order rest truncated end = tt
 
-unread_long : (input : Option ℕ) (order : Order) (rest : List ℕ) (n : ℕ) → input ≡ Some n → IsTooLong order rest → IsUnreadRest input order rest
-unread_long None order rest n part long = cc
-unread_long (Some before) order rest n part long = inr long
+unread_within : (input : Option ℕ) (order : Order) (rest : List ℕ) (n : ℕ) → input ≡ Some n → IsUnreadRest input order rest
+unread_within None order rest n part = cc
+unread_within (Some before) order rest n part = tt
 
 -- a record that is too long is so with more bytes behind it
 long_appended : (order : Order) (bytes more : List ℕ) → IsTooLong order bytes → IsTooLong order (bytes ++ more)
@@ -261,8 +261,7 @@ module _ {R : Type 0} (bytes : R → Option (List ℕ)) (failures : R → ℕ) (
           place = refl;
           why = elim out.why [
             | inl unread ↦ subst (IsWhy (start_of begun) read (bytes new.reader.now) batches rest) (sym unread)
-                (unread_long begun.input begun.parting.order rest out.part.0 (sym is.input ∙ out.part.1)
-                (long_appended begun.parting.order (rest_in old.parting) out.gone rest_long))
+                (unread_within begun.input begun.parting.order rest out.part.0 (sym is.input ∙ out.part.1))
             | inr (large, many) ↦ subst (IsWhy (start_of begun) read (bytes new.reader.now) batches rest) (sym large)
                 (let size = then_size out.gone in let input = ap most_at is.input in omega arith)
           ];
@@ -293,6 +292,37 @@ module _ {R : Type 0} (bytes : R → Option (List ℕ)) (failures : R → ℕ) (
         ];
         failed = failed ∙ ap (λ n. with_read n found) is.sound;
       }
+
+  -- a read failed, or memory ran out, behind more bytes of an input
+  given_lost : (new : OneCapture R) (most n : ℕ) (found : Fault) → new.reader.ghost_name ≡ old.reader.ghost_name → old.input ≡ Some n → old.read + most ≤ most_at old.input + 1
+      → IsLost most (bytes old.reader.now) (bytes new.reader.now) found
+      → failures new.reader.now ≡ with_read (failures old.reader.now) found → HasFailedBehind bytes failures begun batches (record { fault = found; interface = None }) new
+  unfolding far_on
+  given_lost new most n found name part fits (gone, consumed, few, which) failed =
+      let rest = rest_in old.parting ++ gone in
+      let read = is.some.read ++ gone in
+      record {
+        same = name ∙ is.same;
+        rest = rest;
+        some = then_some (bytes new.reader.now) gone rest consumed refl;
+        numbered = is.numbered;
+        far = far_on (bytes new.reader.now) most (let same = ap most_at is.input in omega arith) (gone, consumed, few);
+        place = refl;
+        why = elim which [
+          | inl memory ↦ subst (IsWhy (start_of begun) read (bytes new.reader.now) batches rest) (sym memory) tt
+          | inr failing ↦ subst (IsWhy (start_of begun) read (bytes new.reader.now) batches rest) (sym failing)
+              (unread_within begun.input begun.parting.order rest n (sym is.input ∙ part))
+        ];
+        failed = failed ∙ ap (λ k. with_read k found) is.sound;
+      }
+
+  -- whichever way was read
+  pub given_missed : (new : OneCapture R) (truncated : Bool) (most : ℕ) (found : Fault) → new.reader.ghost_name ≡ old.reader.ghost_name → old.waits ≡ false → IsCutAt old.stop truncated
+      → old.read + most ≤ most_at old.input + 1 → (input : Option ℕ) → old.input ≡ input → IsMissed input most (bytes old.reader.now) (bytes new.reader.now) found
+      → failures new.reader.now ≡ with_read (failures old.reader.now) found → HasFailedBehind bytes failures begun batches (record { fault = found; interface = None }) new
+  unfolding given_unread given_lost
+  given_missed new truncated most found name parted ends fits None same missed failed = given_unread new truncated found name parted ends missed failed
+  given_missed new truncated most found name parted ends fits (Some n) same missed failed = given_lost new most n found name same fits missed failed
 
   -- ---- Some bytes were read
 

@@ -1,7 +1,7 @@
 -- Where a capture's records begin, how many bytes may come there, and that all of its input was read (this project's profile).
-use Rattle.std.specs.Prelude.{◌+◌, ◌-◌, ◌≤◌, ◌⊎◌, ◌++◌, ℕ, Bool, List, [], None, Option, Some, length, ⊤}
+use Rattle.std.specs.Prelude.{◌+◌, ◌-◌, ◌≤◌, ◌++◌, ℕ, Bool, List, [], None, Option, Some, length, ⊤}
 use Rattle.std.specs.Io.KnownBytes.{IsAtEnd}
-use Rattle.packet_view.specs.Captures.{IsEnd, IsTooLong, end_of}
+use Rattle.packet_view.specs.Captures.{IsEnd, end_of}
 use Rattle.packet_view.specs.declared.capture.Order.{Order}
 use Rattle.racl_io.specs.Inputs.{most_bytes}
 use Rattle.filter_run.specs.declared.capture_start.CaptureStart.{CaptureStart}
@@ -34,8 +34,8 @@ IsInputOut (Some before) size after = IsAtEnd after × (before + size ≤ most_b
 abbrev pub IsReadOut : Start → (read : List ℕ) → (after : Option (List ℕ)) → Type 0
 IsReadOut start read after = IsInputOut start.input (length (start.front ++ read)) after
 
--- Where a read failed, no whole record is at the front of the rest: it is nothing or the front of a record, or else an input was
--- read on behind a record that is too long.
+-- Where a read failed, no whole record is at the front of the rest: it is nothing or the front of a record. Of an input, of which
+-- nothing is told where a read failed, more may have been read.
 abbrev pub IsUnreadRest : Option ℕ → Order → (rest : List ℕ) → Type 0
 IsUnreadRest None order rest = (truncated : Bool) × IsEnd order rest (end_of truncated)
-IsUnreadRest (Some before) order rest = ((truncated : Bool) × IsEnd order rest (end_of truncated)) ⊎ IsTooLong order rest
+IsUnreadRest (Some before) order rest = ⊤

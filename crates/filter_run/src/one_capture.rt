@@ -1,10 +1,12 @@
 //! The packets of one capture, as a reader gives it behind its header, or behind more of it that was read before.
-ghost use Rattle.std.specs.Prelude.{◌≡◌, ◌+◌, ◌-◌, ◌<◌, ◌≤◌, ◌^◌, IfSome, MatchResult, None};
+ghost use Rattle.std.specs.Prelude.{◌≡◌, ◌+◌, ◌-◌, ◌<◌, ◌≤◌, ◌^◌, IfSome, MatchResult, None, length};
 ghost use Rattle.racl_io.specs.Inputs.{most_bytes};
 ghost use Rattle.racl_io.specs.Transfers.{GaveAtMost};
 ghost use Rattle.capture_stream.specs.Lives.{with_read};
 ghost use Rattle.filter_run.specs.Starts.{most_at};
-ghost use Rattle.filter_run.specs.inner.Reads.{HasReadOut, IsOutFault};
+ghost use Rattle.filter_run.specs.inner.Reads.{HasReadOut, IsMissed, IsOutFault};
+ghost use Rattle.capture_stream.specs.Parting.{rest_in};
+ghost use Rattle.capture_stream.specs.inner.Partings.{HasGot};
 
 use crate::batch::Batch;
 use crate::capture_start::CaptureStart;
@@ -101,13 +103,39 @@ impl<'r, R> OneCapture<'r, R> {
     }
 }
 
-// The room for what waits behind a read: where reads grow, that of the batch before is given back first, so that there is never room
-// for two of them.
-fn room_beside(alloc: Global, size: ReadSize, room: ReadBuffer) -> ReadBuffer {
-    if size.many.is_none() {
+// The room for what waits behind a read: where one read may give many bytes, that of the batch before is given back first, so that
+// there is never room for two of them.
+fn room_beside(
+    alloc: Global,
+    input: Option<usize>,
+    size: ReadSize,
+    room: ReadBuffer,
+) -> ReadBuffer {
+    if input.is_some() || size.many.is_none() {
         return room;
     }
     ReadBuffer::new(Vec::new(alloc))
+}
+
+// Reads behind the bytes that wait, and none only at the source's end: how many they are. Of an input as many are read as threads
+// may pay for, since nothing of it is told before its end; else what one read gives.
+fn read_next<R: Source>(
+    alloc: Global,
+    parting: &mut RecordParting,
+    reader: &mut R,
+    input: Option<usize>,
+    size: ReadSize,
+) -> Result<usize, Fault>
+    requires few { length (rest_in parting.old) + 8388608 < 2 ^ 63 }
+    requires within { IfSome input (λ before. length (rest_in parting.old) + size.bytes ≤ most_bytes + 1) }
+    requires sound { R.failures reader.old < 2 ^ 64 - 1 }
+    ensures got { MatchResult result (HasGot (R.bytes reader.old) (R.bytes reader.new) parting.old parting.new size.bytes) (IsMissed input size.bytes (R.bytes reader.old) (R.bytes reader.new)) }
+    ensures failures { MatchResult result (λ _. R.failures reader.new ≡ R.failures reader.old) (λ fault. R.failures reader.new ≡ with_read (R.failures reader.old) fault) }
+{
+    if input.is_none() || size.many.is_none() {
+        return parting.read_part(alloc, reader, size);
+    }
+    parting.fill(reader, size.bytes)
 }
 
 // How many bytes may come of a capture with so many bytes of an input before it, where it is part of one.
@@ -197,7 +225,7 @@ impl<'r, R: Source> OneCapture<'r, R> {
             },
         };
         let size = self.size.within(most + 1 - self.read);
-        let n = match self.parting.read_part(self.alloc, self.reader, size) {
+        let n = match read_next(self.alloc, &mut self.parting, self.reader, self.input, size) {
             Ok(n) => n,
             Err(fault) => return Err(at(fault)),
         };
@@ -225,7 +253,7 @@ impl<'r, R: Source> CaptureSource for OneCapture<'r, R> {
 
     // The whole records are given among the bytes that wait: those that were read before, or behind some more.
     fn next(&mut self, room: ReadBuffer) -> Result<Step, FaultAt> {
-        let room = room_beside(self.alloc, self.size, room);
+        let room = room_beside(self.alloc, self.input, self.size, room);
         match self.read_more() {
             Ok(None) => {}
             Ok(Some(captures)) => return Ok(Step::End(captures)),

@@ -1,5 +1,5 @@
 -- A report that is held until all of an input was judged: what its telling says of the input.
-use Rattle.std.proofs.Common.{◌≡◌, ◌∙◌, ◌+◌, ◌-◌, ◌≤◌, ◌⊎◌, ℕ, List, [], None, Option, Some, Err, ap, ap₂, arith, drop, inl, inr, length, refl, subst, sym}
+use Rattle.std.proofs.Common.{◌≡◌, ◌∙◌, ◌≤◌, ◌⊎◌, ℕ, List, [], None, Option, Some, Err, ap, ap₂, arith, drop, inl, inr, length, refl, subst, sym}
 use Rattle.packet_view.specs.Captures.{packets_at}
 use Rattle.packet_view.specs.declared.capture.Order.{Order}
 use Rattle.acl_policy.specs.Policies.{PolicyFacts, policy_facts}

@@ -1,5 +1,5 @@
 -- Tables of the size that the words ask for, and workers over them after the packets that they judged.
-use Rattle.std.specs.Prelude.{◌≡◌, ◌++◌, ℕ, Bool, true, List, [], length}
+use Rattle.std.specs.Prelude.{◌≡◌, ◌++◌, ℕ, Bool, true, List, length}
 use Rattle.packet_view.specs.Captures.{PacketFacts}
 use Rattle.acl_policy.specs.Policies.{PolicyFacts, policy_facts}
 use Rattle.bihash_words.specs.declared.shape.Shape.{Ghosts}

@@ -1,5 +1,5 @@
 -- What is answered of an input that is read, and what stands before the records of its captures.
-use Rattle.std.specs.Prelude.{◌≡◌, ◌≢◌, ◌+◌, ◌<◌, ◌≤◌, ◌⊎◌, ◌++◌, ℕ, Bool, true, false, List, [], ◌∷◌, Option, None, IfSome, IfOk, IfErr, MatchResult, Result, Ok, Err, drop, length, take}
+use Rattle.std.specs.Prelude.{◌≡◌, ◌≢◌, ◌+◌, ◌<◌, ◌≤◌, ◌⊎◌, ◌++◌, ℕ, Bool, true, List, [], ◌∷◌, Option, None, IfSome, IfOk, IfErr, MatchResult, Result, Ok, Err, drop, length, take}
 use Rattle.std.specs.Io.KnownBytes.{Appends, Consumes, IsAtEnd}
 use Rattle.packet_view.specs.Bytes.{AreBytes}
 use Rattle.packet_view.specs.Captures.{AreRecords, HasFileHeader, IsEnd, IsHeaderFault, PacketFacts, RecordFacts, end_of, packets_at}

@@ -46,7 +46,6 @@ pub fn report_headed<R: Source, T: Clock + Threads + Wait + Sync>(
     options: &Options,
     reader: &mut R,
     bytes: &[u8],
-    ended: bool,
     headed: Headed,
 ) -> Result<HeldReport, Fault>
     requires headed { HasHeaded options.now bytes.now headed }
@@ -65,7 +64,7 @@ pub fn report_headed<R: Source, T: Clock + Threads + Wait + Sync>(
     let Ok(front) = Vec::from_slice(alloc, &bytes[from..]) else {
         return Err(Fault::Memory);
     };
-    let Ok(prepared) = filter.prepare(alloc, expected_packets(ended, front.len())) else {
+    let Ok(prepared) = filter.prepare(alloc, expected_packets(options, bytes.len())) else {
         return Err(Fault::Memory);
     };
     let Ok(ready) = filter.ready_with(alloc, &prepared) else {
@@ -79,18 +78,19 @@ pub fn report_headed<R: Source, T: Clock + Threads + Wait + Sync>(
     let Ok(lines) = AskedLines::new(alloc, way) else {
         return Err(Fault::Memory);
     };
-    let head = LiveHead {
-        alloc,
-        way,
-        shard: None,
-    };
     let start = CaptureStart {
         order,
         front,
         input: Some(from),
     };
+    let head = LiveHead {
+        alloc,
+        way,
+        start,
+        shard: None,
+    };
     let mut held = Device::new(Vec::new(alloc));
-    match tell_capture(rt, head, start, reader, &mut held, lines, &mut Unsaved) {
+    match tell_capture(rt, head, reader, &mut held, lines, &mut Unsaved) {
         Ok(totals) => {
             let Device { inner, .. } = held;
             Ok(HeldReport {

@@ -61,12 +61,13 @@ pub struct LiveWay<'t, 'f> {
     pub filter: &'t InterfaceFilters<'f>,
 }
 
-/// What a run on one capture goes by: its way, where it gets memory, and the shard whose packets it judges and tells; all where
-/// there is none.
-#[derive(Clone, Copy)]
+/// What a run on one capture goes by: its way, where its records begin, where it gets memory, and the shard whose packets it judges
+/// and tells; all where there is none.
+#[derive(Drop)]
 pub struct LiveHead<'t, 'f> {
     pub alloc: Global,
     pub way: LiveWay<'t, 'f>,
+    pub start: CaptureStart,
     pub shard: Option<Shard>,
 }
 
@@ -210,7 +211,6 @@ pub fn tell_capture<
 >(
     rt: &T,
     head: LiveHead<'_, '_>,
-    start: CaptureStart,
     reader: &mut R,
     writer: &mut W,
     lines: L,
@@ -218,16 +218,21 @@ pub fn tell_capture<
 ) -> Result<Totals, Fault>
     requires says { IsPolicyText head.way.text.now (policy_facts head.way.filter.now.policy.now) }
     requires sound { (head.way.filter.now.times ≡ head.way.options.now.times) × (R.failures reader.old < 2 ^ 64 - 1) × (W.failures writer.old < 2 ^ 64 - 1) }
-    requires front { length start.front.items ≤ most_at start.input }
-    requires input { IfSome start.input (λ before. before ≤ most_bytes) }
-    requires saves { K.saved saver.old start.order [] [] saver.old }
+    requires front { length head.start.front.items ≤ most_at head.start.input }
+    requires input { IfSome head.start.input (λ before. before ≤ most_bytes) }
+    requires saves { K.saved saver.old head.start.order [] [] saver.old }
     ensures told { let way = head.entry.way in TellsOwn T way.options.now way.text.now (note_for way.options.now head.entry.shard) (manner_of (L.wording lines) K.saved) (policy_facts way.filter.now.policy.now) (own_among head.entry.shard)
-        (start_facts start) (R.bytes reader.old) (R.bytes reader.new) (outputs (W.bytes writer.old) saver.old) (outputs (W.bytes writer.new) saver.new) result }
-    ensures far { GaveAtMost (R.bytes reader.old) (R.bytes reader.new) (most_at start.input + 1 - length start.front.items) }
+        (start_facts head.entry.start) (R.bytes reader.old) (R.bytes reader.new) (outputs (W.bytes writer.old) saver.old) (outputs (W.bytes writer.new) saver.new) result }
+    ensures far { GaveAtMost (R.bytes reader.old) (R.bytes reader.new) (most_at head.entry.start.input + 1 - length head.entry.start.front.items) }
     ensures read { MatchResult result (λ _. R.failures reader.new ≡ R.failures reader.old) (λ fault. R.failures reader.new ≡ with_read (R.failures reader.old) fault) }
     ensures write { HasFailedOnce result (W.failures writer.old) (W.failures writer.new) (K.failures saver.old) (K.failures saver.new) }
 {
-    let LiveHead { alloc, way, shard } = head;
+    let LiveHead {
+        alloc,
+        way,
+        start,
+        shard,
+    } = head;
     let ages = ages_early(way.options);
     let Ok((tables, callers)) = create_sized(alloc, way.options.tables, ages) else {
         return Err(Fault::Memory);
@@ -328,11 +333,12 @@ pub fn run_live<R: Source, W: Sink, S: Sink, T: Clock + Threads + Wait + Sync>(
         Ok(()) => {}
         Err(fault) => return Err(fault),
     }
+    let start = CaptureStart::behind_header(alloc, order);
     let head = LiveHead {
         alloc,
         way,
+        start,
         shard: None,
     };
-    let start = CaptureStart::behind_header(alloc, order);
-    tell_capture(rt, head, start, reader, writer, lines, saves)
+    tell_capture(rt, head, reader, writer, lines, saves)
 }

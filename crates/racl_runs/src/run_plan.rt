@@ -1,5 +1,5 @@
 //! How much of an input is read before its packets are judged, and what is prepared for them: the plan of a run.
-ghost use Rattle.std.specs.Prelude.{◌≡◌, ◌≤◌, ◌/◌, if◌then◌else◌, is_some};
+ghost use Rattle.std.specs.Prelude.{◌≡◌, ◌≤◌, is_some};
 
 use racl_options::Options;
 
@@ -26,11 +26,12 @@ pub fn front_bytes(options: &Options) -> usize
     }
 }
 
-/// For how many packets rules are prepared where an input has so many bytes of them, and more may come unless it has ended.
-pub fn expected_packets(ended: bool, bytes: usize) -> usize
-    ensures { result ≡ if ended then bytes / 64 else 16777216 }
+/// For how many packets rules are prepared where so many bytes were read of an input's front: as many as these have of small frames
+/// where they are all, and else many.
+pub fn expected_packets(options: &Options, bytes: usize) -> usize
+    ensures { result ≤ 16777216 }
 {
-    if ended {
+    if bytes < front_bytes(options) {
         bytes / SMALL_RECORD
     } else {
         EXPECTED

@@ -28,16 +28,12 @@ fn report_source<R: Source, T: Clock + Threads + Wait + Sync>(
     ensures fault { IfErr result (λ fault. AnswersRead options.now [] (R.bytes reader.old) (Err fault)) }
     ensures within { HasReadWithin R.bytes R.failures (most_bytes + 1) reader.old reader.new result }
 {
-    let InputFront {
-        bytes,
-        ended,
-        opened,
-    } = match open_source(alloc, options, reader) {
+    let InputFront { bytes, opened, .. } = match open_source(alloc, options, reader) {
         Ok(front) => front,
         Err(fault) => return Err(fault),
     };
     match opened {
-        Opened::Bytes(headed) => report_headed(rt, alloc, options, reader, &bytes, ended, headed),
+        Opened::Bytes(headed) => report_headed(rt, alloc, options, reader, &bytes, headed),
         Opened::Whole(marked) => report_digits(rt, alloc, options, &bytes, marked),
     }
 }

@@ -108,11 +108,12 @@ pub fn run_shard<R: Source, W: Sink, S: Sink, T: Clock + Threads + Wait + Sync>(
         Ok(()) => {}
         Err(fault) => return Err(fault),
     }
+    let start = CaptureStart::behind_header(alloc, order);
     let head = LiveHead {
         alloc,
         way,
+        start,
         shard: Some(shard),
     };
-    let start = CaptureStart::behind_header(alloc, order);
-    tell_capture(rt, head, start, reader, writer, lines, saves)
+    tell_capture(rt, head, reader, writer, lines, saves)
 }

@@ -1,7 +1,7 @@
 //! The tests of the crates from `racl_options` to `racl_runs`.
 use std::test::Fail;
 
-mod capture_starts;
+mod captures_in_inputs;
 mod checks;
 mod command_line_words;
 mod comparisons;

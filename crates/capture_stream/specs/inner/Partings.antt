@@ -41,6 +41,10 @@ pub record HasGot (before after : Option (List ℕ)) (old new : RecordParting) (
 abbrev pub IsUnread : Option (List ℕ) → Option (List ℕ) → Fault → Type 0
 IsUnread before after fault = Keeps before after × ((fault ≡ Memory) ⊎ (fault ≡ Read))
 
+-- memory ran out or a read failed, and no more than so many bytes were read before, which are lost
+abbrev pub IsLost : ℕ → Option (List ℕ) → Option (List ℕ) → Fault → Type 0
+IsLost most before after fault = (gone : List ℕ) × Consumes before after gone × (length gone ≤ most) × ((fault ≡ Memory) ⊎ (fault ≡ Read))
+
 -- where a capture ends here, it ends so
 abbrev pub IsCutAt : Stop → Bool → Type 0
 IsCutAt stop truncated = (order : Order) (rest : List ℕ) → Stops order rest stop → IsEnd order rest (end_of truncated)

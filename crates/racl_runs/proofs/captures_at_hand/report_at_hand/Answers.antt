@@ -1,12 +1,6 @@
-use Rattle.std.proofs.Common.{◌∙◌, List, ap, map, subst, sym, ℕ}
-use Rattle.std.proofs.KnownBytes.{Appends-trans}
-use Rattle.std.specs.Io.KnownBytes.{Appends}
-use Rattle.packet_view.specs.Captures.{PacketFacts, packet_facts}
+use Rattle.std.proofs.Common.{◌∙◌, ap, map}
+use Rattle.packet_view.specs.Captures.{packet_facts}
 use Rattle.acl_policy.specs.Policies.{policy_facts}
-use Rattle.session_state.specs.declared.verdict.Verdict.{Verdict}
-use Rattle.racl_report.specs.RunReports.{AreLines, told_facts}
-use Rattle.racl_views.specs.Hits.{latest_second}
-use Rattle.racl_runs.specs.LiveRuns.{IsToldBehind}
 use Rattle.racl_runs.proofs.AtHandLemmas.{reported_at_hand}
 use Rattle.racl_runs.proofs.captures_at_hand.report_at_hand.Goals as goal
 

@@ -1,6 +1,5 @@
 use Rattle.std.proofs.Common.{List, [], Some, ap, length, refl, subst, sym, ℕ, ◌≡◌, ◌⊎◌, ◌∙◌}
 use Rattle.std.proofs.lemmas.List.{take_rest}
-use Rattle.acl_policy.specs.Policies.{policy_facts}
 use Rattle.racl_io.specs.Faults.{IsFaultOfContent}
 use Rattle.racl_io.specs.Reports.{packets_in}
 use Rattle.racl_io.specs.declared.fault.Fault.TheVariants.{Memory}
@@ -8,7 +7,6 @@ use Rattle.racl_io.specs.declared.totals_and_truncation.Captured.{Captured}
 use Rattle.racl_views.specs.CapturePackets.{HavePackets}
 use Rattle.racl_views.specs.declared.capture_bytes.CaptureBytes.{CaptureBytes}
 use Rattle.racl_report.specs.ReadInputs.{HasPackets}
-use Rattle.racl_runs.specs.Reads.{HasReportedOn}
 use Rattle.racl_runs.specs.inner.Captures.{AreDecoded}
 use Rattle.racl_runs.proofs.AtHandLemmas.{digits_report, fault_answers, fit_behind}
 use Rattle.racl_runs.proofs.DigitCaptureLemmas.{counted_packets}

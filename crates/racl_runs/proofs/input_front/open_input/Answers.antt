@@ -1,4 +1,4 @@
-use Rattle.std.proofs.Common.{arith, inl, inr, refl, rules, sym, subst}
+use Rattle.std.proofs.Common.{arith, inl, inr, refl, sym, subst}
 use Rattle.std.proofs.lemmas.Result.{err_from_is_err_and}
 use Rattle.racl_io.specs.declared.marker_line.Form.{Form}
 use Rattle.racl_io.specs.declared.marker_line.Form.TheVariants.{Binary}
@@ -37,19 +37,19 @@ returns-in_ok-order-in-Binary-clause-ok c =
     let last = capture_stands input.policy.now input.content.now bytes header.ok.whole parted in
     let parts : InputFacts = record { policy = input.policy.now; form = Binary; content = input.content.now } in
     record {
-        parts = parts;
-        parted = parted;
-        policy = record { says = c.in_ok-policy.ensures.ok; one = c.in_ok-policy.ensures.accepts; right = c.in_ok-policy.ensures.refuses };
-        times = refl;
-        form = refl;
-        header = record {
-          right = header.ok;
-          one = λ other right. let e = header.accepts other right in cc;
-          none = λ cause is. let e = header.refuses cause is in cc;
-        };
-        text = text_before bytes parts parted;
-        within = (text_within bytes parts parted, records_within_input bytes input.content.now last header.ok.whole);
-        behind = records_behind_header bytes input.content.now last;
+      parts = parts;
+      parted = parted;
+      policy = record { says = c.in_ok-policy.ensures.ok; one = c.in_ok-policy.ensures.accepts; right = c.in_ok-policy.ensures.refuses };
+      times = refl;
+      form = refl;
+      header = record {
+        right = header.ok;
+        one = λ other right. let e = header.accepts other right in cc;
+        none = λ cause is. let e = header.refuses cause is in cc;
+      };
+      text = text_before bytes parts parted;
+      within = (text_within bytes parts parted, records_within_input bytes input.content.now last header.ok.whole);
+      behind = records_behind_header bytes input.content.now last;
     }
 
 pub returns-in-Hexadecimal : goal.returns-in-Hexadecimal

@@ -17,13 +17,13 @@ pub returns-in_default-clause-told : goal.returns-in_default-clause-told
 returns-in_default-clause-told g c =
     let way = c.args.head.way in
     inl (none_told_own (AreFirstVerdicts _ way.options.now) (manner_of (g.L.Teller.wording c.args.lines) g.K.Saver.saved) (policy_facts way.filter.now.policy.now) (own_among c.args.head.shard)
-    (start_facts c.args.start) (g.R.Source.bytes c.args.reader.now) (outputs (g.W.Sink.bytes c.args.writer.now) c.args.saver.now) c.requires.saves)
+    (start_facts c.args.head.start) (g.R.Source.bytes c.args.reader.now) (outputs (g.W.Sink.bytes c.args.writer.now) c.args.saver.now) c.requires.saves)
 
 pub returns-in_default-workers_over-clause-told : goal.returns-in_default-workers_over-clause-told
 returns-in_default-workers_over-clause-told g c =
     let way = c.args.head.way in
     inl (none_told_own (AreFirstVerdicts _ way.options.now) (manner_of (g.L.Teller.wording c.args.lines) g.K.Saver.saved) (policy_facts way.filter.now.policy.now) (own_among c.args.head.shard)
-    (start_facts c.args.start) (g.R.Source.bytes c.args.reader.now) (outputs (g.W.Sink.bytes c.args.writer.now) c.args.saver.now) c.requires.saves)
+    (start_facts c.args.head.start) (g.R.Source.bytes c.args.reader.now) (outputs (g.W.Sink.bytes c.args.writer.now) c.args.saver.now) c.requires.saves)
 
 pub report_share-requires-clause-begun : goal.report_share-requires-clause-begun
 report_share-requires-clause-begun g c = (search rules, c.in-Ok-workers_over.ensures.none)

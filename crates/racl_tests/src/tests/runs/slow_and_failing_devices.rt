@@ -2,8 +2,10 @@
 ghost use Rattle.std.specs.Prelude.{◌≡◌, None};
 
 use super::{DEFAULTS, whole_run_input, whole_run_report};
+use racl_io::decode_digits;
 use racl_runs::{Device, DeviceFault, Fault, Sink, Source, run, status};
 use std::alloc::Global;
+use std::test::Fail;
 
 /// Gives one byte a read. Once it has made its reads it fails, and then goes on.
 #[derive(Drop)]
@@ -139,6 +141,68 @@ fn runs_with_failing_writes(rt: HostRuntime) {
         assert!(rt; writer.failures == 1, "after {writes} writes");
         assert!(rt; writer.taken.as_slice() == &report[..writes.min(report.len())]);
     }
+}
+
+// For tests of slow and failing devices: a line of so many bytes that says nothing, and then the whole input, of which the capture
+// stands as it is: a policy of 72 bytes, a marker line of 5, a header of 24 and three records of 58, 275 bytes together.
+fn whole_run_bytes(alloc: Global, before: usize) -> Result<Vec<u8>, Fault> {
+    let (policy, behind) = whole_run_input().split_at(whole_run_input().len().min(72));
+    let (_, digits) = behind.split_at(behind.len().min(4));
+    let mut bytes = vec![in alloc; b'#'; before.saturating_sub(1)]?;
+    bytes.extend_from_slice(b"\n")?;
+    bytes.extend_from_slice(policy)?;
+    bytes.extend_from_slice(b"pcap\n")?;
+    let capture = decode_digits(alloc, digits)?;
+    bytes.extend_from_slice(&capture)?;
+    Ok(bytes)
+}
+
+/// Runs on failing devices: a capture as it is, of which one record and a half stand in the front of 262,144 bytes. Where a read
+/// fails, before the front's end or behind it, nothing is written, of the first record neither.
+#[test]
+fn runs_with_failing_reads_behind_the_front(rt: HostRuntime) -> Result<(), Fail> {
+    let alloc = rt.alloc();
+    let input = whole_run_bytes(alloc, 262_144 - 188)?;
+    assert!(rt; input.len() == 262_144 + 87);
+    for reads in [262_143, 262_144, 262_145, 262_173, 262_174, 262_231] {
+        let mut reader = Drip {
+            rest: &input,
+            reads,
+            failures: 0,
+        };
+        let mut writer = trickling(alloc, usize::MAX);
+        let outcome = run(&rt, alloc, &DEFAULTS, &mut reader, &mut writer);
+        assert!(rt; outcome == Err(Fault::Read), "after {reads} reads");
+        assert!(rt; reader.failures == 1, "after {reads} reads");
+        assert!(rt; writer.taken.len() == 0, "after {reads} reads");
+    }
+    let mut reader = Drip {
+        rest: &input,
+        reads: usize::MAX,
+        failures: 0,
+    };
+    let mut writer = trickling(alloc, usize::MAX);
+    let outcome = run(&rt, alloc, &DEFAULTS, &mut reader, &mut writer);
+    assert!(rt; status(&outcome) == 0);
+    assert!(rt; writer.taken.as_slice() == whole_run_report());
+    Ok(())
+}
+
+/// Runs on failing devices: where a write fails of the report on a capture as it is, it was written up to there.
+#[test]
+fn runs_on_a_capture_with_failing_writes(rt: HostRuntime) -> Result<(), Fail> {
+    let alloc = rt.alloc();
+    let input = whole_run_bytes(alloc, 1)?;
+    let report = whole_run_report();
+    for writes in [0, 1, 21, 22, 37, 52, 75] {
+        let mut reader = Device::new(input.as_slice());
+        let mut writer = trickling(alloc, writes);
+        let outcome = run(&rt, alloc, &DEFAULTS, &mut reader, &mut writer);
+        assert!(rt; outcome == Err(Fault::Write), "after {writes} writes");
+        assert!(rt; writer.failures == 1, "after {writes} writes");
+        assert!(rt; writer.taken.as_slice() == &report[..writes.min(report.len())]);
+    }
+    Ok(())
 }
 
 /// Runs on failing devices: one that takes no byte of the report.
