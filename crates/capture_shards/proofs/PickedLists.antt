@@ -1,10 +1,11 @@
 -- What there is for one's own packets.
-use Rattle.std.proofs.Common.{◌≡◌, ◌∙◌, ◌+◌, ◌≤◌, ℕ, suc, Bool, true, false, cond, List, [], ◌∷◌, ◌++◌, length, map, ap, ap₂, arith, refl, sym}
+use Rattle.std.proofs.Common.{◌≡◌, ◌∙◌, ◌+◌, ◌≤◌, ℕ, suc, Bool, true, false, cond, List, [], ◌∷◌, ◌++◌, None, length, map, ap, ap₂, arith, refl, sym}
 use Rattle.std.specs.List.{All, AllZip}
 use Rattle.std.proofs.lemmas.Bool.{cond-true}
 use Rattle.std.proofs.lemmas.List.Elements.{All-cons, All-head, All-nil, All-tail}
 use Rattle.packet_view.specs.Captures.{PacketFacts}
 use Rattle.capture_shards.specs.Shards.{Own, own_in, own_packets}
+use Rattle.capture_shards.specs.inner.OwnTests.{own_among}
 
 module _ {X : Type 0} (own : Own) where
   -- what holds of each holds of one's own
@@ -29,6 +30,20 @@ module _ {X : Type 0} (own : Own) where
       go : (b : Bool) → AllZip R (own_packets own (n + 1) ps) (own_in own (n + 1) ps xs)
           → AllZip R (cond b (p ∷ own_packets own (n + 1) ps) (own_packets own (n + 1) ps))
           (cond b (x ∷ own_in own (n + 1) ps xs) (own_in own (n + 1) ps xs))
+      go true rest = (all.0, rest)
+      go false rest = rest
+
+  -- what holds of each with what another list has there does so of one's own
+  pub own_zip_both : {Y : Type 0} (R : X → Y → Type 0) (n : ℕ) (ps : List PacketFacts) (xs : List X) (ys : List Y) → AllZip R xs ys
+      → AllZip R (own_in own n ps xs) (own_in own n ps ys)
+  own_zip_both R n [] xs ys all = tt
+  own_zip_both R n (p ∷ ps) [] [] all = tt
+  own_zip_both R n (p ∷ ps) [] (y ∷ ys) all = absurd all
+  own_zip_both R n (p ∷ ps) (x ∷ xs) [] all = absurd all
+  own_zip_both R n (p ∷ ps) (x ∷ xs) (y ∷ ys) all = go (own n p) (own_zip_both R (n + 1) ps xs ys all.1)
+    where
+      go : (b : Bool) → AllZip R (own_in own (n + 1) ps xs) (own_in own (n + 1) ps ys)
+          → AllZip R (cond b (x ∷ own_in own (n + 1) ps xs) (own_in own (n + 1) ps xs)) (cond b (y ∷ own_in own (n + 1) ps ys) (own_in own (n + 1) ps ys))
       go true rest = (all.0, rest)
       go false rest = rest
 
@@ -71,19 +86,12 @@ module _ {X : Type 0} (own : Own) where
       go true few = omega (arith, few)
       go false few = omega (arith, few)
 
--- as many of one list as of another
-pub own_counts : {X Y : Type 0} (own : Own) (n : ℕ) (ps : List PacketFacts) (xs : List X) (ys : List Y) → length xs ≡ length ys
-    → length (own_in own n ps xs) ≡ length (own_in own n ps ys)
-own_counts own n [] xs ys same = refl
-own_counts own n (p ∷ ps) [] [] same = refl
-own_counts own n (p ∷ ps) [] (y ∷ ys) same = absurd (omega (arith, same))
-own_counts own n (p ∷ ps) (x ∷ xs) [] same = absurd (omega (arith, same))
-own_counts own n (p ∷ ps) (x ∷ xs) (y ∷ ys) same = go (own n p) (own_counts own (n + 1) ps xs ys (omega (arith, same)))
-  where
-    go : (b : Bool) → length (own_in own (n + 1) ps xs) ≡ length (own_in own (n + 1) ps ys)
-        → length (cond b (x ∷ own_in own (n + 1) ps xs) (own_in own (n + 1) ps xs)) ≡ length (cond b (y ∷ own_in own (n + 1) ps ys) (own_in own (n + 1) ps ys))
-    go true same = ap suc same
-    go false same = same
+-- where all packets are one's own there is the same for them
+pub all_in : {X : Type 0} (n : ℕ) (ps : List PacketFacts) (xs : List X) → length xs ≡ length ps → own_in (own_among None) n ps xs ≡ xs
+all_in n [] [] each = refl
+all_in n [] (x ∷ xs) each = absurd (omega (arith, each))
+all_in n (p ∷ ps) [] each = absurd (omega (arith, each))
+all_in n (p ∷ ps) (x ∷ xs) each = ap (λ rest. x ∷ rest) (all_in (n + 1) ps xs (omega (arith, each)))
 
 -- each packet is someone's own
 pub record HasOwner (count : ℕ) (owns : ℕ → Own) (n : ℕ) (packet : PacketFacts) : Type 0 where

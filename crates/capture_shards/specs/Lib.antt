@@ -1,4 +1,4 @@
-pub mod SharedSaves
+pub mod OwnRecords
 pub mod Sharing
 pub mod Shards
 pub mod inner

@@ -1,3 +1,2 @@
 pub mod FrontRecords
 pub mod OwnTests
-pub mod Spreads

@@ -1,18 +1,12 @@
 //! A capture that several machines judge, each the packets of one shard.
 #![tactic(auto)]
 
-mod own_packets;
+mod own_records;
 mod own_test;
 mod shard;
-mod shard_judge;
 mod shard_laws;
-mod shard_saver;
-mod shard_teller;
-mod spread_verdicts;
 
+pub use own_records::{OwnRecords, records_of_shard};
 pub use own_test::each_shard_has_its_packets;
 pub use shard::Shard;
-pub use shard_judge::ShardJudge;
 pub use shard_laws::{a_shard_is_judged_as_in_the_whole, shards_give_one_report};
-pub use shard_saver::ShardSaver;
-pub use shard_teller::ShardTeller;

@@ -41,7 +41,7 @@ use Rattle.compared_verdicts.proofs.ChangesToldLemmas.{text_both}
 changes_one : (policies : PairFacts) (n : ℕ) (order : Order) (judged : List (JudgedBatch (Verdict × Verdict))) → AreNumbered n order (batches_of judged) → AreEach judged
     → changes_of policies judged ≡ changes_from policies (n + 1) (firsts (said_of judged)) (seconds (said_of judged)) (packets_of judged)
 changes_one policies n order [] are each = refl
-changes_one policies n order (one ∷ others) (behind, same, at, are) (here, each) =
+changes_one policies n order (one ∷ others) (behind, same, at, plain, are) (here, each) =
     let said = one.said in
     let more = said_of others in
     let next = n + length one.batch.records in

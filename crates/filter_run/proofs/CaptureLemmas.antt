@@ -28,21 +28,22 @@ use Rattle.capture_stream.specs.declared.found_records.Found.{Found}
 use Rattle.capture_stream.specs.Lives.{with_read}
 use Rattle.capture_stream.specs.inner.Partings.{HasGot, IsBegun, IsCutAt, IsLost, IsUnread}
 use Rattle.capture_stream.specs.declared.record_parting.RecordParting.{RecordParting}
-use Rattle.filter_run.specs.Batches.{BatchFacts, IsWhole, batch_facts}
+use Rattle.filter_run.specs.Batches.{BatchFacts, IsWhole, batch_facts, listed}
 use Rattle.filter_run.specs.OneCapture.{AreNumbered, GaveWithin, HasFailedBehind, HasGiven, HasGivenAll, HasGivenSome, HasParted, IsWhy, bytes_of, records_of, start_of}
 use Rattle.filter_run.specs.Starts.{IsInputOut, IsUnreadRest, most_at}
 use Rattle.filter_run.specs.declared.batch.Batch.{Batch}
 use Rattle.filter_run.specs.declared.one_capture.OneCapture.{OneCapture}
 use Rattle.filter_run.specs.inner.Reads.{HasReadOut, IsMissed, IsOutFault}
+use Rattle.filter_run.proofs.NumberLemmas.{numbered_none}
 use Rattle.filter_run.proofs.RunLemmas.{flat_push}
 
 -- the next batch follows
 pub numbered_push : (n : ℕ) (order : Order) (batches : List BatchFacts) (batch : BatchFacts) → AreNumbered n order batches → batch.others ≡ n + length (records_of batches)
-    → batch.order ≡ order → batch.interface ≡ 0 → AreNumbered n order (batches ++ batch ∷ [])
-numbered_push n order [] batch are others same at = (let e = others in omega arith, same, at, tt)
-numbered_push n order (first ∷ batches) batch (behind, same_first, at_first, are) others same at =
+    → batch.order ≡ order → batch.interface ≡ 0 → batch.numbers ≡ None → AreNumbered n order (batches ++ batch ∷ [])
+numbered_push n order [] batch are others same at plain = (let e = others in omega arith, same, at, plain, tt)
+numbered_push n order (first ∷ batches) batch (behind, same_first, at_first, plain_first, are) others same at plain =
     let both = length-append first.records (records_of batches) in
-    (behind, same_first, at_first, numbered_push (n + length first.records) order batches batch are (let e = others in omega arith) same at)
+    (behind, same_first, at_first, plain_first, numbered_push (n + length first.records) order batches batch are (let e = others in omega arith) same at plain)
 
 -- one whose reader and parting are these after a read
 abbrev pub behind_read : {R : Type 0} → OneCapture R → R → RecordParting → OneCapture R
@@ -52,7 +53,7 @@ behind_read old reader parting = record old { reader = record old.reader { now =
 pub settled_parted : {R : Type 0} (old : OneCapture R) (room left bytes : ReadBuffer) (after : RecordParting) (found : Found)
     → HasSettled (record old.parting { spare = room }) after found → held_by bytes ≡ held_by after.spare
     → HasParted old (record old { parting = record after { spare = left }; waits = false; stop = found.stop })
-    (record { others = old.parting.packets; interface = after.interface; order = after.order; bytes = bytes; found = found })
+    (record { others = old.parting.packets; interface = after.interface; order = after.order; numbers = None; bytes = bytes; found = found })
 settled_parted old room left bytes after found settled same =
     let held : held_by bytes ≡ rest_in old.parting = same ∙ settled.held in
     let behind : behind_of (held_by bytes) found ≡ rest_in after = ap (λ (b : List ℕ). behind_of b found) held ∙ sym settled.left in
@@ -63,6 +64,7 @@ settled_parted old room left bytes after found settled same =
       others = refl;
       order = settled.order;
       interface = settled.interface;
+      plain = refl;
       records = subst (λ (o : Order). AreRecords o (rest_in old.parting) records (rest_in after)) settled.order
           (subst (λ (b : List ℕ). AreRecords after.order b records (rest_in after)) held
           (subst (AreRecords after.order (held_by bytes) records) behind whole.records));
@@ -428,7 +430,7 @@ module _ {R : Type 0} (bytes : R → Option (List ℕ)) (failures : R → ℕ) (
         let within = records_within old.parting.order (rest_in old.parting) (batch_facts batch).records (rest_in last.parting) parted.records in
         let count = packets_count batch.order batch.found.count (held_by batch.bytes) in
         let others = parted.others in
-        record { found = parted.whole; before = omega arith; few = omega arith }
+        record { found = parted.whole; before = omega arith; few = omega arith; numbers = numbered_none batch parted.plain }
 
     pub parted_gave : old.waits ≡ true → HasGiven bytes failures begun (batches ++ batch_facts batch ∷ []) last
     unfolding parted_records parted_spelt
@@ -446,7 +448,7 @@ module _ {R : Type 0} (bytes : R → Option (List ℕ)) (failures : R → ℕ) (
           };
           numbered = numbered_push 0 begun.parting.order batches (batch_facts batch) is.numbered
               (let others = parted.others in let packets = is.packets in omega arith)
-              (parted.order ∙ is.order) (parted.interface ∙ is.interface);
+              (parted.order ∙ is.order) (parted.interface ∙ is.interface) (ap listed parted.plain);
           packets =
               let listed = ap length (flat_push (λ (b : BatchFacts). b.records) batches (batch_facts batch)) in
               let both = length-append (records_of batches) (batch_facts batch).records in

@@ -34,6 +34,7 @@ use Rattle.filter_run.specs.inner.GivenTurns.{AreBatches, HasFailedBehindTurns, 
 use Rattle.filter_run.specs.inner.Parts.{or_long_at}
 use Rattle.filter_run.proofs.ArrivalLemmas.{gives_none}
 use Rattle.filter_run.proofs.EndLemmas.{whole_given}
+use Rattle.filter_run.proofs.NumberLemmas.{text_plain}
 use Rattle.filter_run.proofs.OneLemmas.{each_front}
 use Rattle.filter_run.proofs.RunLemmas.{each_total, flat_push}
 use Rattle.filter_run.proofs.TakeLemmas.{batches_total, by_cause}
@@ -44,27 +45,27 @@ use Rattle.filter_run.proofs.TellLemmas.{totals_with}
 -- they are numbered on
 abbrev AreBehind : ℕ → List BatchFacts → Type 0
 AreBehind n [] = Unit {0}
-AreBehind n (batch ∷ batches) = (batch.others ≡ n) × AreBehind (n + length batch.records) batches
+AreBehind n (batch ∷ batches) = (batch.others ≡ n) × (batch.numbers ≡ None) × AreBehind (n + length batch.records) batches
 
-behind_push : (n : ℕ) (batches : List BatchFacts) (batch : BatchFacts) → AreBehind n batches → batch.others ≡ n + total batches → AreBehind n (batches ++ batch ∷ [])
-behind_push n [] batch are others = (let e = others in omega arith, tt)
-behind_push n (first ∷ batches) batch (here, are) others =
-    (here, behind_push (n + length first.records) batches batch are (let e = others in omega arith))
+behind_push : (n : ℕ) (batches : List BatchFacts) (batch : BatchFacts) → AreBehind n batches → batch.others ≡ n + total batches → batch.numbers ≡ None → AreBehind n (batches ++ batch ∷ [])
+behind_push n [] batch are others plain = (let e = others in omega arith, plain, tt)
+behind_push n (first ∷ batches) batch (here, same, are) others plain =
+    (here, same, behind_push (n + length first.records) batches batch are (let e = others in omega arith) plain)
 
 behind_turns : (turns : List Turn) (batches : List BatchFacts) → AreBatches turns batches → AreBehind 0 batches
 behind_turns [] batches none = subst (AreBehind 0) (sym none) tt
 behind_turns (turn ∷ before) batches (earlier, batch, all, is, are) =
     subst (AreBehind 0) (sym all)
-    (behind_push 0 earlier batch (behind_turns before earlier are) (let behind = is.others in let count = batches_total before earlier are in omega arith))
+    (behind_push 0 earlier batch (behind_turns before earlier are) (let behind = is.others in let count = batches_total before earlier are in omega arith) is.plain)
 
 -- their lines are those of their packets
 lines_behind : (wording : Wording) (n : ℕ) (judged : List (JudgedBatch Verdict)) → AreBehind n (batches_of judged) → AreEach judged
     → text_of wording judged ≡ lines_in wording (n + 1) (packets_of judged) (said_of judged)
 lines_behind wording n [] are each = refl
-lines_behind wording n (one ∷ others) (behind, are) (here, each) =
+lines_behind wording n (one ∷ others) (behind, plain, are) (here, each) =
     let count = length-map one.batch.records (packet_at one.batch.interface) in
     let next = n + length one.batch.records in
-    ap₂ (λ k t. lines_in wording (k + 1) (packets_in one.batch) one.said ++ t) behind (lines_behind wording next others are each)
+    ap₂ (λ (l t : List ℕ). l ++ t) (text_plain wording one plain ∙ ap (λ k. lines_in wording (k + 1) (packets_in one.batch) one.said) behind) (lines_behind wording next others are each)
     ∙ sym (lines_in_both wording (n + 1) (next + 1) (packets_in one.batch) (packets_of others) one.said (said_of others) here (omega arith))
 
 -- their packets are those of the turns

@@ -4,11 +4,16 @@ mod CapturesReportLemmas
 mod EndLemmas
 mod LaneLemmas
 pub mod LineLemmas
+pub mod NumberLemmas
 pub mod OneLemmas
+pub mod OwnBatchLemmas
 mod OwnLemmas
 mod PartLemmas
+pub mod OwnReportLemmas
+pub mod OwnTellLemmas
 pub mod ReportLemmas
 pub mod RunLemmas
 pub mod SaveLemmas
+pub mod ShardedLemmas
 mod TakeLemmas
 pub mod TellLemmas

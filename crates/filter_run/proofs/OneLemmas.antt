@@ -26,7 +26,7 @@ use Rattle.filter_run.proofs.RunLemmas.{each_total}
 pub packets_one : {V : Type 0} (n : ℕ) (order : Order) (judged : List (JudgedBatch V)) → AreNumbered n order (batches_of judged)
     → packets_of judged ≡ packets_at 0 (records_of (batches_of judged))
 packets_one n order [] are = refl
-packets_one n order (one ∷ others) (behind, same, at, are) =
+packets_one n order (one ∷ others) (behind, same, at, plain, are) =
     ap₂ (λ i ps. packets_at i one.batch.records ++ ps) at (packets_one (n + length one.batch.records) order others are)
     ∙ sym (map-append (packet_at 0) one.batch.records (records_of (batches_of others)))
 
@@ -49,7 +49,7 @@ some_packets n order judged are some none = some (empty (records_of (batches_of 
 
 pub numbered_front : (n : ℕ) (order : Order) (xs ys : List BatchFacts) → AreNumbered n order (xs ++ ys) → AreNumbered n order xs
 numbered_front n order [] ys are = tt
-numbered_front n order (x ∷ xs) ys (behind, same, at, are) = (behind, same, at, numbered_front (n + length x.records) order xs ys are)
+numbered_front n order (x ∷ xs) ys (behind, same, at, plain, are) = (behind, same, at, plain, numbered_front (n + length x.records) order xs ys are)
 
 pub whole_front : (xs ys : List BatchFacts) → AreAllWhole (xs ++ ys) → AreAllWhole xs
 whole_front [] ys whole = tt
@@ -63,7 +63,7 @@ each_front (x ∷ xs) ys (here, behind) = (here, each_front xs ys behind)
 pub records_parted : (n : ℕ) (order : Order) (batches : List BatchFacts) (rest : List ℕ) → AreNumbered n order batches → AreAllWhole batches
     → AreRecords order (bytes_of batches ++ rest) (records_of batches) rest
 records_parted n order [] rest are whole = refl
-records_parted n order (batch ∷ batches) rest (behind, same, at, are) (here, others) =
+records_parted n order (batch ∷ batches) rest (behind, same, at, plain, are) (here, others) =
     let first = subst (λ (o : Order). AreRecords o batch.bytes batch.records []) same here in
     subst (λ (b : List ℕ). AreRecords order b (batch.records ++ records_of batches) rest) (sym (append_assoc batch.bytes (bytes_of batches) rest))
     (records_joined order (batch.bytes ++ (bytes_of batches ++ rest)) batch.records (records_of batches) (bytes_of batches ++ rest) rest
@@ -109,7 +109,7 @@ pub record StopsBehind (start : Start) (before after : Option (List ℕ)) (batch
   pub why : IsWhy start some.read after batches rest found
 
 -- a fault that is no read's
-unread_by : (n m : ℕ) (found : Fault) → (found ≡ fault.Write) ⊎ (found ≡ fault.Memory) → m ≡ n → m ≡ with_read n found
+pub unread_by : (n m : ℕ) (found : Fault) → (found ≡ fault.Write) ⊎ (found ≡ fault.Memory) → m ≡ n → m ≡ with_read n found
 unread_by n m found (inl write) same = subst (λ (f : Fault). m ≡ with_read n f) (sym write) same
 unread_by n m found (inr memory) same = subst (λ (f : Fault). m ≡ with_read n f) (sym memory) same
 

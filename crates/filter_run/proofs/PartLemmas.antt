@@ -1,5 +1,5 @@
 -- A part of one of several captures: the batch that it makes whole, and what it adds to the capture's lane.
-use Rattle.std.proofs.Common.{◌≡◌, ◌∙◌, ◌≤◌, ◌<◌, ◌+◌, ℕ, List, [], ◌∷◌, ◌++◌, Option, Some, ap, arith, inl, inr, length, refl, subst, sym}
+use Rattle.std.proofs.Common.{◌≡◌, ◌∙◌, ◌≤◌, ◌<◌, ◌+◌, ℕ, List, [], ◌∷◌, ◌++◌, None, Option, Some, ap, arith, inl, inr, length, refl, subst, sym}
 use Rattle.std.proofs.lemmas.List.{length-append}
 use Rattle.packet_view.specs.Captures.{AreRecords, RecordFacts}
 use Rattle.packet_view.specs.Fronts.{Stops}
@@ -26,17 +26,18 @@ found_few order bytes found have =
     let size = have.size in let few = records_few order found.count bytes in omega arith
 
 -- the whole records that waited are the batch
-pub lane_parted : (waiting : Waiting) (others : ℕ) (lane ready : Lane) (batch : Batch) → batch.others ≡ others → batch.interface ≡ waiting.interface
+pub lane_parted : (waiting : Waiting) (others : ℕ) (lane ready : Lane) (batch : Batch) → batch.others ≡ others → batch.interface ≡ waiting.interface → batch.numbers ≡ None
     → batch.order ≡ waiting.order → held_by batch.bytes ≡ waiting.bytes.items → HaveFound waiting.order waiting.bytes.items batch.found
     → length waiting.bytes.items < 4611686018427387904 → held_by ready.window ≡ behind_of waiting.bytes.items batch.found → ready.order ≡ Some waiting.order
     → ready.packets ≡ lane.packets + batch.found.count → HasPartedLane waiting others lane ready batch
-lane_parted waiting others lane ready batch behind at same held have short rest order count =
+lane_parted waiting others lane ready batch behind at plain same held have short rest order count =
     let records : records_from batch.order batch.found.count (held_by batch.bytes) ≡ records_from waiting.order batch.found.count waiting.bytes.items =
     ap (λ (o : Order). records_from o batch.found.count (held_by batch.bytes)) same ∙ ap (λ (b : List ℕ). records_from waiting.order batch.found.count b) held in
     record {
       found = subst (λ (o : Order). HaveFound o (held_by batch.bytes) batch.found) (sym same)
           (subst (λ (b : List ℕ). HaveFound waiting.order b batch.found) (sym held) have);
       at = at;
+      plain = plain;
       behind = behind;
       few = let few = found_few waiting.order waiting.bytes.items batch.found have in omega arith;
       records = subst (λ (b : List ℕ). AreRecords waiting.order waiting.bytes.items (batch_facts batch).records b) (sym rest)
@@ -62,6 +63,7 @@ bytes_parted arrival waiting same bytes records others lane ready batch count wa
     record {
       found = parted.found;
       at = parted.at ∙ same;
+      plain = parted.plain;
       behind = parted.behind;
       few = parted.few;
       waiting = subst (λ (o : Option Order). HasWaiting o (bytes ++ arrival.bytes.items) (records ++ more) (held_by ready.window)) (sym parted.order) all;

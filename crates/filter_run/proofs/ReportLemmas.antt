@@ -33,6 +33,7 @@ use Rattle.filter_run.specs.declared.one_capture.OneCapture.{OneCapture}
 use Rattle.filter_run.specs.declared.one_filter.OneFilter.{OneFilter}
 use Rattle.filter_run.specs.declared.saved_records.SavedRecords.{SavedRecords}
 use Rattle.filter_run.specs.declared.told_lines.ToldLines.{ToldLines}
+use Rattle.filter_run.proofs.NumberLemmas.{text_plain}
 use Rattle.filter_run.proofs.OneLemmas.{count_one, each_front, one_earlier, one_read, one_stopped, one_words, packets_one, some_packets}
 use Rattle.filter_run.proofs.TellLemmas.{totals_with}
 
@@ -42,16 +43,22 @@ use Rattle.filter_run.proofs.TellLemmas.{totals_with}
 pub lines_one : (wording : Wording) (n : ℕ) (order : Order) (judged : List (JudgedBatch Verdict)) → AreNumbered n order (batches_of judged) → AreEach judged
     → text_of wording judged ≡ lines_in wording (n + 1) (packets_of judged) (said_of judged)
 lines_one wording n order [] are each = refl
-lines_one wording n order (one ∷ others) (behind, same, at, are) (here, each) =
+lines_one wording n order (one ∷ others) (behind, same, at, plain, are) (here, each) =
     let count = length-map one.batch.records (packet_at one.batch.interface) in
     let next = n + length one.batch.records in
-    ap₂ (λ k t. lines_in wording (k + 1) (packets_in one.batch) one.said ++ t) behind (lines_one wording next order others are each)
+    ap₂ (λ (l t : List ℕ). l ++ t) (text_plain wording one plain ∙ ap (λ k. lines_in wording (k + 1) (packets_in one.batch) one.said) behind) (lines_one wording next order others are each)
     ∙ sym (lines_in_both wording (n + 1) (next + 1) (packets_in one.batch) (packets_of others) one.said (said_of others) here (omega arith))
 
 -- they are of one order
 pub of_numbered : (n : ℕ) (order : Order) (judged : List (JudgedBatch Verdict)) → AreNumbered n order (batches_of judged) → AreOf order judged
 of_numbered n order [] are = tt
-of_numbered n order (one ∷ others) (behind, same, at, are) = (same, of_numbered (n + length one.batch.records) order others are)
+of_numbered n order (one ∷ others) (behind, same, at, plain, are) = (same, of_numbered (n + length one.batch.records) order others are)
+
+-- lines are cut by a write or for memory
+pub cut_why : (was is : Option (List ℕ)) (earlier all : List ℕ) (found : Fault) → IsCutText was is earlier all found → (found ≡ fault.Write) ⊎ (found ≡ fault.Memory)
+cut_why was is earlier all fault.Memory text = inr refl
+cut_why was is earlier all fault.Write text = inl refl
+cut_why was is earlier all found text = absurd text
 
 module _ {J L K R W : Type 0} (Became : J → List PacketFacts → List Verdict → J → Type 0) (Judged : J → List PacketFacts → List Verdict → Type 0)
     (wording : L → Wording) (saved : K → Order → List ℕ → List Verdict → K → Type 0) (saving : K → ℕ) (bytes : R → Option (List ℕ)) (failures : R → ℕ)
@@ -244,13 +251,7 @@ module _ {J L K R W : Type 0} (Became : J → List PacketFacts → List Verdict 
 
   -- ---- How often devices failed
 
-  cut_why : (was is : Option (List ℕ)) (earlier all : List ℕ) (found : Fault) → IsCutText was is earlier all found → (found ≡ fault.Write) ⊎ (found ≡ fault.Memory)
-  cut_why was is earlier all fault.Memory text = inr refl
-  cut_why was is earlier all fault.Write text = inl refl
-  cut_why was is earlier all found text = absurd text
-
   which_cut : (found : Fault) (judged : List (JudgedBatch Verdict)) → cut_one old judged found new → (found ≡ fault.Write) ⊎ (found ≡ fault.Memory)
-  unfolding cut_why
   which_cut found judged (inl (lines, kept)) =
       cut_why (written old.0.writer.now) (written new.0.writer.now) (text_of (wording old.0.teller.now) lines.earlier) (text_of (wording old.0.teller.now) judged) found lines.text
   which_cut found judged (inr (told, saves)) = inl saves.write

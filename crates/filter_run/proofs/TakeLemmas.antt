@@ -17,7 +17,7 @@ use Rattle.capture_stream.specs.Arrivals.{Gives, Part, part_in}
 use Rattle.capture_stream.specs.Lives.{with_read}
 use Rattle.capture_stream.specs.declared.arrivals.Arrival.{Arrival}
 use Rattle.capture_stream.specs.declared.arrivals.FaultAt.{FaultAt}
-use Rattle.filter_run.specs.Batches.{BatchFacts, batch_facts, total}
+use Rattle.filter_run.specs.Batches.{BatchFacts, batch_facts, listed, total}
 use Rattle.filter_run.specs.Turns.{AreTurns, HasCaptureEnded, HaveCome, IsTurn, Turn, bytes_at, cuts_of, packets_of, parts_of, records_at}
 use Rattle.filter_run.specs.declared.batch.Batch.{Batch}
 use Rattle.filter_run.specs.declared.coming_captures.ComingCaptures.{ComingCaptures}
@@ -27,6 +27,7 @@ use Rattle.filter_run.specs.inner.Lanes.{AreLanes, HasWaiting, IsLane, IsShort}
 use Rattle.filter_run.specs.inner.Parts.{HasTakenBytes, HasTakenPart, IsEmptyBatch, IsPartFault, WaitsSo, long_at, turn_of}
 use Rattle.filter_run.proofs.ArrivalLemmas.{gives_both}
 use Rattle.filter_run.proofs.LaneLemmas.{lane_come}
+use Rattle.filter_run.proofs.NumberLemmas.{numbered_none}
 use Rattle.filter_run.proofs.OwnLemmas.{lanes_on, own_come, own_few, own_records}
 use Rattle.filter_run.proofs.PartLemmas.{empty_count, empty_records}
 
@@ -119,9 +120,10 @@ module _ {A : Type 0} (turns : List Turn) (old : ComingCaptures A) (after : AreA
           found = empty.found;
           before = let behind = empty.behind in omega arith;
           few = let count = empty_count arrival.interface old.packets batch empty in omega arith;
+          numbers = numbered_none batch empty.plain;
         };
         cuts = cuts;
-        is = record { others = empty.behind ∙ after.packets; interface = empty.at; records = refl };
+        is = record { others = empty.behind ∙ after.packets; interface = empty.at; plain = ap listed empty.plain; records = refl };
         after = record {
           stand = subst (λ (l : Option FaultAt). StandSo l (turn ∷ turns) new.lanes.items) (sym (long ∙ open_all))
               ((are, is_turn), subst (AreLanes (turn ∷ turns)) (sym lanes) (still_lanes turn within none no_records other));
@@ -180,9 +182,10 @@ module _ {A : Type 0} (turns : List Turn) (old : ComingCaptures A) (after : AreA
         found = taken.found;
         before = let behind = taken.behind in omega arith;
         few = let short = taken.few in omega arith;
+        numbers = numbered_none batch taken.plain;
       };
       cuts = [];
-      is = record { others = taken.behind ∙ after.packets; interface = taken.at; records = refl };
+      is = record { others = taken.behind ∙ after.packets; interface = taken.at; plain = ap listed taken.plain; records = refl };
       after = record {
         stand = subst (λ (l : Option FaultAt). StandSo l (turn ∷ turns) new.lanes.items) (sym long)
             (subst (λ (ls : List Lane). StandSo (long_at batch.found.stop arrival.interface ready.packets) (turn ∷ turns) ls) (sym lanes)

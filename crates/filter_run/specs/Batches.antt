@@ -1,5 +1,6 @@
 -- Packets that come together, and what is said of them (this project's profile).
-use Rattle.std.specs.Prelude.{◌≡◌, ◌+◌, ◌-◌, ◌<◌, ◌^◌, ℕ, List, [], ◌∷◌, length, map, take}
+use Rattle.std.specs.Prelude.{◌≡◌, ◌+◌, ◌-◌, ◌<◌, ◌≤◌, ◌^◌, ℕ, zero, suc, All, IfSome, List, [], ◌∷◌, None, Option, Some, length, map, take}
+use Rattle.std.specs.Global.{Vec}
 use Rattle.std.specs.List.{flat_map}
 use Rattle.packet_view.specs.Captures.{AreRecords, PacketFacts, RecordFacts, packets_at}
 use Rattle.packet_view.specs.RecordLists.{records_from}
@@ -13,16 +14,36 @@ pub record BatchFacts : Type 0 where
   pub others : ℕ
   pub interface : ℕ
   pub order : Order
+  pub numbers : Option (List ℕ)
   pub bytes : List ℕ
   pub records : List RecordFacts
 
 abbrev pub packets_in : BatchFacts → List PacketFacts
 packets_in batch = packets_at batch.interface batch.records
 
+-- so many numbers, of which this is the first
+abbrev pub count_from : ℕ → ℕ → List ℕ
+count_from n zero = []
+count_from n (suc count) = n ∷ count_from (n + 1) count
+
+-- numbers that are given, or else these
+abbrev pub given_or : Option (List ℕ) → List ℕ → List ℕ
+given_or None others = others
+given_or (Some numbers) others = numbers
+
+-- the numbers of its packets: those that are given, or else they follow those that came before
+abbrev pub numbers_in : BatchFacts → List ℕ
+numbers_in batch = given_or batch.numbers (count_from (batch.others + 1) (length batch.records))
+
 -- how many packets batches have
 abbrev pub total : List BatchFacts → ℕ
 total [] = 0
 total (batch ∷ batches) = length batch.records + total batches
+
+-- numbers as a list
+abbrev pub listed : Option (Vec ℕ) → Option (List ℕ)
+listed None = None
+listed (Some numbers) = Some numbers.items
 
 -- what the code has of a batch
 abbrev pub batch_facts : Batch → BatchFacts
@@ -30,15 +51,22 @@ batch_facts batch = record {
   others = batch.others;
   interface = batch.interface;
   order = batch.order;
+  numbers = listed batch.numbers;
   bytes = take (length (held_by batch.bytes) - batch.found.behind) (held_by batch.bytes);
   records = records_from batch.order batch.found.count (held_by batch.bytes);
 }
 
--- its records are whole, and their numbers fit
+-- there are so many of these numbers, and they fit
+pub record AreNumbers (count : ℕ) (numbers : List ℕ) : Type 0 where
+  pub count_is : length numbers ≡ count
+  pub fit : All (λ n. (1 ≤ n) × (n < 2 ^ 64 - 1)) numbers
+
+-- its records are whole, and the numbers of their packets fit
 pub record IsWhole (batch : Batch) : Type 0 where
   pub found : HaveFound batch.order (held_by batch.bytes) batch.found
   pub before : batch.others < 2 ^ 63
   pub few : batch.found.count < 2 ^ 63
+  pub numbers : IfSome (listed batch.numbers) (AreNumbers batch.found.count)
 
 -- the bytes of each are those of its records
 abbrev pub AreAllWhole : List BatchFacts → Type 0

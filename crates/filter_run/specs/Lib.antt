@@ -7,8 +7,10 @@ pub mod Judges
 pub mod Lines
 pub mod Observers
 pub mod OneCapture
+pub mod OwnReports
 pub mod Ran
 pub mod Saving
+pub mod Sharded
 pub mod Sources
 pub mod Starts
 pub mod Turns

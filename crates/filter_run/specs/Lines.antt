@@ -1,5 +1,5 @@
 -- Packets that are told in lines: what was written so far, and where that failed.
-use Rattle.std.specs.Prelude.{◌≡◌, ◌+◌, ◌-◌, ◌<◌, ◌++◌, ◌∷◌, ◌^◌, ℕ, List, [], Option, length}
+use Rattle.std.specs.Prelude.{◌≡◌, ◌-◌, ◌<◌, ◌++◌, ◌∷◌, ◌^◌, ℕ, List, [], Option, length}
 use Rattle.std.specs.List.{flat_map}
 use Rattle.std.specs.Io.KnownBytes.{Appends}
 use Rattle.session_state.specs.declared.verdict.Verdict.{Verdict}
@@ -7,8 +7,9 @@ use Rattle.racl_io.specs.declared.fault.Fault.{Fault}
 use Rattle.racl_io.specs.declared.fault.Fault.TheVariants.{Memory, Write}
 use Rattle.racl_io.specs.Reports.{passed, without_pages}
 use Rattle.racl_io.specs.Sinks.{GotFront}
-use Rattle.racl_io.specs.Tellings.{Wording, lines_in, with_write}
-use Rattle.filter_run.specs.Batches.{JudgedBatch, packets_in, said_of}
+use Rattle.racl_io.specs.Tellings.{Wording, with_write}
+use Rattle.capture_shards.specs.Sharing.{lines_at}
+use Rattle.filter_run.specs.Batches.{JudgedBatch, numbers_in, packets_in, said_of}
 use Rattle.filter_run.specs.declared.told_lines.ToldLines.{ToldLines}
 
 -- no packet was told
@@ -19,7 +20,7 @@ pub record IsFresh {L W : Type 0} (lines : ToldLines L W) : Type 0 where
 
 -- what is told of a batch, by its packets' numbers
 abbrev pub batch_text : Wording → JudgedBatch Verdict → List ℕ
-batch_text wording judged = lines_in wording (judged.batch.others + 1) (packets_in judged.batch) judged.said
+batch_text wording judged = lines_at wording (numbers_in judged.batch) (packets_in judged.batch) judged.said
 
 -- what is told of batches, one behind the other
 abbrev pub text_of : Wording → List (JudgedBatch Verdict) → List ℕ

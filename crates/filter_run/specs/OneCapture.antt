@@ -31,7 +31,7 @@ bytes_of batches = flat_map (λ batch. batch.bytes) batches
 abbrev pub AreNumbered : ℕ → Order → List BatchFacts → Type 0
 AreNumbered n order [] = Unit {0}
 AreNumbered n order (batch ∷ batches) =
-    (batch.others ≡ n) × (batch.order ≡ order) × (batch.interface ≡ 0) × AreNumbered (n + length batch.records) order batches
+    (batch.others ≡ n) × (batch.order ≡ order) × (batch.interface ≡ 0) × (batch.numbers ≡ None) × AreNumbered (n + length batch.records) order batches
 
 -- where the records of one begin of which nothing was given
 abbrev pub start_of : {R : Type 0} → OneCapture R → Start
@@ -107,6 +107,7 @@ pub record HasParted {R : Type 0} (old new : OneCapture R) (batch : Batch) : Typ
   pub others : batch.others ≡ old.parting.packets
   pub order : batch.order ≡ old.parting.order
   pub interface : batch.interface ≡ old.parting.interface
+  pub plain : batch.numbers ≡ None
   pub records : AreRecords old.parting.order (rest_in old.parting) (batch_facts batch).records (rest_in new.parting)
   pub spelt : rest_in old.parting ≡ (batch_facts batch).bytes ++ rest_in new.parting
   pub packets : new.parting.packets ≡ old.parting.packets + length (batch_facts batch).records

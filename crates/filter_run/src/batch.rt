@@ -13,6 +13,8 @@ pub struct Batch {
     pub interface: u8,
     /// The byte order of the capture's numbers.
     pub order: Order,
+    /// The number of each of its packets; None where they follow those that came before.
+    pub numbers: Option<Vec<u64>>,
     /// The records, and the bytes behind them.
     pub bytes: ReadBuffer,
     pub found: Found,
@@ -37,6 +39,12 @@ impl Batch {
             },
             marks: &self.found.marks,
         })
+    }
+
+    /// The room of its bytes, to be used again.
+    pub fn into_room(self) -> ReadBuffer {
+        let Batch { bytes, .. } = self;
+        bytes
     }
 
     /// The bytes of its records.

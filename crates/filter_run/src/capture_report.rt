@@ -81,7 +81,7 @@ pub fn report_capture<J: Judge + Drop, L: Teller, K: Saver, R: Source, W: Sink>(
     let mut source = OneCapture::new(alloc, reader, start, many);
     let mut judge = OneFilter { inner: judges };
     let mut observers = (
-        ToldLines::new(teller, writer),
+        ToldLines::new(alloc, teller, writer),
         SavedRecords { saver, order },
     );
     let ran = run(alloc, &mut source, &mut judge, &mut observers);

@@ -69,7 +69,7 @@ pub fn report_captures<J: Judge + Drop, L: Teller, A: Arrivals, W: Sink>(
     };
     let mut source = ComingCaptures::new(alloc, arrivals, lanes);
     let mut judge = OneFilter { inner: judges };
-    let mut lines = ToldLines::new(teller, writer);
+    let mut lines = ToldLines::new(alloc, teller, writer);
     let ran = run(alloc, &mut source, &mut judge, &mut lines);
     let long = source.long;
     let _arrivals = source.into_arrivals();

@@ -126,6 +126,7 @@ fn no_packets(alloc: Global, interface: u8, others: usize) -> Batch
         others,
         interface,
         order,
+        numbers: None,
         bytes,
         found,
     }
@@ -151,6 +152,7 @@ fn part(lane: &mut Lane, waiting: Waiting, others: usize) -> Result<Batch, Alloc
         others,
         interface,
         order,
+        numbers: None,
         bytes,
         found,
     })

@@ -96,6 +96,7 @@ impl<'r, R> OneCapture<'r, R> {
             others,
             interface: self.parting.interface,
             order: self.parting.order,
+            numbers: None,
             bytes,
             found,
         })

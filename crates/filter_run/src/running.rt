@@ -2,7 +2,6 @@
 ghost use Rattle.std.specs.Prelude.{◌≡◌, MatchResult, None, Some};
 ghost use Rattle.filter_run.specs.Ran.{IsBegun, IsRunFault, Ran, words_of};
 
-use crate::batch::Batch;
 use crate::judge::Judge;
 use crate::observer::Observer;
 use crate::source::{CaptureSource, Step};
@@ -64,8 +63,7 @@ pub fn run<V: Drop, S: CaptureSource, J: Judge<V>, O: Observer<V>>(
         }
         batches += 1;
         packets += said.len();
-        let Batch { bytes, .. } = batch;
-        room = bytes;
+        room = batch.into_room();
     }
     Err(placeless(Fault::TooLarge))
 }

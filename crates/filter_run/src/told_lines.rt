@@ -1,15 +1,18 @@
 //! An observer that tells packets in lines, which it writes.
 
 use crate::batch::Batch;
+use crate::numbered_lines::tell_numbered;
 use crate::observer::Observer;
 use racl_io::{Fault, Sink, Teller, Totals, without_pages};
 use session_state::Verdict;
+use std::alloc::Global;
 
 /// What tells packets, where it writes, and the totals so far.
 #[derive(Drop)]
 pub struct ToldLines<'t, 'w, L, W> {
     pub teller: &'t mut L,
     pub writer: &'w mut W,
+    pub alloc: Global,
     /// How many packets were told.
     pub packets: u64,
     /// How many of them pass.
@@ -23,7 +26,7 @@ impl<'t, 'w, L, W> ToldLines<'t, 'w, L, W> {
     ghost use Rattle.filter_run.specs.Lines.{IsFresh};
 
     /// No packet was told.
-    pub fn new(teller: &'t mut L, writer: &'w mut W) -> ToldLines<'t, 'w, L, W>
+    pub fn new(alloc: Global, teller: &'t mut L, writer: &'w mut W) -> ToldLines<'t, 'w, L, W>
         ensures same { (result.teller.ghost_name ≡ teller.entry.ghost_name) × (result.writer.ghost_name ≡ writer.entry.ghost_name) }
         ensures teller { result.teller.now ≡ teller.old }
         ensures writer { result.writer.now ≡ writer.old }
@@ -32,6 +35,7 @@ impl<'t, 'w, L, W> ToldLines<'t, 'w, L, W> {
         ToldLines {
             teller,
             writer,
+            alloc,
             packets: 0,
             passed: 0,
             without_pages: 0,
@@ -53,6 +57,34 @@ impl<'t, 'w, L, W> ToldLines<'t, 'w, L, W> {
     }
 }
 
+impl<'t, 'w, L: Teller, W: Sink> ToldLines<'t, 'w, L, W> {
+    ghost use Rattle.std.specs.Prelude.{◌≡◌, ◌-◌, ◌<◌, ◌^◌, IfOk, length};
+    ghost use Rattle.racl_io.specs.Reports;
+    ghost use Rattle.racl_io.specs.Tellings.{HasToldText};
+    ghost use Rattle.filter_run.specs.Batches.{IsWhole, batch_facts, packets_in};
+    ghost use Rattle.filter_run.specs.Lines.{batch_text};
+
+    // Tells the packets of a batch, and answers how many of them pass.
+    fn tell(&mut self, batch: &Batch, said: &[Verdict]) -> Result<u64, Fault>
+        requires sound { W.failures self.old.writer.now < 2 ^ 64 - 1 }
+        requires whole { IsWhole batch.now }
+        requires each { length said.now ≡ length (packets_in (batch_facts batch.now)) }
+        ensures told { HasToldText W.bytes W.failures self.old.writer.now self.new.writer.now (batch_text (L.wording self.old.teller.now) (record { batch = batch_facts batch.now; said = said.now })) result }
+        ensures passed { IfOk result (λ n. n ≡ Reports.passed said.now) }
+        ensures words { L.wording self.new.teller.now ≡ L.wording self.old.teller.now }
+        ensures same { (self.new.teller.ghost_name ≡ self.old.teller.ghost_name) × (self.new.writer.ghost_name ≡ self.old.writer.ghost_name) }
+        ensures counts { (self.new.packets ≡ self.old.packets) × (self.new.passed ≡ self.old.passed) × (self.new.without_pages ≡ self.old.without_pages) }
+    {
+        let packets = batch.packets();
+        match &batch.numbers {
+            None => self.teller.tell(self.writer, batch.others, packets, said),
+            Some(numbers) => {
+                tell_numbered(self.alloc, self.teller, self.writer, numbers, packets, said)
+            }
+        }
+    }
+}
+
 impl<'t, 'w, L: Teller, W: Sink> Observer<Verdict> for ToldLines<'t, 'w, L, W> {
     ghost use Rattle.filter_run.specs.Lines.{HasCutLines, HasToldLines};
 
@@ -61,10 +93,7 @@ impl<'t, 'w, L: Teller, W: Sink> Observer<Verdict> for ToldLines<'t, 'w, L, W> {
     ghost cut = { λ begun batches fault now. HasCutLines L.wording W.bytes W.failures begun batches fault now };
 
     fn packets(&mut self, batch: &Batch, said: &[Verdict]) -> Result<(), Fault> {
-        let passed = match self
-            .teller
-            .tell(self.writer, batch.others, batch.packets(), said)
-        {
+        let passed = match self.tell(batch, said) {
             Ok(passed) => passed,
             Err(fault) => return Err(fault),
         };

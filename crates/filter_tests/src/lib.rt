@@ -1,4 +1,4 @@
-//! The tests of each crate from `packet_view` to `flow_judge`, over its public calls.
+//! The tests of each crate from `packet_view` to `flow_judge`, and of `capture_shards`, over its public calls.
 #![tactic(auto)]
 
 #[cfg(test)]

@@ -1,4 +1,4 @@
-//! The tests of the crates up to `flow_workers`.
+//! The tests of the crates up to `flow_workers`, and of `capture_shards`.
 use session_state::Timeouts;
 use std::test::Fail;
 
@@ -14,6 +14,7 @@ mod matching;
 mod policies;
 mod session_tables;
 mod sessions;
+mod shards;
 mod workers;
 
 /// The range of all ports, types and codes.

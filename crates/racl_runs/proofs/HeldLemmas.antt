@@ -21,8 +21,9 @@ use Rattle.racl_runs.specs.ShardRuns.{IsOwnFault, no_note}
 use Rattle.racl_runs.specs.declared.input_front.Headed.{Headed}
 use Rattle.racl_runs.specs.inner.HeldTexts.{without_device}
 use Rattle.racl_runs.specs.inner.OwnRuns.{HasCutOwn, HasToldOwn}
+use Rattle.filter_run.proofs.OwnTellLemmas.{all_own}
 use Rattle.racl_runs.proofs.AtHandLemmas.{held_text}
-use Rattle.racl_runs.proofs.LiveLemmas.{all_counted, all_own, all_text, all_told}
+use Rattle.racl_runs.proofs.LiveLemmas.{all_counted, all_text, all_told}
 use Rattle.racl_runs.proofs.OpenedLemmas.{headed_report, large_answers, long_answers, start_of}
 use Rattle.racl_runs.proofs.OutcomeLemmas.{reported}
 
@@ -75,8 +76,8 @@ module _ {K : Type 0} (options : Options) (bytes : List ℕ) (headed : Headed) (
   own_fault T fault.Memory why = inl (fault.Memory, refl, inl refl)
   own_fault T fault.Read why = inl (fault.Read, refl, inr (inl refl))
   own_fault T (fault.LongRecord number) (rest, told, long, counted, out) =
-      long_answers options bytes headed has before after told.read rest told.packets number fits told.consumed out.0 (let few = out.1 in omega arith) told.records long counted
-  own_fault T fault.TooLarge (rest, told, many) = large_answers options bytes headed has before after told.read fits told.consumed many
+      long_answers options bytes headed has before after told.by.read rest told.by.packets number fits told.by.consumed out.0 (let few = out.1 in omega arith) told.by.records long counted
+  own_fault T fault.TooLarge (rest, told, many) = large_answers options bytes headed has before after told.by.read fits told.by.consumed many
   own_fault T fault.Write why = inl (fault.Memory, refl, inl refl)
   own_fault T found why = absurd why
 

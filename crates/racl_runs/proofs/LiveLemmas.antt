@@ -1,10 +1,11 @@
 -- A run over a capture that is told while it comes.
 use Rattle.std.proofs.KnownBytes.{Consumes-all, Consumes-trans}
-use Rattle.std.proofs.Common.{◌≡◌, ◌∙◌, ◌+◌, ◌≤◌, ◌++◌, ℕ, Bool, List, [], ◌∷◌, Option, None, Result, Ok, Err, MatchResult, ap, append_assoc, arith, inl, inr, length, refl, subst, sym, drop}
+use Rattle.std.proofs.Common.{◌≡◌, ◌∙◌, ◌≤◌, ◌++◌, ℕ, Bool, List, [], Option, None, Result, Ok, Err, MatchResult, ap, append_assoc, arith, inl, inr, length, refl, subst, sym, drop}
 use Rattle.std.specs.Io.KnownBytes.{Consumes, IsAtEnd}
 use Rattle.std.specs.Prelude.{IfSome}
-use Rattle.std.proofs.lemmas.List.{drop_all, length-map}
-use Rattle.packet_view.specs.Captures.{AreRecords, IsCaptureAt, IsEnd, PacketFacts, RecordFacts, end_of, packet_at, packets_at}
+use Rattle.std.specs.List.{concat}
+use Rattle.std.proofs.lemmas.List.{drop_all}
+use Rattle.packet_view.specs.Captures.{AreRecords, IsCaptureAt, IsEnd, PacketFacts, RecordFacts, end_of, packets_at}
 use Rattle.packet_view.specs.declared.capture.Order.{Order}
 use Rattle.packet_view.proofs.FrontLemmas.{behind_header_appended, header_appended}
 use Rattle.acl_policy.specs.Policies.{IsPolicyText, PolicyFacts, policy_facts}
@@ -27,16 +28,13 @@ use Rattle.racl_report.specs.declared.saved_packets.Saves.{Saves}
 use Rattle.filter_run.specs.Starts.{Start, behind_header, most_at}
 use Rattle.capture_stream.specs.Lives.{HaveFailed}
 use Rattle.capture_stream.specs.Savings.{manner_of, outputs}
+use Rattle.filter_run.proofs.OwnTellLemmas.{all_fault, all_lines, all_own, all_pieces}
 use Rattle.filter_run.proofs.TellLemmas.{failed_since, fault_as}
-use Rattle.capture_shards.specs.Shards.{own_packets}
-use Rattle.capture_shards.specs.Sharing.{lines_at, own_numbers}
 use Rattle.capture_shards.specs.inner.OwnTests.{own_among}
-use Rattle.capture_shards.proofs.SpreadLemmas.{all_in}
 use Rattle.racl_runs.specs.Crews.{AreAsAsked, AreRestingWith, AreSaid, AreSaidSoFar, HaveSaidAfter, Orders, cuts_four, orders_for, orders_in, orders_of, size_of}
 use Rattle.racl_runs.specs.LiveRuns.{AreFirstVerdicts, ByLiveWorkers, ByLoneWorker, HasHead, HasRunLive, IsEarlyFault, IsLiveReport, IsLiveRunFault, IsOrderFor, IsToldBehind, TellsAsAsked}
-use Rattle.racl_runs.specs.LiveSaves.{HaveSaved}
 use Rattle.racl_runs.specs.Runs.{ByWorkers, ages_in, bucket_deal}
-use Rattle.racl_runs.specs.ShardRuns.{AreFirstOwn, IsOwnReport, no_note}
+use Rattle.racl_runs.specs.ShardRuns.{IsOwnReport, no_note}
 use Rattle.racl_views.specs.Hits.{latest_second}
 use Rattle.racl_runs.specs.inner.Heads.{HasReadHeader, IsHeadless}
 use Rattle.racl_runs.specs.inner.Kept.{HaveGot}
@@ -191,22 +189,6 @@ input_behind start order same = subst (λ (s : Start). IfSome s.input (λ before
 
 -- ---- All packets are one's own
 
-pub all_own : (packets : List PacketFacts) → own_packets (own_among None) 1 packets ≡ packets
-all_own packets = all_in 1 packets packets refl
-
-all_lines : (wording : Wording) (n : ℕ) (packets : List PacketFacts) (verdicts : List Verdict)
-    → lines_at wording (own_numbers (own_among None) n packets) (own_packets (own_among None) n packets) verdicts ≡ lines_in wording n packets verdicts
-all_lines wording n [] verdicts = refl
-all_lines wording n (p ∷ ps) [] = refl
-all_lines wording n (p ∷ ps) (v ∷ vs) = ap (λ rest. wording.line n p v ++ rest) (all_lines wording (n + 1) ps vs)
-
-all_first : {T : Type 0} {options : Options} {policy : PolicyFacts} (packets : List PacketFacts) (verdicts : List Verdict) → AreFirstOwn T options (own_among None) policy packets verdicts
-    → AreFirstVerdicts T options policy packets verdicts
-all_first {T} {options} {policy} packets verdicts are =
-    subst (λ (ps : List PacketFacts). AreFirstVerdicts T options policy ps verdicts) (all_own packets)
-    (subst (λ (vs : List Verdict). AreFirstVerdicts T options policy (own_packets (own_among None) 1 packets) vs)
-    (sym are.spread.mine ∙ all_in 1 packets verdicts are.each) are.first)
-
 -- the report on all packets is the lines of these, what stands behind them, and behind that hits and sessions
 module _ (options : Options) (text : List ℕ) (policy : PolicyFacts) (wording : Wording) (packets : List PacketFacts) (truncated : Bool) (totals : Totals) (report : List ℕ)
     (is : IsOwnReport options text no_note wording policy (own_among None) packets truncated totals report) where
@@ -268,18 +250,18 @@ module _ {S : Type 0} (T : Type 0) (sink : S → Option (List ℕ)) (failures : 
     report = told.report;
     is = live_report options text before left after policy order wording totals told.report says tells header told.is;
     written = told.written;
-    saved = subst (λ (vs : List Verdict). HaveSaved sink (header.header ++ told.is.read) vs first last.files)
-        (sym (all_in 1 (packets_at 0 told.is.packets) told.verdicts (told.each ∙ sym (length-map told.is.packets (packet_at 0)))) ∙ told.spread.mine)
-        (have_saved sink failures order header.header told.is.read told.whole told.is.rest (end_of told.is.truncated) told.verdicts first mid.files last.files header.headed header.whole
-        told.spelt told.is.end got told.saved);
+    saved = have_saved sink failures order header.header told.is.read (concat told.pieces) told.is.rest (end_of told.is.truncated) told.is.is.verdicts first mid.files last.files
+        header.headed header.whole told.spelt told.is.end got
+        (subst (λ (ps : List (List ℕ)). Keeps sink failures mid order (concat ps) told.is.is.verdicts last) (all_pieces order told.pieces told.is.packets told.each) told.saved);
   }
   live_ends_behind wording (Err fault) tells (inl why) = inr (inl (
     head_in policy says order header,
     wording,
     tells,
-    fault_as (AreFirstOwn T options (own_among None)) (AreFirstVerdicts T options) wording (Keeps sink failures) (SavesBehind sink header.header) policy policy all_first (behind_header order) left after old new
-        mid last first last.files
-        (λ whole verdicts saved. first_saved sink failures order header.header whole verdicts first mid.files last.files header.headed header.whole got saved) fault why,
+    fault_as (AreFirstVerdicts T options) (AreFirstVerdicts T options) wording (Keeps sink failures) (SavesBehind sink header.header) policy policy (λ packets verdicts by. by)
+        (behind_header order) left after old new mid last first last.files
+        (λ whole verdicts saved. first_saved sink failures order header.header whole verdicts first mid.files last.files header.headed header.whole got saved) fault
+        (all_fault (AreFirstVerdicts T options) (manner_of wording (Keeps sink failures)) policy (behind_header order) left after (outputs old mid) (outputs new last) fault why),
   ))
   live_ends_behind wording (Err fault) tells (inr cut) = inr (inr (record {
     failed = cut.failed;

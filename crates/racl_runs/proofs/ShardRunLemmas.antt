@@ -1,9 +1,8 @@
 -- A run over the packets of one shard of a capture.
-use Rattle.std.proofs.Common.{◌∙◌, ◌≡◌, ◌++◌, ℕ, List, [], Option, Some, Result, Ok, Err, MatchResult, ap, inl, inr, subst, sym}
+use Rattle.std.proofs.Common.{◌≡◌, ◌++◌, ℕ, List, Option, Some, Result, Ok, Err, MatchResult, inl, inr, subst}
 use Rattle.packet_view.specs.Captures.{end_of, packets_at}
 use Rattle.packet_view.specs.declared.capture.Order.{Order}
 use Rattle.acl_policy.specs.Policies.{IsPolicyText, PolicyFacts}
-use Rattle.session_state.specs.declared.verdict.Verdict.{Verdict}
 use Rattle.racl_io.specs.declared.fault.Fault.{Fault}
 use Rattle.racl_io.specs.declared.totals_and_truncation.Totals.{Totals}
 use Rattle.racl_io.specs.Tellings.{Wording}
@@ -12,29 +11,24 @@ use Rattle.racl_options.specs.declared.settings.Options.{Options}
 use Rattle.racl_options.specs.declared.settings.ShardAsked.{ShardAsked}
 use Rattle.filter_run.specs.Starts.{Start, behind_header}
 use Rattle.capture_stream.specs.Savings.{manner_of, outputs}
-use Rattle.filter_run.proofs.TellLemmas.{fault_as}
+use Rattle.filter_run.proofs.OwnTellLemmas.{own_fault_as}
 use Rattle.racl_report.specs.declared.saved_packets.Saves.{Saves}
 use Rattle.capture_shards.specs.Shards.{IsOwnOf, Own}
-use Rattle.capture_shards.specs.SharedSaves.{HaveSharedSaves}
-use Rattle.capture_shards.specs.Sharing.{shard_wording}
 use Rattle.capture_shards.specs.declared.shard.Shard.{Shard}
-use Rattle.capture_shards.specs.declared.shard_saver.ShardSaver.{ShardSaver}
 use Rattle.capture_shards.specs.inner.OwnTests.{own_of}
 use Rattle.capture_shards.proofs.OwnTestLemmas.{own_is}
-use Rattle.racl_runs.specs.LiveRuns.{TellsAsAsked}
+use Rattle.racl_runs.specs.LiveRuns.{AreFirstVerdicts, TellsAsAsked}
 use Rattle.racl_runs.specs.Runs.{layout_for}
-use Rattle.racl_runs.specs.LiveSaves.{MayFail, failures_in}
-use Rattle.racl_runs.specs.ShardRuns.{AreFirstOwn, AreOwn, HasFailedOnce, HasRunShard, IsShardFault, IsShardReport, Note, shard_note}
+use Rattle.racl_runs.specs.ShardRuns.{AreOwn, HasRunShard, IsShardFault, IsShardReport, Note, shard_note}
 use Rattle.racl_report.specs.RunReports.{view_behind}
 use Rattle.racl_views.specs.ShardLines.{shard_told}
-use Rattle.racl_runs.specs.ShardSaves.{SavesOwn}
 use Rattle.racl_runs.specs.declared.live_saves.LiveSaves.{LiveSaves}
 use Rattle.racl_runs.specs.inner.Heads.{HasReadHeader}
 use Rattle.racl_runs.specs.inner.Kept.{HaveGot}
 use Rattle.racl_runs.specs.inner.OwnRuns.{IsOwnReportBehind, IsShardOver, TellsOwn, note_for}
-use Rattle.racl_runs.proofs.LiveLemmas.{head_in, whole_capture, write_since}
-use Rattle.racl_runs.proofs.LiveSaveLemmas.{Keeps, none_kept}
-use Rattle.racl_runs.proofs.ShardSaveLemmas.{first_own_saved, own_saved}
+use Rattle.racl_runs.proofs.LiveLemmas.{head_in, whole_capture}
+use Rattle.racl_runs.proofs.LiveSaveLemmas.{Keeps, SavesBehind, first_saved}
+use Rattle.racl_runs.proofs.ShardSaveLemmas.{own_saved}
 
 -- the shard's packets are those that it is asked for
 pub own_asked : (options : Options) (asked : ShardAsked) (shard : Shard) → IsShardOver options.tables asked shard → AreOwn options (shard_facts asked) (own_of shard)
@@ -70,38 +64,39 @@ shard_report options asked text before left after policy order wording own total
 
 -- the report was written and packets saved, or why they weren't
 module _ {S : Type 0} (T : Type 0) (sink : S → Option (List ℕ)) (failures : S → ℕ) (options : Options) (asked : ShardAsked) (text : List ℕ) (before left after old new : Option (List ℕ))
-    (policy : PolicyFacts) (says : IsPolicyText text policy) (order : Order) (header : HasReadHeader before left order) (first : Saves S) (mid last : ShardSaver (LiveSaves S))
-    (got : HaveGot sink header.header first mid.inner.files) (mine : AreOwn options (shard_facts asked) (own_of mid.shard)) where
+    (policy : PolicyFacts) (says : IsPolicyText text policy) (order : Order) (header : HasReadHeader before left order) (first : Saves S) (mid last : LiveSaves S)
+    (got : HaveGot sink header.header first mid.files) (shard : Shard) (over : IsShardOver options.tables asked shard) where
   abbrev own : Own
-  own = own_of mid.shard
+  own = own_of shard
 
-  abbrev gave : ShardSaver (LiveSaves S) → Order → List ℕ → List Verdict → ShardSaver (LiveSaves S) → Type 0
-  gave = HaveSharedSaves (Keeps sink failures)
+  mine : AreOwn options (shard_facts asked) own
+  mine = own_asked options asked shard over
 
-  shard_ends : (wording : Wording) (result : Result Totals Fault) → TellsAsAsked options text policy wording
-      → TellsOwn T options text (shard_note options (shard_facts asked)) (manner_of wording gave) policy own (behind_header order) left after (outputs old mid) (outputs new last) result
-      → MatchResult result (HasRunShard sink options (shard_facts asked) text before (outputs old first) (outputs new last.inner.files))
-      (IsShardFault T sink options (shard_facts asked) text before after (outputs old first) (outputs new last.inner.files))
-  unfolding shard_report
-  shard_ends wording (Ok totals) tells told = record {
+  shard_ends_behind : (wording : Wording) (result : Result Totals Fault) → TellsAsAsked options text policy wording
+      → TellsOwn T options text (shard_note options (shard_facts asked)) (manner_of wording (Keeps sink failures)) policy own (behind_header order) left after (outputs old mid) (outputs new last)
+      result
+      → MatchResult result (HasRunShard sink options (shard_facts asked) text before (outputs old first) (outputs new last.files))
+      (IsShardFault T sink options (shard_facts asked) text before after (outputs old first) (outputs new last.files))
+  unfolding shard_report mine
+  shard_ends_behind wording (Ok totals) tells told = record {
     report = told.report;
     is = shard_report options asked text before left after policy order wording own totals told.report says tells mine header told.is;
     written = told.written;
     records = told.is.packets;
-    saved = own_saved sink failures order header.header told.is.read told.whole told.is.rest (end_of told.is.truncated) told.is.packets told.verdicts told.is.is.verdicts
-        first mid last header.headed header.whole told.spelt told.is.records told.is.end told.spread.mine got told.saved;
+    saved = own_saved sink failures own order header.header told.is.read told.is.rest (end_of told.is.truncated) told.is.packets told.pieces told.is.is.verdicts first mid last
+        header.headed header.whole told.is.records told.each told.spelt told.is.end got told.saved;
   }
-  shard_ends wording (Err fault) tells (inl why) = inr (inl (
+  shard_ends_behind wording (Err fault) tells (inl why) = inr (inl (
     head_in policy says order header,
     wording,
     tells,
     own,
     mine,
-    fault_as (AreFirstOwn T options own) (AreFirstOwn T options own) (shard_wording own wording) gave (SavesOwn sink own header.header) policy policy (λ packets verdicts by. by) (behind_header order)
-        left after old new mid last first last.inner.files
-        (λ whole verdicts saved. first_own_saved sink failures order header.header whole verdicts first mid last header.headed header.whole got saved) fault why,
+    own_fault_as (AreFirstVerdicts T options) (AreFirstVerdicts T options) wording (Keeps sink failures) (SavesBehind sink header.header) policy policy (λ packets verdicts by. by) own
+        (behind_header order) left after old new mid last first last.files
+        (λ bytes verdicts saved. first_saved sink failures order header.header bytes verdicts first mid.files last.files header.headed header.whole got saved) fault why,
   ))
-  shard_ends wording (Err fault) tells (inr cut) = inr (inr (record {
+  shard_ends_behind wording (Err fault) tells (inr cut) = inr (inr (record {
     failed = cut.failed;
     ended = cut.is.ended;
     totals = cut.totals;
@@ -110,39 +105,14 @@ module _ {S : Type 0} (T : Type 0) (sink : S → Option (List ℕ)) (failures : 
     front = cut.front;
   }))
 
-  -- and so where what saves them was given the files, and gave them back
-  pub shard_ends_with : (start : Start) (shard : Shard) (final : LiveSaves S) (wording : Wording) (result : Result Totals Fault) → start ≡ behind_header order → mid.shard ≡ shard → final ≡ last.inner
-      → IsShardOver options.tables asked shard → TellsAsAsked options text policy wording
-      → TellsOwn T options text (note_for options (Some shard)) (manner_of wording gave) policy (own_of shard) start left after (outputs old mid) (outputs new last) result
-      → MatchResult result (HasRunShard sink options (shard_facts asked) text before (outputs old first) (outputs new final.files))
-      (IsShardFault T sink options (shard_facts asked) text before after (outputs old first) (outputs new final.files))
-  shard_ends_with start shard final wording result same at back over tells told =
-      subst (λ (f : LiveSaves S). MatchResult result (HasRunShard sink options (shard_facts asked) text before (outputs old first) (outputs new f.files))
-      (IsShardFault T sink options (shard_facts asked) text before after (outputs old first) (outputs new f.files))) (sym back)
-      (shard_ends wording result tells
-      (subst (λ (s : Shard). TellsOwn T options text (shard_note options (shard_facts asked)) (manner_of wording gave) policy (own_of s) (behind_header order) left after (outputs old mid) (outputs new last) result) (sym at)
-      (subst (λ (n : Note). TellsOwn T options text n (manner_of wording gave) policy (own_of shard) (behind_header order) left after (outputs old mid) (outputs new last) result)
+  pub shard_ends : (start : Start) (wording : Wording) (result : Result Totals Fault) → start ≡ behind_header order → TellsAsAsked options text policy wording
+      → TellsOwn T options text (note_for options (Some shard)) (manner_of wording (Keeps sink failures)) policy own start left after (outputs old mid) (outputs new last) result
+      → MatchResult result (HasRunShard sink options (shard_facts asked) text before (outputs old first) (outputs new last.files))
+      (IsShardFault T sink options (shard_facts asked) text before after (outputs old first) (outputs new last.files))
+  unfolding shard_ends_behind
+  shard_ends start wording result same tells told =
+      shard_ends_behind wording result tells
+      (subst (λ (n : Note). TellsOwn T options text n (manner_of wording (Keeps sink failures)) policy own (behind_header order) left after (outputs old mid) (outputs new last) result)
       (note_is options asked shard over)
-      (subst (λ (s : Start). TellsOwn T options text (note_for options (Some shard)) (manner_of wording gave) policy (own_of shard) s left after (outputs old mid) (outputs new last) result) same told))))
-
--- which devices failed since files were given and given back
-pub failed_with : {S : Type 0} (failures : S → ℕ) (written writing first : ℕ) (saves begun mid last final : LiveSaves S) (result : Result Totals Fault) → first ≡ written
-    → failures_in failures begun.files ≡ failures_in failures saves.files → mid ≡ begun → final ≡ last
-    → HasFailedOnce result first writing (failures_in failures mid.files) (failures_in failures last.files)
-    → HasFailedOnce result written writing (failures_in failures saves.files) (failures_in failures final.files)
-failed_with {S} failures written writing first saves begun mid last final result same kept given back failed =
-    subst (λ (f : LiveSaves S). HasFailedOnce result written writing (failures_in failures saves.files) (failures_in failures f.files)) (sym back)
-    (write_since written writing (failures_in failures saves.files) (failures_in failures last.files) first (failures_in failures mid.files) result same
-    (ap (λ (f : LiveSaves S). failures_in failures f.files) given ∙ kept) failed)
-
--- files that what saves packets was given had the header
-pub given_files : {S : Type 0} (sink : S → Option (List ℕ)) (text header : List ℕ) (first : Saves S) (begun mid : LiveSaves S) → text ≡ header → mid ≡ begun
-    → HaveGot sink text first begun.files → HaveGot sink header first mid.files
-given_files {S} sink text header first begun mid same given got =
-    subst (λ (f : LiveSaves S). HaveGot sink header first f.files) (sym given) (subst (λ (h : List ℕ). HaveGot sink h first begun.files) same got)
-
--- and no record
-pub none_kept_with : {S : Type 0} (sink : S → Option (List ℕ)) (failures : S → ℕ) (mid begun : LiveSaves S) (order : Order) → mid ≡ begun → MayFail failures begun.files
-    → Keeps sink failures mid order [] [] mid
-none_kept_with {S} sink failures mid begun order given sound =
-    subst (λ (f : LiveSaves S). Keeps sink failures f order [] [] f) (sym given) (none_kept sink failures begun.files order sound)
+      (subst (λ (s : Start). TellsOwn T options text (note_for options (Some shard)) (manner_of wording (Keeps sink failures)) policy own s left after (outputs old mid) (outputs new last) result)
+      same told))

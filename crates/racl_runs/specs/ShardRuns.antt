@@ -13,14 +13,15 @@ use Rattle.racl_io.specs.Reports.{totals_of}
 use Rattle.racl_io.specs.Sinks.{GotFront}
 use Rattle.racl_io.specs.Tellings.{Wording, told_alone}
 use Rattle.capture_stream.specs.Lives.{HaveFailed}
-use Rattle.filter_run.specs.CaptureReports.{IsLiveFault}
+use Rattle.filter_run.specs.OwnReports as share
+use Rattle.filter_run.specs.OwnReports.{own_lines}
 use Rattle.filter_run.specs.Starts.{Start, behind_header}
 use Rattle.capture_stream.specs.Savings.{Manner, Outputs}
-use Rattle.capture_shards.specs.Sharing.{IsSpread, lines_at, own_numbers, shard_wording}
 use Rattle.capture_shards.specs.Shards.{IsOwnOf, Own, own_packets}
 use Rattle.racl_runs.specs.LiveRuns.{AreFirstVerdicts, HasHead, IsEarlyFault, IsToldBehind, TellsAsAsked}
 use Rattle.racl_runs.specs.Runs.{layout_for}
-use Rattle.racl_runs.specs.ShardSaves.{HaveSavedOwn, SavesOwn}
+use Rattle.racl_runs.specs.LiveSaves.{HaveSaved}
+use Rattle.racl_runs.specs.ShardSaves.{HaveSavedOwn}
 use Rattle.racl_report.specs.RunReports.{view_behind}
 use Rattle.racl_report.specs.declared.saved_packets.Saves.{Saves}
 use Rattle.racl_views.specs.Hits.{latest_second}
@@ -29,10 +30,6 @@ use Rattle.racl_views.specs.ShardLines.{shard_told}
 -- these packets are the shard's, over tables of the size that the words ask for
 abbrev pub AreOwn : Options → ShardFacts → Own → Type 0
 AreOwn options shard own = IsOwnOf (layout_for options.tables) shard.count shard.number own
-
--- what is told of one's own packets, with their numbers among all
-abbrev pub own_lines : Wording → Own → List PacketFacts → List Verdict → List ℕ
-own_lines wording own packets verdicts = lines_at wording (own_numbers own 1 packets) (own_packets own 1 packets) verdicts
 
 -- what is said right behind the totals of a capture with so many packets, the latest of this second
 abbrev pub Note : Type 0
@@ -58,22 +55,10 @@ pub record IsOwnReport (options : Options) (text : List ℕ) (note : Note) (word
   pub counted : totals ≡ totals_of verdicts (told_alone (length (own_packets own 1 packets)) truncated)
   pub all : report ≡ own_lines wording own packets verdicts ++ (wording.end totals ++ (note (length packets) (latest_second packets) ++ behind))
 
--- What workers handed over of one's own packets, who go on, put at the places of these.
-pub record AreFirstOwn (T : Type 0) (options : Options) (own : Own) (policy : PolicyFacts) (packets : List PacketFacts) (verdicts : List Verdict) : Type 0 where
-  pub said : List Verdict
-  pub first : AreFirstVerdicts T options policy (own_packets own 1 packets) said
-  pub each : length verdicts ≡ length packets
-  pub spread : IsSpread own 1 packets said verdicts
-
--- one's own packets are told in these words
-abbrev pub own_manner : {K : Type 0} → Own → Manner K → Manner K
-own_manner own manner = record { wording = shard_wording own manner.wording; saved = manner.saved }
-
--- why not all of them were told, before the totals
+-- Why not all of them were told, before the totals: workers who go on handed over verdicts on one's own packets.
 abbrev pub IsOwnFault : {K : Type 0} → Type 0 → Options → Manner K → PolicyFacts → Own → Start → Option (List ℕ) → Option (List ℕ) → Outputs K → Outputs K
     → Fault → Type 0
-IsOwnFault T options manner policy own start before after old new fault =
-    IsLiveFault (AreFirstOwn T options own) (own_manner own manner) policy start before after old new fault
+IsOwnFault T options manner policy own start before after old new fault = share.IsOwnFault (AreFirstVerdicts T options) manner policy own start before after old new fault
 
 -- The source's bytes are a capture, and this is the report on its packets of the shard.
 pub record IsShardReport (options : Options) (shard : ShardFacts) (text : List ℕ) (given : Option (List ℕ)) (totals : Totals) (report : List ℕ) : Type 0 where
@@ -115,7 +100,7 @@ abbrev pub IsShardFault : {S : Type 0} → Type 0 → (S → Option (List ℕ)) 
 IsShardFault T sink options shard text before after old new fault =
     (IsEarlyFault text before after fault × (new.report ≡ old.report) × (fault ≢ Write → new.saver ≡ old.saver))
     ⊎ ((head : HasHead text before) × (wording : Wording) × TellsAsAsked options text head.policy wording × (own : Own) × AreOwn options shard own
-    × IsOwnFault T options (record { wording = wording; saved = SavesOwn sink own head.header }) head.policy own (behind_header head.order) head.left after old new fault)
+    × IsOwnFault T options (record { wording = wording; saved = λ before order mine said after. HaveSaved sink (head.header ++ mine) said before after }) head.policy own (behind_header head.order) head.left after old new fault)
     ⊎ HasCutShard options shard text before after old.report new.report fault
 
 -- where a write's fault is answered a report's device or what saves packets failed once, and else neither did

@@ -27,8 +27,3 @@ pub record HaveSavedOwn {S : Type 0} (sink : S → Option (List ℕ)) (own : Own
   pub mine : List ℕ
   pub alone : IsOwnCapture own capture records mine
   pub saved : HaveSaved sink mine said before after
-
--- so of a capture of this header and these records, by the verdicts on all packets
-abbrev pub SavesOwn : {S : Type 0} → (S → Option (List ℕ)) → Own → List ℕ → Saves S → Order → List ℕ → List Verdict → Saves S → Type 0
-SavesOwn sink own header before order whole verdicts after =
-    (records : List RecordFacts) × HaveSavedOwn sink own (header ++ whole) records (own_in own 1 (packets_at 0 records) verdicts) before after

@@ -18,12 +18,11 @@ ghost use Rattle.racl_runs.specs.ShardRuns.{HasFailedOnce};
 ghost use Rattle.racl_runs.specs.inner.LiveEnds.{AreBegun, MayTellBehind};
 ghost use Rattle.racl_runs.specs.Runs;
 ghost use Rattle.racl_runs.specs.Runs.{ages_in};
-ghost use Rattle.racl_runs.specs.inner.OwnRuns.{TellsOwn, note_for, own_totals};
+ghost use Rattle.racl_runs.specs.inner.OwnRuns.{TellsOwn, note_for};
 
 use crate::asked_lines::AskedLines;
 use crate::capture_header_reading::keep_header;
 use crate::counted_judging::Counted;
-use crate::dated_judging::Dated;
 use crate::live_saves::LiveSaves;
 use crate::pace::Stopwatch;
 use crate::run_plan::EXPECTED;
@@ -33,9 +32,9 @@ use crate::sized_tables_and_workers::{
 use crate::stored_sessions::{StoredAsked, keeps_stored, stored_of};
 use crate::workers_as_judges::HandingCrew;
 use acl_policy::read_policy;
-use capture_shards::{Shard, ShardJudge, ShardTeller};
+use capture_shards::Shard;
 use capture_stream::Saver;
-use filter_run::{CaptureStart, OpenCapture, ReportedCapture, report_capture};
+use filter_run::{CaptureStart, OpenCapture, ReportedShare, Share, report_share};
 use flow_filter::InterfaceFilters;
 use flow_workers::Filter;
 use racl_io::{Fault, Sink, Source, Teller, Totals};
@@ -201,20 +200,6 @@ fn notes_latest(options: &Options, shard: Option<Shard>) -> bool
     shard.is_some() || keeps_stored(options)
 }
 
-// The totals over one's own packets, of which there are so many.
-fn totals_over(totals: &Totals, own: u64) -> Totals
-    requires { totals.now.passed ≤ own }
-    ensures { result ≡ own_totals totals.now own }
-{
-    Totals {
-        packets: own,
-        passed: totals.passed,
-        dropped: own - totals.passed,
-        without_pages: totals.without_pages,
-        truncated: totals.truncated,
-    }
-}
-
 /// Workers judge the packets of the capture from where its records begin, or the shard's where there is one, and they are told and
 /// saved while they come. The tables cut blocks where sessions that have ended are removed.
 pub fn tell_capture<
@@ -252,51 +237,38 @@ pub fn tell_capture<
     let Ok((tables, callers)) = create_sized(alloc, way.options.tables, ages) else {
         return Err(Fault::Memory);
     };
-    let Ok(inner) = workers_over(rt, alloc, way, &tables, callers) else {
+    let Ok(judges) = workers_over(rt, alloc, way, &tables, callers) else {
         return Err(Fault::Memory);
     };
-    let capture = OpenCapture {
-        judges: Dated {
-            inner: ShardJudge {
-                inner,
-                shard,
-                alloc,
-                seen: 0,
-                own: 0,
-            },
-            noted: notes_latest(way.options, shard),
-            latest: 0,
+    let share = Share {
+        capture: OpenCapture {
+            judges,
+            start,
+            many: many_for(way.options.workers),
         },
-        start,
-        many: many_for(way.options.workers),
-    };
-    let mut teller = ShardTeller {
-        inner: lines,
         shard,
-        alloc,
+        noted: notes_latest(way.options, shard),
     };
-    let told = match report_capture(alloc, reader, writer, &mut teller, saver, capture) {
+    let mut teller = lines;
+    let told = match report_share(alloc, reader, writer, &mut teller, saver, share) {
         Ok(told) => told,
         Err(fault) => return Err(fault),
     };
-    let ReportedCapture { judges, totals } = told;
-    let Dated { inner, latest, .. } = judges;
-    let ShardJudge {
-        inner,
+    let ReportedShare {
+        judges,
+        totals,
         seen,
-        own,
-        ..
-    } = inner;
-    let Ok((counts, callers)) = inner.end(alloc) else {
+        latest,
+    } = told;
+    let Ok((counts, callers)) = judges.end(alloc) else {
         return Err(Fault::Memory);
     };
     let Ok(behind) = told_behind_live(alloc, way, tables, &counts, callers, latest) else {
         return Err(Fault::Memory);
     };
-    let Ok(behind) = noted_behind(alloc, way.options, shard, seen, latest, behind) else {
+    let Ok(behind) = noted_behind(alloc, way.options, shard, seen as u64, latest, behind) else {
         return Err(Fault::Memory);
     };
-    let totals = totals_over(&totals, own);
     match tell_end_behind(writer, &mut teller, &totals, &behind) {
         Ok(()) => Ok(totals),
         Err(fault) => Err(fault),

@@ -14,14 +14,12 @@ use crate::live_run::{LiveAsked, LiveHead, LiveWay, tell_capture};
 use crate::live_saves::LiveSaves;
 use crate::run_plan::EXPECTED;
 use acl_policy::read_policy;
-use capture_shards::{Shard, ShardSaver};
+use capture_shards::Shard;
 use filter_run::CaptureStart;
 use flow_workers::Filter;
 use racl_io::{Fault, Sink, Source, Totals};
 use racl_options::{ShardAsked, TableSize};
-use racl_report::Saves;
 use std::alloc::Global;
-use std::mem::swap;
 use std::sync::Wait;
 use std::thread::Threads;
 use std::time::Clock;
@@ -53,22 +51,6 @@ fn shard_over(asked: ShardAsked, tables: TableSize) -> Shard
     }
 }
 
-// What saves a shard's packets, where no file is given yet.
-fn saver_over<S>(shard: Shard) -> ShardSaver<LiveSaves<S>>
-    ensures { (result.shard ≡ shard) × (result.turn ≡ 0) }
-{
-    ShardSaver {
-        inner: LiveSaves {
-            files: Saves {
-                drops: None,
-                passes: None,
-            },
-        },
-        shard,
-        turn: 0,
-    }
-}
-
 /// Filters the packets of one shard of a capture by a policy with this text, and writes the report on them that the options ask
 /// for: while it reads their lines, with their numbers among all packets, and then what stands behind the lines. Flows fall to
 /// shards by the buckets of their keys, other packets by their numbers. Where files are given for packets that are dropped or
@@ -76,7 +58,7 @@ fn saver_over<S>(shard: Shard) -> ShardSaver<LiveSaves<S>>
 /// who keep no verdict, so that a capture may be of any length. Where no verdict of all shards' runs says no-pages, and ageing is
 /// in time, the verdicts on each packet are those of the one run, and the totals of all shards add up to its own
 /// (`shards_give_one_report`). A fault leaves what was written and saved; but for Write no totals stand behind it.
-pub fn run_shard<R: Source, W: Sink, S: Sink + Drop, T: Clock + Threads + Wait + Sync>(
+pub fn run_shard<R: Source, W: Sink, S: Sink, T: Clock + Threads + Wait + Sync>(
     rt: &T,
     alloc: Global,
     asked: ShardRunAsked<'_>,
@@ -104,7 +86,6 @@ pub fn run_shard<R: Source, W: Sink, S: Sink + Drop, T: Clock + Threads + Wait +
         Err(fault) => return Err(fault),
     };
     let shard = shard_over(asked.shard, options.tables);
-    let mut saver = saver_over(shard);
     let filter = Filter {
         policy,
         times: options.times,
@@ -134,8 +115,5 @@ pub fn run_shard<R: Source, W: Sink, S: Sink + Drop, T: Clock + Threads + Wait +
         start,
         shard: Some(shard),
     };
-    swap(saves, &mut saver.inner);
-    let told = tell_capture(rt, head, reader, writer, lines, &mut saver);
-    swap(saves, &mut saver.inner);
-    told
+    tell_capture(rt, head, reader, writer, lines, saves)
 }

@@ -1,6 +1,6 @@
 -- A whole record at the front of some bytes.
 use Rattle.std.specs.Prelude.{◌≡◌, ◌++◌, ℕ, List}
-use Rattle.packet_view.specs.Captures.{IsPiece, IsRecord, PacketFacts, Record, RecordFacts, packet_at}
+use Rattle.packet_view.specs.Captures.{IsRecord, PacketFacts, RecordFacts, packet_at}
 use Rattle.packet_view.specs.declared.capture.Order.{Order}
 
 -- the bytes begin with a record's, of this packet
@@ -9,7 +9,3 @@ pub record HasFrontRecord (order : Order) (bytes piece : List ℕ) (packet : Pac
   pub one : (header : List ℕ) × (piece ≡ header ++ facts.frame) × IsRecord order header facts
   pub same : packet ≡ packet_at 0 facts
   pub whole : bytes ≡ piece ++ rest
-
--- they do not
-abbrev pub HasNoRecord : Order → List ℕ → Type 0
-HasNoRecord order bytes = (facts : RecordFacts) (rest : List ℕ) → IsPiece order bytes (Record facts rest) → ⊥

@@ -16,6 +16,7 @@ use Rattle.filter_run.specs.inner.Lanes.{AreLanes}
 pub record IsBatch (before : List Turn) (turn : Turn) (batch : BatchFacts) : Type 0 where
   pub others : batch.others ≡ length (packets_of before)
   pub interface : batch.interface ≡ turn.interface
+  pub plain : batch.numbers ≡ None
   pub records : batch.records ≡ turn.records
 
 -- these batches are of these turns, one of each

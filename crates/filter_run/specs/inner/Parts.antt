@@ -28,12 +28,14 @@ pub record IsEmptyBatch (interface others : ℕ) (batch : Batch) : Type 0 where
   pub found : HaveFound batch.order (held_by batch.bytes) batch.found
   pub held : held_by batch.bytes ≡ []
   pub at : batch.interface ≡ interface
+  pub plain : batch.numbers ≡ None
   pub behind : batch.others ≡ others
 
 -- the whole records that waited are the batch, and the rest waits in the capture's lane
 pub record HasPartedLane (waiting : Waiting) (others : ℕ) (lane ready : Lane) (batch : Batch) : Type 0 where
   pub found : HaveFound batch.order (held_by batch.bytes) batch.found
   pub at : batch.interface ≡ waiting.interface
+  pub plain : batch.numbers ≡ None
   pub behind : batch.others ≡ others
   pub few : batch.found.count < 4611686018427387904
   pub records : AreRecords waiting.order waiting.bytes.items (batch_facts batch).records (held_by ready.window)
@@ -50,6 +52,7 @@ WaitsSo stop order waits = IsShort order waits
 pub record HasTakenBytes (arrival : Arrival) (bytes : List ℕ) (records : List RecordFacts) (others : ℕ) (ready : Lane) (batch : Batch) : Type 0 where
   pub found : HaveFound batch.order (held_by batch.bytes) batch.found
   pub at : batch.interface ≡ arrival.interface
+  pub plain : batch.numbers ≡ None
   pub behind : batch.others ≡ others
   pub few : batch.found.count < 4611686018427387904
   pub waiting : HasWaiting ready.order (bytes ++ arrival.bytes.items) (records ++ (batch_facts batch).records) (held_by ready.window)

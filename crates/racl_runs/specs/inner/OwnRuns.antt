@@ -1,9 +1,9 @@
 -- A run on one capture whose packets are one's own, or a shard's: what it tells behind the capture's header.
-use Rattle.std.specs.Prelude.{◌≡◌, ◌≤◌, ◌-◌, ◌⊎◌, ◌++◌, ℕ, Bool, List, Option, None, Some, Result, MatchResult, length}
+use Rattle.std.specs.Prelude.{◌≡◌, ◌≤◌, ◌⊎◌, ◌++◌, ℕ, Bool, List, Option, None, Some, Result, MatchResult, length}
+use Rattle.std.specs.List.{AllZip, concat}
 use Rattle.std.specs.Io.KnownBytes.{Appends, Consumes, IsAtEnd}
 use Rattle.packet_view.specs.Captures.{AreRecords, IsEnd, RecordFacts, end_of, packets_at}
 use Rattle.acl_policy.specs.Policies.{PolicyFacts}
-use Rattle.session_state.specs.declared.verdict.Verdict.{Verdict}
 use Rattle.racl_io.specs.declared.fault.Fault.{Fault}
 use Rattle.racl_io.specs.declared.fault.Fault.TheVariants.{Write}
 use Rattle.racl_io.specs.declared.totals_and_truncation.Totals.{Totals}
@@ -14,8 +14,8 @@ use Rattle.racl_options.specs.declared.settings.ShardAsked.{ShardAsked}
 use Rattle.racl_options.specs.declared.settings.TableSize.{TableSize}
 use Rattle.capture_stream.specs.Savings.{Manner, Outputs}
 use Rattle.filter_run.specs.Starts.{Start, most_at}
-use Rattle.capture_shards.specs.Sharing.{IsSpread}
-use Rattle.capture_shards.specs.Shards.{IsOver, Own, own_packets}
+use Rattle.capture_shards.specs.OwnRecords.{IsWholeRecord}
+use Rattle.capture_shards.specs.Shards.{IsOver, Own, own_in, own_packets}
 use Rattle.capture_shards.specs.declared.shard.Shard.{Shard}
 use Rattle.racl_runs.specs.Runs.{layout_for}
 use Rattle.racl_runs.specs.ShardRuns.{IsOwnFault, IsOwnReport, Note, no_note}
@@ -33,16 +33,6 @@ abbrev pub note_for : Options → Option Shard → Note
 note_for options None = no_note
 note_for options (Some shard) = λ packets latest. shard_told (view_behind options.lines)
     (record { number = shard.number; count = shard.count; packets = packets; latest = latest })
-
--- the totals of the verdicts on so many own packets, and of verdicts on others of which none pass or say no-pages
-abbrev pub own_totals : Totals → ℕ → Totals
-own_totals totals own = record {
-  packets = own;
-  passed = totals.passed;
-  dropped = own - totals.passed;
-  without_pages = totals.without_pages;
-  truncated = totals.truncated;
-}
 
 -- all of a capture behind its header was read, and this is the report on one's own packets
 pub record IsOwnReportBehind (options : Options) (text : List ℕ) (note : Note) (wording : Wording) (policy : PolicyFacts) (own : Own) (start : Start)
@@ -68,18 +58,16 @@ pub record HasCutOwn (options : Options) (text : List ℕ) (note : Note) (wordin
   pub is : IsOwnReportBehind options text note wording policy own start before after totals report
   pub front : GotFront old new report
 
--- or it was written, and what saves packets was given all records
+-- or it was written, and what saves packets was given the records of these, as they stand there
 pub record HasToldOwn {K : Type 0} (options : Options) (text : List ℕ) (note : Note) (manner : Manner K) (policy : PolicyFacts) (own : Own) (start : Start)
     (before after : Option (List ℕ)) (old new : Outputs K) (totals : Totals) : Type 0 where
   pub report : List ℕ
   pub is : IsOwnReportBehind options text note manner.wording policy own start before after totals report
   pub written : Appends old.report new.report report
-  pub whole : List ℕ
-  pub spelt : start.front ++ is.read ≡ whole ++ is.rest
-  pub verdicts : List Verdict
-  pub spread : IsSpread own 1 (packets_at 0 is.packets) is.is.verdicts verdicts
-  pub each : length verdicts ≡ length is.packets
-  pub saved : manner.saved old.saver start.order whole verdicts new.saver
+  pub pieces : List (List ℕ)
+  pub each : AllZip (IsWholeRecord start.order) pieces is.packets
+  pub spelt : start.front ++ is.read ≡ concat pieces ++ is.rest
+  pub saved : manner.saved old.saver start.order (concat (own_in own 1 (packets_at 0 is.packets) pieces)) is.is.verdicts new.saver
 
 -- so, or why it wasn't
 abbrev pub TellsOwn : {K : Type 0} → Type 0 → Options → List ℕ → Note → Manner K → PolicyFacts → Own → Start → Option (List ℕ) → Option (List ℕ) → Outputs K → Outputs K

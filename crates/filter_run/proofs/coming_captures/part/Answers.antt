@@ -17,6 +17,6 @@ pub returns : goal.returns
 returns c =
     let same = c.bytes-all.ensures ∙ c.new-bytes.ensures in
     let found = c.find_records-found.result in
-    lane_parted c.args.waiting c.args.others c.args.lane.now _ _ refl refl refl c.new-bytes.ensures
+    lane_parted c.args.waiting c.args.others c.args.lane.now _ _ refl refl refl refl c.new-bytes.ensures
     (subst (λ b. HaveFound c.args.waiting.order b found) same c.find_records-found.ensures) c.requires.0
     (c.in_ok-hold.ensures.held ∙ behind_held c.bytes-all.result.now c.args.waiting.bytes.items found same) refl refl
