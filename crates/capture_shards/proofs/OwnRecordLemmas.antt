@@ -145,12 +145,15 @@ found_of_three first one behind =
 
 -- ---- One record after the other
 
--- a record has some bytes
-pub piece_long : (order : Order) (piece : List ℕ) (facts : RecordFacts) → IsWholeRecord order piece facts → 1 ≤ length piece
-piece_long order piece facts (header, spelt, is) =
+-- fewer bytes stand behind a record
+pub rest_short : (order : Order) (bytes piece rest : List ℕ) (facts : RecordFacts) → IsWholeRecord order piece facts → bytes ≡ piece ++ rest
+    → length rest + 1 ≤ length bytes
+rest_short order bytes piece rest facts (header, spelt, is) whole =
     let size = ap length spelt in
     let both = length-append header facts.frame in
     let sixteen = is.sixteen in
+    let parts = ap length whole in
+    let behind = length-append piece rest in
     omega arith
 
 module _ (own : Own) (order : Order) where

@@ -1,7 +1,7 @@
 -- The numbers of packets that come together, and what is told of them by their numbers.
-use Rattle.std.proofs.Common.{◌≡◌, ◌∙◌, ◌+◌, ◌-◌, ◌<◌, ◌≤◌, ◌++◌, ◌^◌, ℕ, Bool, cond, List, [], ◌∷◌, None, Some, ap, append-nil, append_assoc, arith, length, refl, subst, sym}
+use Rattle.std.proofs.Common.{◌≡◌, ◌∙◌, ◌+◌, ◌-◌, ◌<◌, ◌≤◌, ◌++◌, ◌^◌, ℕ, cond, List, [], ◌∷◌, None, Some, ap, append-nil, append_assoc, arith, length, refl, subst, sym}
 use Rattle.std.specs.List.{All}
-use Rattle.std.proofs.lemmas.List.Sums.{sum_by-cons}
+use Rattle.std.proofs.lemmas.List.Sums.{sum_by-append}
 use Rattle.std.proofs.lemmas.List.Elements.{All-head, All-tail}
 use Rattle.std.specs.Global.{Vec}
 use Rattle.std.specs.Prelude.{IfSome}
@@ -46,9 +46,9 @@ lines_at_both wording (n ∷ ns) ms (p ∷ ps) qs (v ∷ vs) us numbers each =
     ap (λ l. wording.line n p v ++ l) (lines_at_both wording ns ms ps qs vs us (omega (arith, numbers)) (omega (arith, each)))
     ∙ sym (append_assoc (wording.line n p v) (lines_at wording ns ps vs) (lines_at wording ms qs us))
 
--- how many pass, by the first
-pub passed_first : (vs left : List Verdict) (v : Verdict) → vs ≡ v ∷ left → (b : Bool) → b ≡ passes v → passed vs ≡ cond b 1 0 + passed left
-passed_first vs left v is b same = ap passed is ∙ sum_by-cons (λ v. cond (passes v) 1 0) v left ∙ ap (λ c. cond c 1 0 + passed left) (sym same)
+-- how many pass, of the first and of those behind it
+pub passed_first : (vs left : List Verdict) (v : Verdict) → vs ≡ v ∷ left → passed vs ≡ passed (v ∷ []) + passed left
+passed_first vs left v is = ap passed is ∙ sum_by-append (λ v. cond (passes v) 1 0) (v ∷ []) left
 
 -- numbers that fit, without the first
 pub numbers_behind : (count : ℕ) (ns behind : List ℕ) (n : ℕ) → AreNumbers count ns → ns ≡ n ∷ behind → (1 ≤ n) × (n < 2 ^ 64 - 1) × ((m : ℕ) → count ≡ m + 1 → AreNumbers m behind)

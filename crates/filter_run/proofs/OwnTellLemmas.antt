@@ -1,5 +1,5 @@
 -- A report on one's own packets: the same by what else is known of verdicts and of what was saved, and where all packets are one's own.
-use Rattle.std.proofs.Common.{◌≡◌, ◌≢◌, ◌∙◌, ◌+◌, ◌++◌, ℕ, List, [], ◌∷◌, None, Option, ap, append-nil, arith, inl, length, refl, subst, sym}
+use Rattle.std.proofs.Common.{◌≡◌, ◌≢◌, ◌∙◌, ◌+◌, ◌++◌, ℕ, List, [], ◌∷◌, None, Option, ap, append-nil, arith, length, refl, subst, sym}
 use Rattle.std.proofs.KnownBytes.{Appends-nil, Consumes-nil}
 use Rattle.std.proofs.lemmas.List.{length-map}
 use Rattle.std.specs.Io.KnownBytes.{Appends}
@@ -17,8 +17,8 @@ use Rattle.capture_shards.specs.Shards.{Own, own_in, own_packets}
 use Rattle.capture_shards.specs.Sharing.{lines_at, own_numbers}
 use Rattle.capture_shards.specs.inner.OwnTests.{own_among}
 use Rattle.capture_shards.proofs.PickedLists.{all_in}
-use Rattle.filter_run.specs.CaptureReports.{HasToldPart, HasToldSome, IsLiveFault}
-use Rattle.filter_run.specs.OwnReports.{HasJudgedOwn, HasToldOwnPart, HasToldOwnSome, IsOwnFault, own_lines}
+use Rattle.filter_run.specs.CaptureReports.{HasToldSome, IsLiveFault}
+use Rattle.filter_run.specs.OwnReports.{HasJudgedOwn, HasToldOwnSome, IsOwnFault}
 use Rattle.filter_run.specs.Starts.{Start}
 use Rattle.filter_run.proofs.OwnBatchLemmas.{zip_count}
 

@@ -1,7 +1,6 @@
 use Rattle.std.proofs.Common.{◌∙◌, ◌+◌, ◌-◌, true, false, ap, append-nil, arith, length, refl, rules, sym}
-use Rattle.std.proofs.lemmas.List.{length-append}
 use Rattle.capture_shards.specs.inner.OwnTests.{own_of}
-use Rattle.capture_shards.proofs.OwnRecordLemmas.{found_all, found_begun, found_so, piece_long}
+use Rattle.capture_shards.proofs.OwnRecordLemmas.{found_all, found_begun, found_so, rest_short}
 use Rattle.capture_shards.proofs.own_records.records_of_shard.Goals as goal
 
 pub records-init : goal.records-init
@@ -18,9 +17,7 @@ records-preserved-then-not-is_own c =
     let own = own_of c.args.shard.now in
     let after = so.invariant.after in
     let few = so.invariant.few in
-    let parts = ap length front.whole in
-    let long = piece_long c.args.order c.in-Some.front.bytes.now front.facts front.one in
-    let both = length-append c.in-Some.front.bytes.now c.in-Some.front.rest.now in
+    let shorter = rest_short c.args.order so.rest.now c.in-Some.front.bytes.now c.in-Some.front.rest.now front.facts front.one front.whole in
     record {
       after = omega arith;
       few = omega arith;
@@ -38,9 +35,7 @@ records-preserved c =
     let own = own_of c.args.shard.now in
     let after = so.invariant.after in
     let few = so.invariant.few in
-    let parts = ap length front.whole in
-    let long = piece_long c.args.order c.in-Some.front.bytes.now front.facts front.one in
-    let both = length-append c.in-Some.front.bytes.now c.in-Some.front.rest.now in
+    let shorter = rest_short c.args.order so.rest.now c.in-Some.front.bytes.now c.in-Some.front.rest.now front.facts front.one front.whole in
     record {
       after = omega arith;
       few = omega arith;
