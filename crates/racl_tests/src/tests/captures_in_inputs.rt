@@ -190,6 +190,11 @@ const LIMITS: [(usize, bool, Result<(u64, bool), Fault>, usize, u64, usize); 5] 
     (MORE + MORE, true, Err(Fault::TooLarge), MORE - 1, 0, 16_284),
 ];
 
+/// How many bytes the lines have where a read fails and reads grow: those of 896 packets. The front has a record and a half, the
+/// reads of 64 KiB to 4 MiB, each twice the one before, give 127 more, and six of 8 MiB give 768. Behind them all that
+/// the input may have was asked for at once, and what came of it is lost.
+const FAILED: usize = 14_228;
+
 /// An input has at most 64 MiB, and no more than a byte is read behind them.
 #[test]
 fn an_input_has_64_mib_at_most(rt: HostRuntime) -> Result<(), Fail> {
@@ -221,6 +226,11 @@ fn an_input_has_64_mib_at_most(rt: HostRuntime) -> Result<(), Fail> {
                 (reader.unread(), reader.failures) == (unread, failures),
                 "{more} bytes"
             );
+            let told = if many.is_some() && failures > 0 {
+                FAILED
+            } else {
+                told
+            };
             assert!(rt; lines.inner.len() == told, "{more} bytes");
         }
     }
