@@ -40,9 +40,9 @@ fn own_records_keep_their_numbers(rt: HostRuntime) -> Result<(), Fail> {
         return filter_test_refused();
     };
     assert!(rt; first.numbers.as_slice() == [5, 7].as_slice());
-    assert!(rt; first.bytes.len() == 60);
-    assert!(rt; &first.bytes[..30] == &RECORDS[..30]);
-    assert!(rt; &first.bytes[30..] == &RECORDS[60..90]);
+    let (one, other) = first.bytes.split_at(30.min(first.bytes.len()));
+    assert!(rt; one == &RECORDS[..30]);
+    assert!(rt; other == &RECORDS[60..90]);
     assert!(rt; second.numbers.as_slice() == [6].as_slice());
     assert!(rt; second.bytes.as_slice() == &RECORDS[30..60]);
     assert!(rt; (first.all, first.latest, second.all, second.latest) == (3, 106, 3, 106));
