@@ -146,7 +146,8 @@ fn runs_with_failing_writes(rt: HostRuntime) {
 // For tests of slow and failing devices: a line of so many bytes that says nothing, and then the whole input, of which the capture
 // stands as it is: a policy of 72 bytes, a marker line of 5, a header of 24 and three records of 58, 275 bytes together.
 fn whole_run_bytes(alloc: Global, before: usize) -> Result<Vec<u8>, Fault> {
-    let (policy, behind) = whole_run_input().split_at(whole_run_input().len().min(72));
+    let input = whole_run_input();
+    let (policy, behind) = input.split_at(input.len().min(72));
     let (_, digits) = behind.split_at(behind.len().min(4));
     let mut bytes = vec![in alloc; b'#'; before.saturating_sub(1)]?;
     bytes.extend_from_slice(b"\n")?;
