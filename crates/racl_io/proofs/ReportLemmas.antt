@@ -5,7 +5,7 @@ use Rattle.std.specs.Io.KnownBytes.{Appends}
 use Rattle.std.proofs.lemmas.List.Sums.{sum_by-append, sum_by-cons}
 use Rattle.session_state.specs.Passes.{passes}
 use Rattle.session_state.specs.declared.verdict.Verdict.{Verdict}
-use Rattle.racl_io.specs.Reports.{dropped, is_truncated, lacks_pages, line_of, lines_from, packets_in, passed, totals_of, without_pages}
+use Rattle.racl_io.specs.Reports.{dropped, is_truncated, lacks_pages, line_of, lines_from, passed, totals_of, without_pages}
 use Rattle.racl_io.specs.Sinks.{GotFront}
 use Rattle.racl_io.specs.declared.totals_and_truncation.Captured.{Captured}
 use Rattle.racl_io.specs.declared.totals_and_truncation.Totals.{Totals}
@@ -49,11 +49,6 @@ cut_at a b c front piece behind text whole wrote (part, rest, same, got) = (
       ∙ append_assoc (front ++ part) rest behind,
   Appends-trans a b c front part wrote got,
 )
-
--- the captures behind the first have the packets behind its
-pub counted_behind : (rest : List Verdict) (captured : Captured) (left after : List Captured) → packets_in left ≡ length rest → left ≡ captured ∷ after
-    → captured.packets + packets_in after ≡ length rest
-counted_behind rest captured left after counted parted = sym (ap packets_in parted) ∙ counted
 
 abbrev totals_with : List Verdict → Bool → ℕ → ℕ → ℕ → Totals
 totals_with verdicts truncated lacking passing dropping =

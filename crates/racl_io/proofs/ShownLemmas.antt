@@ -1,11 +1,10 @@
 -- The report with the lines of some packets is that on the first of them, and after it that on the others.
-use Rattle.std.proofs.Common.{◌≡◌, ◌∙◌, ◌+◌, ◌++◌, ℕ, List, [], ◌∷◌, Option, length, take, drop, arith, append_assoc, refl, sym, ap}
+use Rattle.std.proofs.Common.{◌≡◌, ◌∙◌, ◌+◌, ◌++◌, ℕ, List, [], ◌∷◌, Option, length, arith, append_assoc, refl, sym, ap}
 use Rattle.session_state.specs.declared.verdict.Verdict.{Verdict}
-use Rattle.racl_io.specs.declared.totals_and_truncation.Captured.{Captured}
 use Rattle.session_state.specs.declared.shown_verdicts.Shown.{Shown}
 use Rattle.session_state.specs.declared.shown_verdicts.Shown.TheVariants.{Every}
-use Rattle.racl_io.specs.Reports.{line_of, lines_from, truncation_line}
-use Rattle.racl_io.specs.ShownReports.{captures_shown, line_shown, lines_shown}
+use Rattle.racl_io.specs.Reports.{line_of, lines_from}
+use Rattle.racl_io.specs.ShownReports.{line_shown, lines_shown}
 
 shown_of_both : (shown : Shown) (named : Option ℕ) (n m : ℕ) (xs ys : List Verdict) → m ≡ n + length xs
     → lines_shown shown named n (xs ++ ys) ≡ lines_shown shown named n xs ++ lines_shown shown named m ys
@@ -20,22 +19,6 @@ pub more_shown : (shown : Shown) (named : Option ℕ) (front piece lines : List 
 more_shown shown named front piece lines n m rest xs ys told parted is e =
     append_assoc front piece (lines_shown shown named m ys)
     ∙ ap (λ l. front ++ l) (ap (λ p. p ++ lines_shown shown named m ys) is ∙ sym (shown_of_both shown named n m xs ys e) ∙ ap (lines_shown shown named n) (sym parted)) ∙ told
-
--- what is written where a further capture is
-pub more_captures_shown : (shown : Shown) (front text : List ℕ) (n m : ℕ) (rest xs ys : List Verdict) (captured : Captured) (left after : List Captured)
-    → front ++ captures_shown shown n rest left ≡ text → left ≡ captured ∷ after → xs ≡ take captured.packets rest → ys ≡ drop captured.packets rest
-    → m ≡ n + captured.packets
-    → (front ++ (lines_shown shown captured.named n xs ++ truncation_line captured.named captured.truncated captured.packets)) ++ captures_shown shown m ys after ≡ text
-more_captures_shown shown front text n m rest xs ys captured left after told parted first behind next =
-    let lines = lines_shown shown captured.named n in
-    let end = truncation_line captured.named captured.truncated captured.packets in
-    append_assoc front (lines xs ++ end) (captures_shown shown m ys after)
-    ∙ ap (λ t. front ++ t) (append_assoc (lines xs) end (captures_shown shown m ys after)
-    ∙ ap (λ vs. lines vs ++ (end ++ captures_shown shown m ys after)) first
-    ∙ ap (λ vs. lines (take captured.packets rest) ++ (end ++ captures_shown shown m vs after)) behind
-    ∙ ap (λ k. lines (take captured.packets rest) ++ (end ++ captures_shown shown k (drop captured.packets rest) after)) next
-    ∙ ap (captures_shown shown n rest) (sym parted))
-    ∙ told
 
 -- where every packet has a line, they are those of all packets
 pub every_line : (named : Option ℕ) (n : ℕ) (verdicts : List Verdict) → lines_shown Every named n verdicts ≡ lines_from named n verdicts

@@ -1,20 +1,21 @@
 -- What is told one part after the other.
-use Rattle.std.proofs.Common.{◌≡◌, ◌∙◌, ◌+◌, ◌++◌, ◌<◌, ℕ, Bool, true, false, List, [], ◌∷◌, None, Some, Option, Result, Ok, Err, ap, ap₂, append-nil, append_assoc, arith, drop, flat_map, get_or, length, refl, subst, sym}
+use Rattle.std.proofs.Common.{◌≡◌, ◌∙◌, ◌+◌, ◌-◌, ◌++◌, ◌<◌, ℕ, Bool, true, false, List, [], ◌∷◌, None, Option, Result, Ok, Err, ap, ap₂, append-nil, append_assoc, arith, drop, flat_map, get_or, length, min, refl, subst, sym, take}
 use Rattle.std.specs.Prelude.{⊤, OnErr, OnOk, IfErr}
 use Rattle.std.proofs.lemmas.List.{take_all}
 use Rattle.std.proofs.KnownBytes.{Appends-trans}
 use Rattle.std.specs.Io.KnownBytes.{Appends}
+use Rattle.std.specs.List.{AllByRecursion}
+use Rattle.std.proofs.lemmas.List.{length-drop, length-take}
 use Rattle.packet_view.specs.Captures.{PacketFacts}
 use Rattle.session_state.specs.declared.shown_verdicts.Shown.{Shown}
 use Rattle.session_state.specs.declared.verdict.Verdict.{Verdict}
 use Rattle.racl_io.specs.declared.fault.Fault.{Fault}
 use Rattle.racl_io.specs.declared.fault.Fault.TheVariants.{Write}
-use Rattle.racl_io.specs.Reports.{is_truncated, totals_line, totals_of, truncation_line}
-use Rattle.racl_io.specs.ShownReports.{line_shown, lines_shown, report_shown}
+use Rattle.racl_io.specs.Reports.{is_truncated, totals_line, totals_of}
+use Rattle.racl_io.specs.ShownReports.{captures_shown, line_shown, lines_shown, report_shown}
 use Rattle.racl_io.specs.Sinks.{GotFront, HasPutFront}
-use Rattle.racl_io.specs.Tellings.{HasToldText, IsTellingFault, Wording, end_text, lines_by, lines_in, named_wording, plain_wording, report_in, told_alone, truncation_of, with_write}
+use Rattle.racl_io.specs.Tellings.{AreNamedBy, HasToldText, IsTellingFault, Wording, end_alone, end_in, lines_in, lines_naming, no_name, plain_wording, report_in, told_alone, truncation_of, turns_in, with_write}
 use Rattle.racl_io.specs.declared.totals_and_truncation.Captured.{Captured}
-use Rattle.racl_io.specs.declared.totals_and_truncation.Totals.{Totals}
 use Rattle.racl_io.proofs.LeftLemmas.{drop_one}
 use Rattle.racl_io.proofs.ReportLemmas.{cut_at}
 
@@ -73,32 +74,60 @@ lines_in_both wording n m (p ∷ ps) qs (v ∷ vs) ws each next =
     ap (λ l. wording.line n p v ++ l) (lines_in_both wording (n + 1) m ps qs vs ws (omega (arith, each)) (omega (arith, next)))
     ∙ sym (append_assoc (wording.line n p v) (lines_in wording (n + 1) ps vs) (lines_in wording m qs ws))
 
+-- what is told of packets that are named so
+pub lines_named : (name : PacketFacts → Option ℕ) (named : Option ℕ) (shown : Shown) (n : ℕ) (packets : List PacketFacts) (verdicts : List Verdict) → length verdicts ≡ length packets
+    → AllByRecursion (λ p. name p ≡ named) packets → lines_in (lines_naming name shown) n packets verdicts ≡ lines_shown shown named n verdicts
+lines_named name named shown n [] [] each is = refl
+lines_named name named shown n [] (v ∷ vs) each is = absurd (omega (arith, each))
+lines_named name named shown n (p ∷ ps) [] each is = absurd (omega (arith, each))
+lines_named name named shown n (p ∷ ps) (v ∷ vs) each is =
+    ap₂ (λ a l. line_shown shown a n v ++ l) is.0 (lines_named name named shown (n + 1) ps vs (omega (arith, each)) is.1)
+
+-- none is named
+none_named : (packets : List PacketFacts) → AllByRecursion (λ p. no_name p ≡ None) packets
+none_named [] = tt
+none_named (p ∷ ps) = (refl, none_named ps)
+
 -- the report's lines
 pub plain_lines : (shown : Shown) (n : ℕ) (packets : List PacketFacts) (verdicts : List Verdict) → length verdicts ≡ length packets
     → lines_in (plain_wording shown) n packets verdicts ≡ lines_shown shown None n verdicts
-plain_lines shown n [] [] each = refl
-plain_lines shown n [] (v ∷ vs) each = absurd (omega (arith, each))
-plain_lines shown n (p ∷ ps) [] each = absurd (omega (arith, each))
-plain_lines shown n (p ∷ ps) (v ∷ vs) each = ap (λ l. line_shown shown None n v ++ l) (plain_lines shown (n + 1) ps vs (omega (arith, each)))
-
--- those that name interfaces
-pub named_lines : (shown : Shown) (n : ℕ) (packets : List PacketFacts) (verdicts : List Verdict)
-    → lines_in (named_wording shown) n packets verdicts ≡ lines_by (λ m packet verdict. line_shown shown (Some packet.interface) m verdict) n packets verdicts
-named_lines shown n packets verdicts = refl
+plain_lines shown n packets verdicts each = lines_named no_name None shown n packets verdicts each (none_named packets)
 
 -- what stands behind them, after the line on one more capture
-pub ends_next : (front all : List ℕ) (captures : List Captured) (k : ℕ) (d : Captured) (totals : Totals) → k < length captures
-    → front ++ (flat_map truncation_of (drop k captures) ++ totals_line totals) ≡ all
-    → (front ++ truncation_of (get_or captures k d)) ++ (flat_map truncation_of (drop (k + 1) captures) ++ totals_line totals) ≡ all
-ends_next front all captures k d totals within told =
-    let line = truncation_of (get_or captures k d) in
-    let behind = flat_map truncation_of (drop (k + 1) captures) in
-    append_assoc front line (behind ++ totals_line totals)
-    ∙ ap (λ (t : List ℕ). front ++ t) (sym (append_assoc line behind (totals_line totals))
-    ∙ ap (λ (cs : List Captured). flat_map truncation_of cs ++ totals_line totals) (sym (drop_one captures k d within)))
+pub truncations_next : (front all : List ℕ) (captures : List Captured) (k : ℕ) (d : Captured) → k < length captures
+    → front ++ flat_map truncation_of (drop k captures) ≡ all
+    → (front ++ truncation_of (get_or captures k d)) ++ flat_map truncation_of (drop (k + 1) captures) ≡ all
+truncations_next front all captures k d within told =
+    append_assoc front (truncation_of (get_or captures k d)) (flat_map truncation_of (drop (k + 1) captures))
+    ∙ ap (λ (cs : List Captured). front ++ flat_map truncation_of cs) (sym (drop_one captures k d within))
     ∙ told
 
+-- ---- Captures in turn
+
+-- they are told as the report's lines name them
+pub turns_shown : (name : PacketFacts → Option ℕ) (shown : Shown) (n : ℕ) (packets : List PacketFacts) (verdicts : List Verdict) (captures : List Captured)
+    → length verdicts ≡ length packets → AreNamedBy name packets captures
+    → turns_in (lines_naming name shown) n packets verdicts captures ≡ captures_shown shown n verdicts captures
+turns_shown name shown n packets verdicts [] each named = refl
+turns_shown name shown n packets verdicts (captured ∷ captures) each named =
+    let k = captured.packets in
+    let same : length (take k verdicts) ≡ length (take k packets) = length-take k verdicts ∙ ap (λ m. min k m) each ∙ sym (length-take k packets) in
+    let left : length (drop k verdicts) ≡ length (drop k packets) = length-drop k verdicts ∙ ap (λ m. m - k) each ∙ sym (length-drop k packets) in
+    ap₂ (λ a b. a ++ (truncation_of captured ++ b)) (lines_named name captured.named shown n (take k packets) (take k verdicts) same named.0)
+    (turns_shown name shown (n + k) (drop k packets) (drop k verdicts) captures left named.1)
+
+-- and so is the report on them
+pub report_named : (name : PacketFacts → Option ℕ) (shown : Shown) (packets : List PacketFacts) (verdicts : List Verdict) (captures : List Captured)
+    → length verdicts ≡ length packets → AreNamedBy name packets captures
+    → report_in (lines_naming name shown) packets verdicts captures ≡ report_shown shown verdicts captures
+report_named name shown packets verdicts captures each named =
+    ap (λ l. l ++ totals_line (totals_of verdicts captures)) (turns_shown name shown 1 packets verdicts captures each named)
+
 -- ---- One capture, whose interface isn't named
+
+-- it isn't
+pub alone_named : (packets : List PacketFacts) (n : ℕ) (truncated : Bool) → AreNamedBy no_name packets (told_alone n truncated)
+alone_named packets n truncated = (none_named (take n packets), tt)
 
 -- whether it is truncated
 pub alone_truncated : (n : ℕ) (truncated : Bool) → truncated ≡ is_truncated (told_alone n truncated)
@@ -106,19 +135,20 @@ alone_truncated n true = refl
 alone_truncated n false = refl
 
 -- what stands behind its lines
-pub end_alone : (verdicts : List Verdict) (n : ℕ) (truncated : Bool) → length verdicts ≡ n
-    → end_text (totals_of verdicts (told_alone n truncated)) ≡ truncation_line None truncated n ++ totals_line (totals_of verdicts (told_alone n truncated))
-end_alone verdicts n truncated count =
-    ap₂ (λ t m. truncation_line None t m ++ totals_line (totals_of verdicts (told_alone n truncated))) (sym (alone_truncated n truncated)) count
+pub end_is_alone : (wording : Wording) (verdicts : List Verdict) (n : ℕ) (truncated : Bool) → length verdicts ≡ n
+    → end_alone wording (totals_of verdicts (told_alone n truncated)) ≡ end_in wording (told_alone n truncated) (totals_of verdicts (told_alone n truncated))
+end_is_alone wording verdicts n truncated count =
+    ap₂ (λ t m. end_in wording (told_alone m t) (totals_of verdicts (told_alone n truncated))) (sym (alone_truncated n truncated)) count
 
--- its report
-pub plain_report : (shown : Shown) (packets : List PacketFacts) (verdicts : List Verdict) (truncated : Bool) → length verdicts ≡ length packets
-    → report_in (plain_wording shown) packets verdicts truncated ≡ report_shown shown verdicts (told_alone (length packets) truncated)
-plain_report shown packets verdicts truncated each =
+-- its report is its lines, and what stands behind them
+pub report_alone : (wording : Wording) (packets : List PacketFacts) (verdicts : List Verdict) (truncated : Bool) → length verdicts ≡ length packets
+    → report_in wording packets verdicts (told_alone (length packets) truncated)
+    ≡ lines_in wording 1 packets verdicts ++ end_alone wording (totals_of verdicts (told_alone (length packets) truncated))
+report_alone wording packets verdicts truncated each =
     let n = length packets in
-    let lines = lines_shown shown None 1 verdicts in
-    let end = truncation_line None truncated n in
-    let all = totals_line (totals_of verdicts (told_alone n truncated)) in
-    ap₂ (λ a b. a ++ b) (plain_lines shown 1 packets verdicts each) (end_alone verdicts n truncated each)
-    ∙ sym (append_assoc lines end all)
-    ∙ ap₂ (λ vs e. (lines_shown shown None 1 vs ++ e) ++ all) (sym (take_all n verdicts (omega (arith, each)))) (sym (append-nil end))
+    let captures = told_alone n truncated in
+    let all = wording.all (totals_of verdicts captures) in
+    let cut = flat_map wording.cut captures in
+    ap₂ (λ ps vs. (lines_in wording 1 ps vs ++ cut) ++ all) (take_all n packets (omega arith)) (take_all n verdicts (omega (arith, each)))
+    ∙ append_assoc (lines_in wording 1 packets verdicts) cut all
+    ∙ ap (λ e. lines_in wording 1 packets verdicts ++ e) (sym (end_is_alone wording verdicts n truncated each))

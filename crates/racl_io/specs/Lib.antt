@@ -1,4 +1,5 @@
 pub mod Buffers
+pub mod CapturePackets
 pub mod Devices
 pub mod Faults
 pub mod Fronts

@@ -1,19 +1,8 @@
 -- What writing a report did to a sink: to the bytes that it has, where they are known, and to its failures.
-use Rattle.std.specs.Prelude.{◌≡◌, ◌≢◌, ◌+◌, ◌++◌, ◌⊎◌, ◌↔◌, ℕ, List, Option, Result, Err, IfOk, IfErr, OnErr, OnOk, ⊤}
+use Rattle.std.specs.Prelude.{◌≡◌, ◌+◌, ◌++◌, ℕ, List, Option, Result, IfErr, OnErr, OnOk, ⊤}
 use Rattle.std.specs.Io.KnownBytes.{Appends}
 use Rattle.racl_io.specs.declared.fault.Fault.{Fault}
-use Rattle.racl_io.specs.declared.fault.Fault.TheVariants.{Memory, Write}
-use Rattle.racl_io.specs.declared.totals_and_truncation.Totals.{Totals}
-
--- The text stands after what the sink had, and the answer is its totals; or memory ran out before anything was written; or
--- a write failed, once.
-pub record Writes {W : Type 0} (bytes : W → Option (List ℕ)) (failures : W → ℕ) (old new : W) (text : List ℕ) (totals : Totals) (result : Result Totals Fault) : Type 0 where
-  pub whole : OnOk result (Appends (bytes old) (bytes new) text)
-  pub counted : IfOk result (λ answered. answered ≡ totals)
-  pub fault : IfErr result (λ e. (e ≡ Memory) ⊎ (e ≡ Write))
-  pub write : (result ≡ Err Write) ↔ (failures new ≡ failures old + 1)
-  pub steady : result ≢ Err Write → failures new ≡ failures old
-  pub unwritten : IfErr result (λ e. e ≢ Write → new ≡ old)
+use Rattle.racl_io.specs.declared.fault.Fault.TheVariants.{Write}
 
 -- a sink got a front of this text
 abbrev pub GotFront : Option (List ℕ) → Option (List ℕ) → List ℕ → Type 0

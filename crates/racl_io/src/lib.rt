@@ -2,27 +2,27 @@
 //! faults.
 #![tactic(auto)]
 
+mod capture_bytes;
 mod device;
 mod digit_decoding;
 mod fault;
 mod file_kind;
 mod front_kept;
 mod interface_name;
-mod lines_in_threads;
 mod lines_one_by_one;
 mod marker_line;
-mod named_lines;
 mod number_printing;
 mod packet_lines;
-mod plain_lines;
 mod read_buffer;
 mod reading_and_writing;
+mod report_lines;
 mod report_piece;
-mod shown_report;
+mod shown_lines;
 mod teller;
 mod totals_and_truncation;
 mod whole_lines;
 
+pub use capture_bytes::CaptureBytes;
 pub use device::{Device, DeviceFault, Sink, Source};
 pub use digit_decoding::{decode_digits, is_blank};
 pub use fault::Fault;
@@ -31,15 +31,13 @@ pub use front_kept::FrontKept;
 pub use interface_name::push_name;
 pub use lines_one_by_one::{PacketLine, write_packet_lines};
 pub use marker_line::{Digits, Form, Input, Numbered, cut_at_numbered_marker, split_input};
-pub use named_lines::NamedLines;
 pub use number_printing::Numeral;
-pub use plain_lines::PlainLines;
 pub use read_buffer::ReadBuffer;
 pub use reading_and_writing::{MOST_BYTES, drain, read_until, write_all};
+pub use report_lines::ReportLines;
 pub use report_piece::Piece;
-pub use shown_report::write_shown;
 pub use teller::Teller;
 pub use totals_and_truncation::{
-    Captured, Totals, passed, totals_on, without_pages, write_end, write_ends, write_totals,
-    write_truncation,
+    Captured, Totals, captured_alone, is_truncated, passed, totals_on, without_pages, write_ends,
+    write_truncation, write_truncations,
 };

@@ -2,16 +2,16 @@
 ghost use Rattle.std.specs.Prelude.{◌≡◌, ◌+◌, ◌-◌, ◌<◌, ◌^◌, IfOk, length};
 ghost use Rattle.packet_view.specs.CheckedCaptures.{remaining};
 ghost use Rattle.racl_io.specs.Reports;
-ghost use Rattle.racl_io.specs.Tellings.{HasToldText, Wording, lines_in};
+ghost use Rattle.racl_io.specs.Tellings.{HasToldText, Wording, end_in, lines_in};
 
 use crate::device::Sink;
 use crate::fault::Fault;
-use crate::totals_and_truncation::Totals;
+use crate::totals_and_truncation::{Captured, Totals};
 use packet_view::Packets;
 use session_state::Verdict;
 
-/// What tells packets one part after the other, and then what stands behind all of them. A fault is Memory, and then nothing
-/// of the part was written, or Write.
+/// What tells packets one part after the other, where captures ended, and what stands behind all of them. A fault is Memory, and
+/// then nothing of the part was written, or Write.
 pub trait Teller {
     /// How it tells them.
     ghost wording: { Self → Wording };
@@ -31,8 +31,20 @@ pub trait Teller {
         ensures passed { IfOk result (λ n. n ≡ Reports.passed verdicts.now) }
         ensures same { wording self.new ≡ wording self.old };
 
-    /// Tells what stands behind them.
-    fn tell_end<W: Sink>(&mut self, writer: &mut W, totals: &Totals) -> Result<(), Fault>
+    /// Tells, behind the packets of a capture that ended, whether it ended within a record.
+    fn tell_cut<W: Sink>(&mut self, writer: &mut W, captured: &Captured) -> Result<(), Fault>
         requires sound { W.failures writer.old < 2 ^ 64 - 1 }
-        ensures told { HasToldText W.bytes W.failures writer.old writer.new ((wording self.old).end totals.now) result };
+        ensures told { HasToldText W.bytes W.failures writer.old writer.new ((wording self.old).cut captured.now) result }
+        ensures same { wording self.new ≡ wording self.old };
+
+    /// Tells what stands behind all packets: of these captures, of which it wasn't told before, whether they ended within a record,
+    /// and the totals.
+    fn tell_end<W: Sink>(
+        &mut self,
+        writer: &mut W,
+        captures: &[Captured],
+        totals: &Totals,
+    ) -> Result<(), Fault>
+        requires sound { W.failures writer.old < 2 ^ 64 - 1 }
+        ensures told { HasToldText W.bytes W.failures writer.old writer.new (end_in (wording self.old) captures.now totals.now) result };
 }

@@ -1,9 +1,10 @@
 //! The totals of a report, and the line of a truncated capture.
-ghost use Rattle.std.specs.Prelude.{◌≡◌, ◌-◌, ◌<◌, ◌^◌, [], true};
+ghost use Rattle.std.specs.Prelude.{◌≡◌, ◌++◌, ◌-◌, ◌<◌, ◌^◌, [], None, true};
+ghost use Rattle.std.specs.List.{flat_map};
 ghost use Rattle.racl_io.specs.Reports;
 ghost use Rattle.racl_io.specs.Reports.{totals_line, totals_of, truncation_line};
 ghost use Rattle.racl_io.specs.Sinks.{HasPutFront};
-ghost use Rattle.racl_io.specs.Tellings.{end_text, ends_text};
+ghost use Rattle.racl_io.specs.Tellings.{truncation_of};
 
 use crate::device::Sink;
 use crate::fault::Fault;
@@ -34,6 +35,17 @@ pub struct Totals {
     pub without_pages: u64,
     /// Whether a capture ends within a record.
     pub truncated: bool,
+}
+
+/// How a report tells the only capture of these totals, whose interface it doesn't name.
+pub fn captured_alone(totals: &Totals) -> Captured
+    ensures { result ≡ record { named = None; packets = totals.now.packets; truncated = totals.now.truncated } }
+{
+    Captured {
+        named: None,
+        packets: totals.packets as usize,
+        truncated: totals.truncated,
+    }
 }
 
 // The report's line that a capture is truncated.
@@ -91,8 +103,8 @@ fn push_totals(piece: &mut Piece, totals: &Totals)
     piece.push(b"\n");
 }
 
-// Whether one of the captures is truncated, as the report's totals hold it.
-fn is_truncated(captures: &[Captured]) -> bool
+/// Whether one of the captures is truncated, as the report's totals hold it.
+pub fn is_truncated(captures: &[Captured]) -> bool
     ensures { result ≡ Reports.is_truncated captures.now }
 {
     captures.iter().any(|captured| captured.truncated)
@@ -123,12 +135,8 @@ pub fn totals_on(passed: u64, verdicts: &[Verdict], captures: &[Captured]) -> To
     }
 }
 
-/// Writes the line of the totals, which ends a report.
-pub fn write_totals<W: Sink>(
-    writer: &mut W,
-    piece: &mut Piece,
-    totals: &Totals,
-) -> Result<(), Fault>
+// Writes the line of the totals, which ends a report.
+fn write_totals<W: Sink>(writer: &mut W, piece: &mut Piece, totals: &Totals) -> Result<(), Fault>
     requires { W.failures writer.old < 2 ^ 64 - 1 }
     ensures { HasPutFront W.bytes W.failures writer.old writer.new (totals_line totals.now) result }
 {
@@ -137,32 +145,14 @@ pub fn write_totals<W: Sink>(
     write_all(writer, piece.as_slice())
 }
 
-/// Writes what stands in a report behind the lines of the packets of one capture, whose interface isn't named.
-pub fn write_end<W: Sink>(writer: &mut W, piece: &mut Piece, totals: &Totals) -> Result<(), Fault>
-    requires { W.failures writer.old < 2 ^ 64 - 1 }
-    ensures { HasPutFront W.bytes W.failures writer.old writer.new (end_text totals.now) result }
-{
-    let captured = Captured {
-        named: None,
-        packets: totals.packets as usize,
-        truncated: totals.truncated,
-    };
-    match write_truncation(writer, piece, &captured) {
-        Ok(()) => write_totals(writer, piece, totals),
-        Err(fault) => Err(fault),
-    }
-}
-
-/// Writes what stands in a report behind the lines of the packets of several captures: the line on each that is truncated, and
-/// the totals.
-pub fn write_ends<W: Sink>(
+/// Writes the line on each of these captures that is truncated.
+pub fn write_truncations<W: Sink>(
     writer: &mut W,
     piece: &mut Piece,
     captures: &[Captured],
-    totals: &Totals,
 ) -> Result<(), Fault>
     requires { W.failures writer.old < 2 ^ 64 - 1 }
-    ensures { HasPutFront W.bytes W.failures writer.old writer.new (ends_text captures.now totals.now) result }
+    ensures { HasPutFront W.bytes W.failures writer.old writer.new (flat_map truncation_of captures.now) result }
 {
     'each: for captured in captures {
         match write_truncation(writer, piece, captured) {
@@ -170,5 +160,22 @@ pub fn write_ends<W: Sink>(
             Err(fault) => return Err(fault),
         }
     }
-    write_totals(writer, piece, totals)
+    Ok(())
+}
+
+/// Writes what stands in a report behind the lines of packets: the line on each of these captures that is truncated, and the
+/// totals.
+pub fn write_ends<W: Sink>(
+    writer: &mut W,
+    piece: &mut Piece,
+    captures: &[Captured],
+    totals: &Totals,
+) -> Result<(), Fault>
+    requires { W.failures writer.old < 2 ^ 64 - 1 }
+    ensures { HasPutFront W.bytes W.failures writer.old writer.new (flat_map truncation_of captures.now ++ totals_line totals.now) result }
+{
+    match write_truncations(writer, piece, captures) {
+        Ok(()) => write_totals(writer, piece, totals),
+        Err(fault) => Err(fault),
+    }
 }

@@ -2,7 +2,7 @@ use Rattle.std.proofs.Common.{◌≡◌, ◌++◌, ◌+◌, length, List, ℕ}
 use Rattle.std.specs.Io.KnownBytes.{Appends}
 use Rattle.racl_io.specs.Reports.{passed}
 use Rattle.racl_io.specs.ShownReports.{lines_shown}
-use Rattle.racl_io.proofs.shown_report.write_lines_shown.Given as goal
+use Rattle.racl_io.proofs.shown_lines.write_lines_shown.Given as goal
 
 -- the lines so far were written
 abbrev pub invariant-loop-rest : goal.invariant-loop-rest

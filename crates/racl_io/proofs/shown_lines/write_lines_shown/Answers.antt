@@ -6,7 +6,7 @@ use Rattle.racl_io.specs.Reports.{passed}
 use Rattle.racl_io.specs.ShownReports.{lines_shown}
 use Rattle.racl_io.proofs.ReportLemmas.{cut_at, passed_of_both}
 use Rattle.racl_io.proofs.ShownLemmas.{more_shown}
-use Rattle.racl_io.proofs.shown_report.write_lines_shown.Goals as goal
+use Rattle.racl_io.proofs.shown_lines.write_lines_shown.Goals as goal
 
 pub loop-rest-preserved : goal.loop-rest-preserved
 loop-rest-preserved g c =

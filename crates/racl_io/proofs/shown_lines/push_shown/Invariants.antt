@@ -1,7 +1,7 @@
 use Rattle.std.proofs.Common.{◌≡◌, ◌≤◌, ◌++◌, ◌+◌, ◌*◌, length, take, drop}
 use Rattle.racl_io.specs.Reports.{passed}
 use Rattle.racl_io.specs.ShownReports.{lines_shown}
-use Rattle.racl_io.proofs.shown_report.push_shown.Given as goal
+use Rattle.racl_io.proofs.shown_lines.push_shown.Given as goal
 
 -- the lines so far
 abbrev pub invariant-each : goal.invariant-each

@@ -1,6 +1,6 @@
 use Rattle.std.proofs.Common.{Err, ℕ}
 use Rattle.racl_io.proofs.TellingLemmas.{told_put}
-use Rattle.racl_io.proofs.named_lines.NamedLinesTeller.tell.Goals as goal
+use Rattle.racl_io.proofs.report_lines.write_named.Goals as goal
 
 pub returns-in-Ok-clause-told : goal.returns-in-Ok-clause-told
 returns-in-Ok-clause-told g c = (c.in-Ok.ensures.put.0, c.in-Ok.ensures.put.1)

@@ -1,14 +1,13 @@
 use Rattle.std.proofs.Common.{◌≡◌, ◌++◌, List, ℕ, drop, flat_map}
 use Rattle.std.specs.Io.KnownBytes.{Appends}
-use Rattle.racl_io.specs.Reports.{totals_line}
-use Rattle.racl_io.specs.Tellings.{ends_text, truncation_of}
-use Rattle.racl_io.proofs.totals_and_truncation.write_ends.Given as goal
+use Rattle.racl_io.specs.Tellings.{truncation_of}
+use Rattle.racl_io.proofs.totals_and_truncation.write_truncations.Given as goal
 
 -- the lines on the captures so far were written
 abbrev pub invariant-each : goal.invariant-each
 invariant-each g l = record {
   front : List ℕ;
   written : Appends (g.W.Sink.bytes l.fn.writer) (g.W.Sink.bytes l.writer) front;
-  told : front ++ (flat_map truncation_of (drop l.captured-index l.captures) ++ totals_line l.totals) ≡ ends_text l.captures l.totals;
+  told : front ++ flat_map truncation_of (drop l.captured-index l.captures) ≡ flat_map truncation_of l.captures;
   sound : g.W.Sink.failures l.writer ≡ g.W.Sink.failures l.fn.writer;
 }
