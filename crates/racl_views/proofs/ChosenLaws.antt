@@ -3,19 +3,11 @@ use Rattle.std.proofs.Common.{◌≡◌, ◌∙◌, ◌++◌, ℕ, Bool, true, f
 use Rattle.std.proofs.lemmas.List.{drop_at, length-take-le, take-append-drop}
 use Rattle.std.specs.List.{concat}
 use Rattle.packet_view.proofs.FrontLemmas.{HaveOneHead, head_appended, header_too}
-use Rattle.packet_view.specs.Captures.{AreRecords, End, HasFileHeader, IsCapture, IsCaptureAt, RecordFacts, Truncated, Whole, packet_at, packets_at}
+use Rattle.packet_view.specs.Captures.{AreRecords, HasFileHeader, IsCapture, IsCaptureAt, RecordFacts, Whole, packet_at, packets_at}
 use Rattle.packet_view.specs.declared.capture.Order.{Order}
-use Rattle.packet_view.specs.declared.records_at_front.Stop.TheVariants as stop
 use Rattle.session_state.specs.declared.verdict.Verdict.{Verdict}
-use Rattle.racl_views.specs.ChosenRecords.{AreRecordsOf, HasRecords, IsChosen, IsRecordOf, chosen_among, is_chosen, kept_before}
+use Rattle.racl_views.specs.ChosenRecords.{AreRecordsOf, IsChosen, IsRecordOf, chosen_among, is_chosen, kept_before}
 use Rattle.racl_views.specs.declared.chosen_packets.Chosen.{Chosen}
-
--- a right capture has its records
-pub capture_has_records : (bytes : List ℕ) (records : List RecordFacts) (end : End) → IsCapture bytes records end → HasRecords bytes records
-capture_has_records bytes records Whole (order, rest, header, are, ends) =
-    record { order = order; header = header; rest = rest; are = are; stop = stop.End; stops = ends }
-capture_has_records bytes records Truncated (order, rest, header, are, ends) =
-    record { order = order; header = header; rest = rest; are = are; stop = stop.Truncated; stops = ends }
 
 -- a header's bytes are a header with any others behind them
 header_before : (order : Order) (bytes more : List ℕ) → HasFileHeader order bytes → HasFileHeader order (take 24 bytes ++ more)

@@ -1,6 +1,6 @@
 -- A walk over records finds the bytes of the chosen ones.
 use Rattle.std.proofs.Common.{◌≡◌, ◌∙◌, ◌<◌, ◌+◌, ◌++◌, ℕ, Bool, true, false, List, [], ◌∷◌, append_assoc, append-nil, ap, arith, drop, get_or, length, refl, suc, subst, sym, take}
-use Rattle.std.proofs.lemmas.List.{length-append, take-append-drop, take_at}
+use Rattle.std.proofs.lemmas.List.{length-append, take_at}
 use Rattle.std.specs.List.{concat}
 use Rattle.packet_view.proofs.RecordLemmas.{IsStop, part_only, part_shown}
 use Rattle.packet_view.specs.Captures.{AreRecords, Cut, IsPiece, Nothing, PieceFacts, Record, RecordFacts, TooLong}
@@ -10,7 +10,7 @@ use Rattle.packet_view.specs.declared.records_at_front.Stop.{Stop}
 use Rattle.packet_view.specs.declared.records_at_front.Stop.TheVariants as stop
 use Rattle.packet_view.specs.inner.RecordSteps.{part_of}
 use Rattle.session_state.specs.declared.verdict.Verdict.{Verdict}
-use Rattle.racl_views.specs.ChosenRecords.{AreRecordsOf, HasRecords, IsChosen, IsRecordOf, chosen_among, is_chosen, kept_before}
+use Rattle.racl_views.specs.ChosenRecords.{AreRecordsOf, IsRecordOf, chosen_among, is_chosen, kept_before}
 use Rattle.racl_views.specs.declared.chosen_packets.Chosen.{Chosen}
 use Rattle.racl_views.specs.inner.Batches.{bytes_where}
 use Rattle.racl_views.specs.inner.ChosenBytes.{HasNoRecord, chosen_in, found_first}
@@ -162,20 +162,3 @@ pieces_count order [] [] each = refl
 pieces_count order [] (x ∷ xs) each = absurd each
 pieces_count order (p ∷ ps) [] each = absurd each
 pieces_count order (p ∷ ps) (x ∷ xs) (is, each) = ap suc (pieces_count order ps xs each)
-
--- so what is written are the header and the bytes of the chosen ones
-pub is_chosen_capture : (chosen : Chosen) (order : Order) (verdicts : List Verdict) (capture : List ℕ) (records : List RecordFacts) → (has : HasRecords capture records) → has.order ≡ order
-    → IsChosen chosen verdicts capture records (take 24 capture ++ chosen_in chosen order verdicts (drop 24 capture))
-is_chosen_capture chosen order verdicts capture records has same =
-    let parts = pieces_of has.order (drop 24 capture) records has.rest has.are in
-    record {
-      order = has.order;
-      header = has.header;
-      pieces = parts.pieces;
-      each = parts.each;
-      rest = has.rest;
-      spelt = sym (take-append-drop 24 capture) ∙ ap (λ (b : List ℕ). take 24 capture ++ b) parts.spelt;
-      all = ap (λ (b : List ℕ). take 24 capture ++ b) (ap (λ (o : Order). chosen_in chosen o verdicts (drop 24 capture)) (sym same)
-          ∙ ap (chosen_in chosen has.order verdicts) parts.spelt
-          ∙ chosen_found chosen has.order verdicts parts.pieces records has.rest parts.each (none_behind has.order has.rest has.stop has.stops));
-    }

@@ -32,10 +32,10 @@ pub entries_next : (policy : PolicyFacts) (rules : List RuleLine) (packets left 
 entries_next policy rules packets left packet verdicts k d took within =
     ap (λ (ps : List PacketFacts). entries_on policy rules ps (drop k verdicts)) took ∙ ap (entries_on policy rules (packet ∷ left)) (drop_one verdicts k d within)
 
--- those of the first verdicts
+-- those of the first packets
 pub entries-take : (policy : PolicyFacts) (rules : List RuleLine) (k : ℕ) (packets : List PacketFacts) (verdicts : List Verdict)
-    → take k (entries_on policy rules packets verdicts) ≡ entries_on policy rules packets (take k verdicts)
-entries-take policy rules zero packets verdicts = sym (no_entries policy rules packets)
+    → take k (entries_on policy rules packets verdicts) ≡ entries_on policy rules (take k packets) (take k verdicts)
+entries-take policy rules zero packets verdicts = refl
 entries-take policy rules (suc k) [] verdicts = refl
 entries-take policy rules (suc k) (packet ∷ packets) [] = refl
 entries-take policy rules (suc k) (packet ∷ packets) (verdict ∷ verdicts) =

@@ -1,6 +1,4 @@
 pub mod BatchLemmas
-pub mod CaptureLemmas
-pub mod CaptureTellings
 pub mod ChosenLaws
 pub mod ChosenLemmas
 pub mod CountLemmas

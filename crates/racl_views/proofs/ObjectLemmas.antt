@@ -2,12 +2,11 @@
 use Rattle.std.proofs.Common.{◌≡◌, ◌∙◌, ◌++◌, ◌+◌, ◌<◌, ℕ, List, [], ◌∷◌, append_assoc, ap, ap₂, drop, flat_map, get_or, length, refl, sym, take, Result, Ok, Err, IfOk}
 use Rattle.json.specs.Json.{Json}
 use Rattle.racl_io.specs.declared.totals_and_truncation.Captured.{Captured}
-use Rattle.racl_io.specs.declared.totals_and_truncation.Totals.{Totals}
 use Rattle.racl_io.proofs.LeftLemmas.{drop_one}
 use Rattle.racl_views.specs.Entries.{EntryFacts}
 use Rattle.racl_views.specs.Objects.{object_line, object_lines}
-use Rattle.racl_views.specs.PacketObjects.{totals_object, truncation_objects}
 use Rattle.racl_views.specs.RunEntries.{captures_told, told_from}
+use Rattle.racl_views.specs.inner.Tellings.{truncation_by}
 
 pub object_lines-append : (a b : List Json) → object_lines (a ++ b) ≡ object_lines a ++ object_lines b
 object_lines-append [] b = refl
@@ -33,22 +32,18 @@ lines_of_captures tell end n entries (captured ∷ captures) =
     (object_lines-append (end captured) others
     ∙ ap (λ (t : List ℕ). object_lines (end captured) ++ t) (lines_of_captures tell end (n + captured.packets) (drop captured.packets entries) captures))
 
--- what stands behind them, after the object of one more capture
-pub ends_next : (so_far now all : List ℕ) (captures : List Captured) (k : ℕ) (d : Captured) (totals : Totals) → k < length captures
-    → now ≡ so_far ++ object_lines (truncation_objects (get_or captures k d))
-    → so_far ++ object_lines (flat_map truncation_objects (drop k captures) ++ totals_object totals ∷ []) ≡ all
-    → now ++ object_lines (flat_map truncation_objects (drop (k + 1) captures) ++ totals_object totals ∷ []) ≡ all
-ends_next so_far now all captures k d totals within more told =
-    let cut = truncation_objects (get_or captures k d) in
-    let behind = flat_map truncation_objects (drop (k + 1) captures) in
-    let last = totals_object totals ∷ [] in
-    ap (λ (t : List ℕ). t ++ object_lines (behind ++ last)) more ∙ append_assoc so_far (object_lines cut) (object_lines (behind ++ last))
-    ∙ ap (λ (t : List ℕ). so_far ++ t) (sym (object_lines-append cut (behind ++ last)) ∙ ap object_lines (sym (append_assoc cut behind last))
-    ∙ ap (λ (cs : List Captured). object_lines (flat_map truncation_objects cs ++ last)) (sym (drop_one captures k d within)))
-    ∙ told
+-- the objects of the captures that are left, after one more
+pub cuts_next : (so_far now all : List ℕ) (captures : List Captured) (k : ℕ) (d : Captured) → k < length captures
+    → now ≡ so_far ++ truncation_by (get_or captures k d) → so_far ++ flat_map truncation_by (drop k captures) ≡ all
+    → now ++ flat_map truncation_by (drop (k + 1) captures) ≡ all
+cuts_next so_far now all captures k d within more told =
+    let cut = truncation_by (get_or captures k d) in
+    let behind = flat_map truncation_by (drop (k + 1) captures) in
+    ap (λ (t : List ℕ). t ++ behind) more ∙ append_assoc so_far cut behind
+    ∙ ap (λ (cs : List Captured). so_far ++ flat_map truncation_by cs) (sym (drop_one captures k d within)) ∙ told
 
--- a text that was made as one is made as what it is
-pub ended_as : {V E : Type 0} (items : V → List ℕ) (result : Result V E) (text all : List ℕ) → text ≡ all → IfOk result (λ v. items v ≡ text)
-    → IfOk result (λ v. items v ≡ all)
-ended_as items (Ok v) text all same is = is ∙ same
-ended_as items (Err e) text all same is = tt
+-- a text that was made behind one is made behind what it is
+pub made_behind : {V E : Type 0} (items : V → List ℕ) (result : Result V E) (text front last : List ℕ) → text ≡ front
+    → IfOk result (λ v. items v ≡ text ++ last) → IfOk result (λ v. items v ≡ front ++ last)
+made_behind items (Ok v) text front last same is = is ∙ ap (λ (t : List ℕ). t ++ last) same
+made_behind items (Err e) text front last same is = tt

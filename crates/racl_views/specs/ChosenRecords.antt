@@ -1,10 +1,8 @@
 -- A capture of those packets of a capture that are chosen by their verdicts (this project's profile).
-use Rattle.std.specs.Prelude.{◌≡◌, ℕ, Bool, true, false, not, List, [], ◌∷◌, ◌++◌, drop, take, ⊤}
+use Rattle.std.specs.Prelude.{◌≡◌, ℕ, Bool, true, false, not, List, [], ◌∷◌, ◌++◌, take, ⊤}
 use Rattle.std.specs.List.{concat}
-use Rattle.packet_view.specs.Captures.{AreRecords, End, HasFileHeader, IsCapture, IsRecord, RecordFacts}
-use Rattle.packet_view.specs.Fronts.{Stops}
+use Rattle.packet_view.specs.Captures.{End, HasFileHeader, IsCapture, IsRecord, RecordFacts}
 use Rattle.packet_view.specs.declared.capture.Order.{Order}
-use Rattle.packet_view.specs.declared.records_at_front.Stop.{Stop}
 use Rattle.session_state.specs.Passes.{passes}
 use Rattle.session_state.specs.declared.verdict.Verdict.{Verdict}
 use Rattle.racl_views.specs.declared.chosen_packets.Chosen.{Chosen}
@@ -36,15 +34,6 @@ AreRecordsOf order [] [] = ⊤
 AreRecordsOf order [] (facts ∷ records) = ⊥
 AreRecordsOf order (piece ∷ pieces) [] = ⊥
 AreRecordsOf order (piece ∷ pieces) (facts ∷ records) = IsRecordOf order piece facts × AreRecordsOf order pieces records
-
--- the bytes begin with a capture's header and these records, and no further whole one
-pub record HasRecords (bytes : List ℕ) (records : List RecordFacts) : Type 0 where
-  pub order : Order
-  pub header : HasFileHeader order bytes
-  pub rest : List ℕ
-  pub are : AreRecords order (drop 24 bytes) records rest
-  pub stop : Stop
-  pub stops : Stops order rest stop
 
 -- What is written of a capture of these records: its header, and the bytes of the chosen records as they are.
 pub record IsChosen (chosen : Chosen) (verdicts : List Verdict) (capture : List ℕ) (records : List RecordFacts) (written : List ℕ) : Type 0 where

@@ -1,4 +1,3 @@
-pub mod CapturePackets
 pub mod ChosenRecords
 pub mod CountedSessions
 pub mod Deciding

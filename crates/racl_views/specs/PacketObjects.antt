@@ -1,6 +1,5 @@
 -- What a run's packets, captures and totals are as objects of JSON; what isn't known has no key (this project's profile).
 use Rattle.std.specs.Prelude.{◌≡◌, ℕ, ◌==◌, ◌-◌, ◌||◌, true, List, [], ◌∷◌, ◌++◌, codes, get_or, unwrap_or, if◌then◌else◌}
-use Rattle.std.specs.List.{flat_map}
 use Rattle.json.specs.Json.{Json, boolean}
 use Rattle.packet_view.specs.Addresses.{icmp_of}
 use Rattle.packet_view.specs.Frames.{FrameFacts, Ip, Malformed, NotIp, Short}
@@ -130,10 +129,6 @@ truncation_objects captured = if captured.truncated then truncation_object captu
 abbrev pub totals_object : Totals → Json
 totals_object t =
     object_of (number (codes "packets") t.packets ∷ number (codes "pass") t.passed ∷ number (codes "drop") t.dropped ∷ [])
-
--- what stands behind the objects of the packets of several captures
-abbrev pub object_ends : List Captured → Totals → List ℕ
-object_ends captures totals = object_lines (flat_map truncation_objects captures ++ totals_object totals ∷ [])
 
 -- those of all packets that are shown, of truncations and of the totals
 abbrev pub run_objects : RunFacts → List EntryFacts → List Json

@@ -1,11 +1,11 @@
--- Packets of a run that are told one part after the other, while its capture comes (this project's profile).
-use Rattle.std.specs.Prelude.{◌≡◌, ℕ, Bool, List, [], None, Some, length}
+-- Packets of a run that are told one part after the other, while its captures come (this project's profile).
+use Rattle.std.specs.Prelude.{◌≡◌, ℕ, List, [], None, Option, Some, length}
 use Rattle.packet_view.specs.Captures.{PacketFacts}
 use Rattle.acl_policy.specs.Policies.{PolicyFacts}
 use Rattle.session_state.specs.declared.shown_verdicts.Shown.{Shown}
 use Rattle.session_state.specs.declared.verdict.Verdict.{Verdict}
 use Rattle.racl_io.specs.declared.totals_and_truncation.Captured.{Captured}
-use Rattle.racl_io.specs.Tellings.{Wording, lines_in, report_in, told_alone}
+use Rattle.racl_io.specs.Tellings.{AreNamedBy, Wording, lines_in, report_in}
 use Rattle.racl_views.specs.Entries.{EntryFacts}
 use Rattle.racl_views.specs.ExplainedLines.{shown_line}
 use Rattle.racl_views.specs.Objects.{object_lines}
@@ -38,14 +38,11 @@ abbrev pub run_by : ToldBy → List PacketFacts → List Verdict → List Captur
 run_by by packets verdicts captures =
     record { policy = by.policy; text = by.text; packets = packets; verdicts = verdicts; captures = captures; shown = by.shown }
 
--- What is told of the first packets of captures is their lines.
-pub record TellsLines (Lines : RunFacts → List ℕ → Type 0) (by : ToldBy) (wording : Wording) : Type 0 where
+-- What is told of the first packets of captures is their lines; and all that is told of captures in turn, whose packets are named
+-- so, is the report on them.
+pub record TellsRun (name : PacketFacts → Option ℕ) (Lines Report : RunFacts → List ℕ → Type 0) (by : ToldBy) (wording : Wording) : Type 0 where
   pub lines : (packets : List PacketFacts) (verdicts : List Verdict) → length verdicts ≡ length packets
       → Lines (run_by by packets verdicts []) (lines_in wording 1 packets verdicts)
-
--- What is told of the first packets of a capture is their lines, and all that is told of it is the report on it.
-pub record TellsRun (Lines Report : RunFacts → List ℕ → Type 0) (by : ToldBy) (wording : Wording) : Type 0 where
-  pub lines : (packets : List PacketFacts) (verdicts : List Verdict) → length verdicts ≡ length packets
-      → Lines (run_by by packets verdicts []) (lines_in wording 1 packets verdicts)
-  pub report : (packets : List PacketFacts) (verdicts : List Verdict) (truncated : Bool) → length verdicts ≡ length packets
-      → Report (run_by by packets verdicts (told_alone (length packets) truncated)) (report_in wording packets verdicts truncated)
+  pub report : (packets : List PacketFacts) (verdicts : List Verdict) (captures : List Captured) → length verdicts ≡ length packets
+      → AreNamedBy name packets captures
+      → Report (run_by by packets verdicts captures) (report_in wording packets verdicts captures)

@@ -1,19 +1,18 @@
 //! The packets of a capture that are chosen by their verdicts, as a capture.
-ghost use Rattle.std.specs.Prelude.{◌≡◌, ◌+◌, ◌-◌, ◌<◌, ◌≤◌, ◌^◌, ◌++◌, ℕ, List, [], IfErr, IfNone, IfSome, OnErr, OnOk, drop, length, take};
-ghost use Rattle.packet_view.specs.Captures.{End, IsCapture, IsCaptureAt, IsHeaderFault, RecordFacts, Whole, packets_at};
-ghost use Rattle.packet_view.specs.declared.capture.CaptureFault.{CaptureFault};
+ghost use Rattle.std.specs.Prelude.{◌≡◌, ◌+◌, ◌-◌, ◌<◌, ◌^◌, ◌++◌, ℕ, List, IfErr, IfNone, IfSome, OnErr, OnOk};
+ghost use Rattle.packet_view.specs.Captures.{IsCapture, IsCaptureAt, RecordFacts, Whole, packets_at};
 ghost use Rattle.session_state.specs.declared.verdict.Verdict.{Verdict};
 ghost use Rattle.racl_io.specs.declared.fault.Fault.TheVariants.{Write};
 ghost use Rattle.racl_io.specs.Sinks.{HasPut};
 ghost use Rattle.std.specs.List.{concat};
-ghost use Rattle.racl_views.specs.ChosenRecords.{AreRecordsOf, HasRecords, IsChosen, IsRecordOf, chosen_among};
+ghost use Rattle.racl_views.specs.ChosenRecords.{AreRecordsOf, IsChosen, IsRecordOf, chosen_among};
 ghost use Rattle.racl_views.specs.declared.chosen_packets.Chosen.{Chosen};
 ghost use Rattle.racl_views.specs.inner.Batches.{HasPassed};
 ghost use Rattle.racl_views.specs.inner.ChosenBytes.{HasNoRecord, chosen_in};
 
 use crate::byte_batch::{ByteBatch, put_where};
 use crate::chosen_packets::Chosen;
-use packet_view::{NextRecord, Order, capture_header, next_record};
+use packet_view::{NextRecord, Order, next_record};
 use racl_io::{Fault, Sink, write_all};
 use session_state::Verdict;
 
@@ -72,51 +71,8 @@ pub fn write_chosen_records<W: Sink>(
     write_all(writer, batch.as_slice())
 }
 
-// Writes the header in these bytes and the chosen ones among the records behind it.
-fn write_records<W: Sink>(
-    writer: &mut W,
-    capture: &[u8],
-    order: Order,
-    chosen: Chosen,
-    verdicts: &[Verdict],
-) -> Result<(), Fault>
-    requires sound { W.failures writer.old < 2 ^ 64 - 1 }
-    requires header { 24 ≤ length capture.now }
-    ensures { HasPut W.bytes W.failures writer.old writer.new (take 24 capture.now ++ chosen_in chosen order verdicts.now (drop 24 capture.now)) result }
-{
-    let (header, records) = capture.split_at(24);
-    let mut batch = ByteBatch::new();
-    put_where(writer, &mut batch, true, header)?;
-    put_chosen(writer, &mut batch, records, order, chosen, verdicts)?;
-    write_all(writer, batch.as_slice())
-}
-
-/// Writes a capture of those packets that are chosen by their verdicts: the header as it is, and each record of a chosen
-/// packet as it is. What stands behind the whole records is left out, and of what has no capture's header nothing is
-/// written. The verdicts are those of the whole records, in their order.
-pub fn write_chosen<W: Sink>(
-    writer: &mut W,
-    capture: &[u8],
-    chosen: Chosen,
-    verdicts: &[Verdict],
-) -> Result<(), Fault>
-    requires sound { W.failures writer.old < 2 ^ 64 - 1 }
-    ensures capture { (records : List RecordFacts) → HasRecords capture.now records
-        → (written : List ℕ) × IsChosen chosen verdicts.now capture.now records written × HasPut W.bytes W.failures writer.old writer.new written result }
-    ensures other { (fault : CaptureFault) → IsHeaderFault capture.now fault → HasPut W.bytes W.failures writer.old writer.new [] result }
-    ensures fault { IfErr result (λ fault. fault ≡ Write) }
-    ensures steady { OnOk result (W.failures writer.new ≡ W.failures writer.old) }
-    ensures failed { OnErr result (W.failures writer.new ≡ W.failures writer.old + 1) }
-{
-    match capture_header(capture) {
-        Ok(order) => write_records(writer, capture, order, chosen, verdicts),
-        Err(_) => Ok(()),
-    }
-}
-
 /// What is written of a capture is a capture of the chosen packets, in their order and whole.
 pub fn chosen_packets_are_a_capture()
-    ensures records { (capture : List ℕ) (records : List RecordFacts) (end : End) → IsCapture capture records end → HasRecords capture records }
     ensures capture { (chosen : Chosen) (verdicts : List Verdict) (capture : List ℕ) (records : List RecordFacts) (written : List ℕ)
         → IsChosen chosen verdicts capture records written → IsCapture written (chosen_among chosen verdicts records) Whole }
     ensures packets { (chosen : Chosen) (verdicts : List Verdict) (capture : List ℕ) (records : List RecordFacts) (written : List ℕ) (number : ℕ)

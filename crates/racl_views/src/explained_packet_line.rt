@@ -1,5 +1,5 @@
 //! Packets that are told in explained lines.
-ghost use Rattle.std.specs.Prelude.{◌≡◌, Some, if◌then◌else◌};
+ghost use Rattle.std.specs.Prelude.{◌≡◌, None, Some, if◌then◌else◌};
 ghost use Rattle.racl_views.specs.inner.Tellings.{entry_by, line_named};
 
 use crate::explained_line::push_explained;
@@ -15,19 +15,17 @@ pub struct ExplainedLine<'a, 'b> {
     pub telling: Telling<'a, 'b>,
     /// Whether each line names its packet's interface.
     pub names: bool,
-    /// Else the interface that lines name, where they name one.
-    pub named: Option<u8>,
 }
 
 // The interface that the line of a packet names, which was seen at this interface.
-fn name_for(names: bool, named: Option<u8>, interface: u8) -> Option<u8>
-    ensures { result ≡ if names then Some interface else named }
+fn name_for(names: bool, interface: u8) -> Option<u8>
+    ensures { result ≡ if names then Some interface else None }
 {
-    if names { Some(interface) } else { named }
+    if names { Some(interface) } else { None }
 }
 
 impl<'a, 'b> PacketLine for ExplainedLine<'a, 'b> {
-    ghost line = { λ told n packet verdict. line_named told.telling told.names told.named n (entry_by told.telling packet verdict) };
+    ghost line = { λ told n packet verdict. line_named told.telling told.names n (entry_by told.telling packet verdict) };
 
     fn push(&self, piece: &mut Piece, number: u64, packet: Packet<'_>, verdict: Verdict) {
         let telling = self.telling;
@@ -36,7 +34,7 @@ impl<'a, 'b> PacketLine for ExplainedLine<'a, 'b> {
         }
         let entry = entry_of(telling.policy, &telling.table.lines, packet, verdict);
         let place = PacketPlace {
-            named: name_for(self.names, self.named, entry.interface),
+            named: name_for(self.names, entry.interface),
             number,
         };
         push_explained(piece, &telling.table.texts, place, &entry);

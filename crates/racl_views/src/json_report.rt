@@ -1,25 +1,24 @@
-//! The report in objects of JSON, made whole before any of it is written, or one part of the packets after the other.
-ghost use Rattle.std.specs.Prelude.{◌≡◌, ◌+◌, ◌-◌, ◌<◌, ◌^◌, ◌++◌, ℕ, List, IfOk, OnOk, drop, length, map};
+//! Packets that are told in objects of JSON, one part after the other.
+ghost use Rattle.std.specs.Prelude.{◌≡◌, ◌+◌, ◌<◌, ◌^◌, ◌++◌, IfOk, OnOk, drop, length, map};
+ghost use Rattle.std.specs.List.{flat_map};
 ghost use Rattle.packet_view.specs.Captures.{packet_facts};
 ghost use Rattle.packet_view.specs.CheckedCaptures.{remaining};
-ghost use Rattle.acl_policy.specs.Policies.{IsPolicyText, policy_facts};
-ghost use Rattle.racl_io.specs.Reports.{packets_in, totals_of};
-ghost use Rattle.racl_io.specs.Sinks.{Writes};
-ghost use Rattle.racl_io.specs.Tellings.{HasToldText};
-ghost use Rattle.racl_views.specs.PacketObjects.{IsToldInObjects, object_ends};
+ghost use Rattle.acl_policy.specs.Policies.{policy_facts};
+ghost use Rattle.racl_views.specs.Objects.{object_line};
+ghost use Rattle.racl_views.specs.PacketObjects.{totals_object};
 ghost use Rattle.racl_views.specs.RuleTexts.{shown_of};
-ghost use Rattle.racl_views.specs.RunEntries.{captures_told, run_facts, told_from};
-ghost use Rattle.racl_views.specs.inner.PartWordings.{end_objects, objects_wording};
+ghost use Rattle.racl_views.specs.RunEntries.{told_from};
+ghost use Rattle.racl_views.specs.inner.PartWordings.{objects_wording};
 ghost use Rattle.racl_views.specs.inner.Tellings.{IsTableOf, entries_by, entry_by, object_by, truncation_by};
 
 use crate::json_objects::{push_packet, push_totals, push_truncation};
 use crate::packet_entry::entry_of;
 use crate::rule_lines_by_place::rule_table_by_place;
 use crate::rule_table::RuleTable;
-use crate::run_and_verdicts::{Run, Telling};
+use crate::run_and_verdicts::Telling;
 use acl_policy::Policy;
 use packet_view::{Packet, Packets};
-use racl_io::{Captured, Fault, Sink, Teller, Totals, passed, totals_on, write_all};
+use racl_io::{Captured, Fault, Sink, Teller, Totals, passed, write_all};
 use session_state::{Shown, Verdict, has_line};
 use std::alloc::{AllocError, Global};
 
@@ -77,75 +76,6 @@ fn tell_truncation_in_json(text: Vec<u8>, captured: &Captured) -> Result<Vec<u8>
     Ok(text)
 }
 
-// The objects of the report in JSON on the captures, one capture after the other.
-fn tell_captures_in_json(
-    alloc: Global,
-    telling: Telling<'_, '_>,
-    run: Run<'_>,
-) -> Result<Vec<u8>, AllocError>
-    requires { packets_in run.captures.now ≡ length run.verdicts.now }
-    ensures { IfOk result (λ told. told.items ≡ captures_told (λ _. object_by telling.entry) truncation_by 1
-        (entries_by telling.entry (remaining run.entry.packets) run.entry.verdicts.now) run.entry.captures.now) }
-{
-    let mut address = String::new(alloc);
-    let mut told = Vec::new(alloc);
-    let mut packets = run.packets;
-    let mut others = 0;
-    let mut rest = run.verdicts;
-    let mut left = run.captures;
-    'each: while let Some((captured, after)) = left.split_first() {
-        let (first, behind) = rest.split_at(captured.packets);
-        told = tell_packets_in_json(
-            told,
-            &mut address,
-            telling,
-            others as u64 + 1,
-            &mut packets,
-            first,
-        )?;
-        told = tell_truncation_in_json(told, captured)?;
-        others += captured.packets;
-        rest = behind;
-        left = after;
-    }
-    Ok(told)
-}
-
-// The whole report in JSON on a run, with its totals.
-fn tell_run(alloc: Global, run: Run<'_>, totals: &Totals) -> Result<Vec<u8>, AllocError>
-    requires { packets_in run.captures.now ≡ length run.verdicts.now }
-    ensures { IfOk result (λ told. IsPolicyText run.entry.text.now (policy_facts run.entry.policy.now)
-        → totals.now ≡ totals_of run.entry.verdicts.now run.entry.captures.now → IsToldInObjects (run_facts run.entry) told.items) }
-{
-    let table = rule_table_by_place(alloc, run.text)?;
-    let telling = Telling {
-        shown: run.shown,
-        policy: run.policy,
-        table: &table,
-    };
-    let told = tell_captures_in_json(alloc, telling, run)?;
-    let told = push_totals(told, totals)?;
-    Ok(told)
-}
-
-/// Writes a run in objects of JSON, one a line: of each packet that is shown its verdict, what it is, and the line of the rule
-/// that decided it; and the totals. Memory is asked for before the first byte is written.
-pub fn write_objects<W: Sink>(alloc: Global, writer: &mut W, run: Run<'_>) -> Result<Totals, Fault>
-    requires sound { W.failures writer.old < 2 ^ 64 - 1 }
-    requires counted { packets_in run.captures.now ≡ length run.verdicts.now }
-    ensures { (told : List ℕ) × (IsPolicyText run.entry.text.now (policy_facts run.entry.policy.now) → IsToldInObjects (run_facts run.entry) told)
-        × Writes W.bytes W.failures writer.old writer.new told (totals_of run.entry.verdicts.now run.entry.captures.now) result }
-{
-    let totals = totals_on(passed(run.verdicts), run.verdicts, run.captures);
-    match tell_run(alloc, run, &totals) {
-        Ok(told) => {
-            write_all(writer, &told)?;
-            Ok(totals)
-        }
-        Err(_) => Err(Fault::Memory),
-    }
-}
-
 /// What tells packets in objects of JSON, one a line, and of these those that are shown. Those of each part are made whole
 /// before any of them is written.
 #[derive(Drop)]
@@ -178,16 +108,18 @@ impl<'a> ObjectLines<'a> {
     }
 }
 
-// The objects behind those of the packets of a capture whose interface isn't named.
-fn objects_at_end(alloc: Global, totals: &Totals) -> Result<Vec<u8>, AllocError>
-    ensures { IfOk result (λ text. text.items ≡ end_objects totals.now) }
+// The objects of these captures that are truncated, and that of the totals.
+fn objects_at_end(
+    alloc: Global,
+    captures: &[Captured],
+    totals: &Totals,
+) -> Result<Vec<u8>, AllocError>
+    ensures { IfOk result (λ text. text.items ≡ flat_map truncation_by captures.now ++ object_line (totals_object totals.now)) }
 {
-    let captured = Captured {
-        named: None,
-        packets: totals.packets as usize,
-        truncated: totals.truncated,
-    };
-    let text = tell_truncation_in_json(Vec::new(alloc), &captured)?;
+    let mut text = Vec::new(alloc);
+    'each: for captured in captures {
+        text = tell_truncation_in_json(text, captured)?;
+    }
     push_totals(text, totals)
 }
 
@@ -226,42 +158,22 @@ impl<'a> Teller for ObjectLines<'a> {
         }
     }
 
-    fn tell_end<W: Sink>(&mut self, writer: &mut W, totals: &Totals) -> Result<(), Fault> {
-        match objects_at_end(self.alloc, totals) {
+    fn tell_cut<W: Sink>(&mut self, writer: &mut W, captured: &Captured) -> Result<(), Fault> {
+        match tell_truncation_in_json(Vec::new(self.alloc), captured) {
             Ok(text) => write_all(writer, &text),
             Err(_) => Err(Fault::Memory),
         }
     }
-}
 
-// The objects behind those of the packets of several captures.
-fn objects_at_ends(
-    alloc: Global,
-    captures: &[Captured],
-    totals: &Totals,
-) -> Result<Vec<u8>, AllocError>
-    ensures { IfOk result (λ text. text.items ≡ object_ends captures.now totals.now) }
-{
-    let mut text = Vec::new(alloc);
-    'each: for captured in captures {
-        text = tell_truncation_in_json(text, captured)?;
-    }
-    push_totals(text, totals)
-}
-
-/// Writes what stands behind the objects of the packets of several captures: the object of each that is truncated, and that of
-/// the totals. Memory is asked for before the first byte is written.
-pub fn write_object_ends<W: Sink>(
-    alloc: Global,
-    writer: &mut W,
-    captures: &[Captured],
-    totals: &Totals,
-) -> Result<(), Fault>
-    requires { W.failures writer.old < 2 ^ 64 - 1 }
-    ensures { HasToldText W.bytes W.failures writer.old writer.new (object_ends captures.now totals.now) result }
-{
-    match objects_at_ends(alloc, captures, totals) {
-        Ok(text) => write_all(writer, &text),
-        Err(_) => Err(Fault::Memory),
+    fn tell_end<W: Sink>(
+        &mut self,
+        writer: &mut W,
+        captures: &[Captured],
+        totals: &Totals,
+    ) -> Result<(), Fault> {
+        match objects_at_end(self.alloc, captures, totals) {
+            Ok(text) => write_all(writer, &text),
+            Err(_) => Err(Fault::Memory),
+        }
     }
 }

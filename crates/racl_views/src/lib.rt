@@ -3,7 +3,6 @@
 #![tactic(auto)]
 
 mod byte_batch;
-mod capture_bytes;
 mod capture_of_chosen;
 mod chosen_packets;
 mod counting_reasons;
@@ -30,14 +29,13 @@ mod shard_lines;
 mod stored_flow;
 mod writing_explained_lines;
 
-pub use capture_bytes::{CaptureBytes, packets_in};
-pub use capture_of_chosen::{chosen_packets_are_a_capture, write_chosen, write_chosen_records};
+pub use capture_of_chosen::{chosen_packets_are_a_capture, write_chosen_records};
 pub use chosen_packets::Chosen;
 pub use explained_line_and_json_laws::{explained_lines_begin_as_the_report, objects_read_back};
 pub use flow_key::keys_tell_their_flows;
 pub use hit_counts::{HitCounts, latest_second};
 pub use hits_as_text_and_json::{counted_hits_text, hits_text};
-pub use json_report::{ObjectLines, write_object_ends, write_objects};
+pub use json_report::ObjectLines;
 pub use rule_lines_by_place::{line_of, rule_table_by_place};
 pub use rule_numbering::{RuleLine, RuleName, numbered_rules};
 pub use rule_table::RuleTable;
@@ -46,4 +44,4 @@ pub use run_and_verdicts::Run;
 pub use session_counts::{SessionCounts, StoredPairs, count_sessions, live_sessions};
 pub use sessions_as_text_and_json::{TextOrJson, sessions_text};
 pub use shard_lines::{ShardOf, shard_text};
-pub use writing_explained_lines::{ExplainedLines, write_explained};
+pub use writing_explained_lines::ExplainedLines;

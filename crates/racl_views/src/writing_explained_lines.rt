@@ -1,106 +1,22 @@
-//! The report in explained lines, written in pieces, or one part of the packets after the other.
-ghost use Rattle.std.specs.Prelude.{◌≡◌, ◌-◌, ◌<◌, ◌^◌, ◌++◌, ℕ, List, true, false, IfOk, length, map};
-ghost use Rattle.packet_view.specs.CheckedCaptures.{remaining};
-ghost use Rattle.acl_policy.specs.Policies.{IsPolicyText, policy_facts};
-ghost use Rattle.racl_io.specs.Reports.{packets_in, totals_line, totals_of};
-ghost use Rattle.racl_io.specs.Sinks.{HasPut, Writes};
-ghost use Rattle.racl_io.specs.Tellings.{truncation_of};
-ghost use Rattle.racl_views.specs.ExplainedLines.{IsExplained};
-ghost use Rattle.racl_views.specs.RunEntries.{captures_told, run_facts};
+//! Packets that are told in explained lines, one part after the other.
+ghost use Rattle.std.specs.Prelude.{◌≡◌, IfOk, map};
+ghost use Rattle.acl_policy.specs.Policies.{policy_facts};
 ghost use Rattle.racl_views.specs.RuleTexts.{shown_of};
 ghost use Rattle.racl_views.specs.inner.PartWordings.{explained_wording};
-ghost use Rattle.racl_views.specs.inner.Tellings.{IsTableOf, entries_by, line_by};
+ghost use Rattle.racl_views.specs.inner.Tellings.{IsTableOf};
 
 use crate::explained_packet_line::ExplainedLine;
 use crate::rule_lines_by_place::rule_table_by_place;
 use crate::rule_table::RuleTable;
-use crate::run_and_verdicts::{Run, Telling};
+use crate::run_and_verdicts::Telling;
 use acl_policy::Policy;
 use packet_view::Packets;
 use racl_io::{
-    Fault, Piece, Sink, Teller, Totals, passed, totals_on, write_end, write_packet_lines,
-    write_totals, write_truncation,
+    Captured, Fault, Piece, Sink, Teller, Totals, passed, write_ends, write_packet_lines,
+    write_truncation,
 };
 use session_state::{Shown, Verdict};
 use std::alloc::{AllocError, Global};
-
-// Writes the explained lines on the captures, one after the other.
-fn write_explained_captures<W: Sink>(
-    writer: &mut W,
-    piece: &mut Piece,
-    telling: Telling<'_, '_>,
-    run: Run<'_>,
-) -> Result<(), Fault>
-    requires sound { W.failures writer.old < 2 ^ 64 - 1 }
-    requires counted { packets_in run.captures.now ≡ length run.verdicts.now }
-    ensures { HasPut W.bytes W.failures writer.old writer.new
-        (captures_told (λ captured. line_by telling.entry captured.named) truncation_of 1 (entries_by telling.entry (remaining run.entry.packets) run.entry.verdicts.now) run.entry.captures.now) result }
-{
-    let mut packets = run.packets;
-    let mut others = 0;
-    let mut rest = run.verdicts;
-    let mut left = run.captures;
-    'each: while let Some((captured, after)) = left.split_first() {
-        let (first, behind) = rest.split_at(captured.packets);
-        let line = ExplainedLine {
-            telling,
-            names: false,
-            named: captured.named,
-        };
-        write_packet_lines(writer, piece, &line, others as u64 + 1, &mut packets, first)?;
-        write_truncation(writer, piece, captured)?;
-        others += captured.packets;
-        rest = behind;
-        left = after;
-    }
-    Ok(())
-}
-
-// Writes the explained lines on a run, with its totals.
-fn write_run<W: Sink>(
-    alloc: Global,
-    writer: &mut W,
-    telling: Telling<'_, '_>,
-    run: Run<'_>,
-) -> Result<Totals, Fault>
-    requires sound { W.failures writer.old < 2 ^ 64 - 1 }
-    requires counted { packets_in run.captures.now ≡ length run.verdicts.now }
-    ensures { Writes W.bytes W.failures writer.old writer.new
-        (captures_told (λ captured. line_by telling.entry captured.named) truncation_of 1 (entries_by telling.entry (remaining run.entry.packets) run.entry.verdicts.now) run.entry.captures.now
-        ++ totals_line (totals_of run.entry.verdicts.now run.entry.captures.now))
-        (totals_of run.entry.verdicts.now run.entry.captures.now) result }
-{
-    let mut piece = Piece::new(alloc)?;
-    write_explained_captures(writer, &mut piece, telling, run)?;
-    let totals = totals_on(passed(run.verdicts), run.verdicts, run.captures);
-    write_totals(writer, &mut piece, &totals)?;
-    Ok(totals)
-}
-
-/// Writes a run in explained lines: of each packet that is shown its verdict, what it is, and the line of the rule that decided
-/// it; and the totals. Memory is asked for before the first byte is written.
-pub fn write_explained<W: Sink>(
-    alloc: Global,
-    writer: &mut W,
-    run: Run<'_>,
-) -> Result<Totals, Fault>
-    requires sound { W.failures writer.old < 2 ^ 64 - 1 }
-    requires counted { packets_in run.captures.now ≡ length run.verdicts.now }
-    ensures { (told : List ℕ) × (IsPolicyText run.entry.text.now (policy_facts run.entry.policy.now) → IsExplained (run_facts run.entry) told)
-        × Writes W.bytes W.failures writer.old writer.new told (totals_of run.entry.verdicts.now run.entry.captures.now) result }
-{
-    match rule_table_by_place(alloc, run.text) {
-        Ok(table) => {
-            let telling = Telling {
-                shown: run.shown,
-                policy: run.policy,
-                table: &table,
-            };
-            write_run(alloc, writer, telling, run)
-        }
-        Err(_) => Err(Fault::Memory),
-    }
-}
 
 /// What tells packets in explained lines, and of these those that are shown.
 #[derive(Drop)]
@@ -114,14 +30,15 @@ pub struct ExplainedLines<'a> {
 }
 
 impl<'a> ExplainedLines<'a> {
-    /// Those under this policy, which the text says. They name no interface.
+    /// Those under this policy, which the text says.
     pub fn new(
         alloc: Global,
         shown: Shown,
+        names: bool,
         policy: &'a Policy,
         text: &'a [u8],
     ) -> Result<ExplainedLines<'a>, AllocError>
-        ensures { IfOk result (λ lines. (lines.shown ≡ shown) × (lines.policy.now ≡ policy.now) × IsTableOf text.now lines.table × (lines.names ≡ false)) }
+        ensures { IfOk result (λ lines. (lines.shown ≡ shown) × (lines.policy.now ≡ policy.now) × IsTableOf text.now lines.table × (lines.names ≡ names)) }
     {
         let table = rule_table_by_place(alloc, text)?;
         let piece = Piece::new(alloc)?;
@@ -129,23 +46,9 @@ impl<'a> ExplainedLines<'a> {
             shown,
             policy,
             table,
-            names: false,
+            names,
             piece,
         })
-    }
-
-    /// The same, but each names its packet's interface.
-    pub fn naming(
-        alloc: Global,
-        shown: Shown,
-        policy: &'a Policy,
-        text: &'a [u8],
-    ) -> Result<ExplainedLines<'a>, AllocError>
-        ensures { IfOk result (λ lines. (lines.shown ≡ shown) × (lines.policy.now ≡ policy.now) × IsTableOf text.now lines.table × (lines.names ≡ true)) }
-    {
-        let mut lines = ExplainedLines::new(alloc, shown, policy, text)?;
-        lines.names = true;
-        Ok(lines)
     }
 }
 
@@ -167,7 +70,6 @@ impl<'a> Teller for ExplainedLines<'a> {
         let line = ExplainedLine {
             telling,
             names: self.names,
-            named: None,
         };
         let first = others as u64 + 1;
         let mut packets = packets;
@@ -184,7 +86,16 @@ impl<'a> Teller for ExplainedLines<'a> {
         }
     }
 
-    fn tell_end<W: Sink>(&mut self, writer: &mut W, totals: &Totals) -> Result<(), Fault> {
-        write_end(writer, &mut self.piece, totals)
+    fn tell_cut<W: Sink>(&mut self, writer: &mut W, captured: &Captured) -> Result<(), Fault> {
+        write_truncation(writer, &mut self.piece, captured)
+    }
+
+    fn tell_end<W: Sink>(
+        &mut self,
+        writer: &mut W,
+        captures: &[Captured],
+        totals: &Totals,
+    ) -> Result<(), Fault> {
+        write_ends(writer, &mut self.piece, captures, totals)
     }
 }

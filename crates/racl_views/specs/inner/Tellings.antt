@@ -1,5 +1,5 @@
 -- What is told while packets are told.
-use Rattle.std.specs.Prelude.{◌≡◌, ℕ, Bool, if◌then◌else◌, List, Option, Some, map}
+use Rattle.std.specs.Prelude.{◌≡◌, ℕ, Bool, if◌then◌else◌, List, None, Option, Some, map}
 use Rattle.packet_view.specs.Captures.{PacketFacts}
 use Rattle.acl_policy.specs.Policies.{IsPolicyText, PolicyFacts, policy_facts}
 use Rattle.session_state.specs.declared.verdict.Verdict.{Verdict}
@@ -18,17 +18,13 @@ use Rattle.racl_views.specs.inner.EntryLists.{entries_on, entry_on}
 abbrev pub texts_by : Telling → List (List ℕ)
 texts_by t = map shown_of t.table.now.texts.items
 
+-- the interface that a packet's line names, where it names one
+abbrev pub name_for : Bool → EntryFacts → Option ℕ
+name_for names entry = if names then Some entry.interface else None
+
 -- the explained line of a packet, where it is shown
-abbrev pub line_by : Telling → Option ℕ → ℕ → EntryFacts → List ℕ
-line_by t named = shown_line t.shown (texts_by t) named
-
--- the interface that a packet's line names: the packet's own, or that of all
-abbrev pub name_for : Bool → Option ℕ → EntryFacts → Option ℕ
-name_for names named entry = if names then Some entry.interface else named
-
--- the explained line that names it
-abbrev pub line_named : Telling → Bool → Option ℕ → ℕ → EntryFacts → List ℕ
-line_named t names named n entry = line_by t (name_for names named entry) n entry
+abbrev pub line_named : Telling → Bool → ℕ → EntryFacts → List ℕ
+line_named t names n entry = shown_line t.shown (texts_by t) (name_for names entry) n entry
 
 -- the line of its object, where it is shown
 abbrev pub object_by : Telling → ℕ → EntryFacts → List ℕ

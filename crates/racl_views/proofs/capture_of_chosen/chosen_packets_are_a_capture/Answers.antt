@@ -1,8 +1,5 @@
-use Rattle.racl_views.proofs.ChosenLaws.{capture_has_records, chosen_is_capture, chosen_is_capture_at}
+use Rattle.racl_views.proofs.ChosenLaws.{chosen_is_capture, chosen_is_capture_at}
 use Rattle.racl_views.proofs.capture_of_chosen.chosen_packets_are_a_capture.Goals as goal
-
-pub returns-clause-records : goal.returns-clause-records
-returns-clause-records c = capture_has_records
 
 pub returns-clause-capture : goal.returns-clause-capture
 returns-clause-capture c = chosen_is_capture
