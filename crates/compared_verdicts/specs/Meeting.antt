@@ -1,11 +1,11 @@
 -- Which verdicts are as expected, and what is told of those that aren't (this project's profile).
-use Rattle.std.specs.Prelude.{ℕ, ◌+◌, ◌==◌, ◌&&◌, ◌||◌, Bool, true, false, not, nat_le, nat_lt, List, [], ◌∷◌, ◌++◌, None, codes, decimal, if◌then◌else◌, length}
+use Rattle.std.specs.Prelude.{ℕ, ◌+◌, ◌==◌, ◌&&◌, ◌||◌, Bool, true, false, not, nat_le, nat_lt, List, [], ◌∷◌, ◌++◌, codes, decimal, if◌then◌else◌, length}
 use Rattle.std.specs.List.{list_any}
 use Rattle.session_state.specs.Passes.{passes}
 use Rattle.session_state.specs.declared.verdict.Verdict.{Verdict}
 use Rattle.session_state.specs.declared.verdict.Verdict.TheVariants.{Session, Reflect, Permit, Deny, ByDefault, Worn, Full, NoPages, NotIp, Malformed, Short}
-use Rattle.racl_io.specs.Reports.{text_of, totals_of, truncation_line}
-use Rattle.racl_io.specs.Tellings.{Wording, told_alone}
+use Rattle.racl_io.specs.Reports.{text_of, totals_of}
+use Rattle.racl_io.specs.Tellings.{Wording, end_alone, told_alone, truncation_of}
 use Rattle.racl_io.specs.declared.totals_and_truncation.Totals.{Totals}
 use Rattle.packet_words.specs.VerdictKinds.{kind_of}
 use Rattle.compared_verdicts.specs.declared.expectation.Expectation.{Expectation}
@@ -143,12 +143,12 @@ abbrev pub told_in : List Expectation → Totals → List ℕ
 told_in [] totals = []
 told_in (e ∷ expectations) totals = told_open e.line e.expected totals ++ told_in expectations totals
 
-abbrev pub end_of : List Expectation → Totals → List ℕ
-end_of expectations totals = truncation_line None totals.truncated totals.packets ++ told_in expectations totals
-
 -- how packets are told
 abbrev pub unmet_wording : List Expectation → Wording
-unmet_wording expectations = record { line = λ n packet verdict. told_at expectations n verdict; end = end_of expectations }
+unmet_wording expectations = record { line = λ n packet verdict. told_at expectations n verdict; cut = truncation_of; all = told_in expectations }
+
+abbrev pub end_of : List Expectation → Totals → List ℕ
+end_of expectations totals = end_alone (unmet_wording expectations) totals
 
 -- the last line, where all is met, of so many expectations
 abbrev pub met_line : ℕ → List ℕ

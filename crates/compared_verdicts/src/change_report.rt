@@ -14,9 +14,9 @@ use crate::change_lines::PolicyPair;
 use crate::change_totals::{ChangeTotals, no_changes, write_end_of_report};
 use crate::changes_told::ChangeLines;
 use capture_stream::Judge;
-use filter_run::{Both, CaptureStart, OneCapture, OneFilter, is_any_cut, run};
+use filter_run::{Both, CaptureStart, OneCapture, OneFilter, run};
 use packet_view::Order;
-use racl_io::{Fault, Piece, Sink, Source};
+use racl_io::{Fault, Piece, Sink, Source, is_truncated};
 use std::alloc::Global;
 
 // Two judge all that the source gives, what is changed is told, and behind it the totals.
@@ -41,7 +41,7 @@ fn tell_all<J: Judge, K: Judge, R: Source, W: Sink>(
         Err(found) => return Err(found.fault),
     };
     let totals = ChangeTotals {
-        truncated: is_any_cut(&captures),
+        truncated: is_truncated(&captures),
         ..lines.totals
     };
     match write_end_of_report(lines.writer, &mut lines.piece, &totals) {

@@ -9,7 +9,7 @@ use crate::expectation::Expectation;
 use crate::met_line::write_met;
 use crate::unmet::{any_open, any_unmet};
 use crate::unmet_lines::{count_passing, write_unmet_end, write_unmet_from};
-use racl_io::{Captured, Fault, Piece, Sink, Totals, totals_on};
+use racl_io::{Captured, Fault, Piece, Sink, Totals, captured_alone, totals_on};
 use session_state::Verdict;
 use std::alloc::Global;
 
@@ -38,7 +38,8 @@ fn write_told<W: Sink>(
         Ok(()) => {}
         Err(fault) => return Err(fault),
     }
-    match write_unmet_end(writer, piece, expectations, totals) {
+    let captures = [captured_alone(totals)];
+    match write_unmet_end(writer, piece, expectations, &captures, totals) {
         Ok(()) => {}
         Err(fault) => return Err(fault),
     }

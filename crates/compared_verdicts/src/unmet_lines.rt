@@ -2,13 +2,16 @@
 ghost use Rattle.std.specs.Prelude.{◌≡◌, ◌+◌, ◌-◌, ◌<◌, ◌^◌, IfOk, length};
 ghost use Rattle.racl_io.specs.Reports;
 ghost use Rattle.racl_io.specs.Sinks.{HasPutFront};
-ghost use Rattle.compared_verdicts.specs.Meeting.{end_of, told_as, told_at, told_from, told_in, told_open};
+ghost use Rattle.racl_io.specs.Tellings.{end_in};
+ghost use Rattle.compared_verdicts.specs.Meeting.{told_as, told_at, told_from, told_in, told_open, unmet_wording};
 
 use crate::expectation::{Expectation, Expected};
 use crate::unmet::{is_unmet, total_of};
 use crate::verdict_words::{push_missing, push_total, push_unmet};
 use packet_view::Packets;
-use racl_io::{Captured, Fault, Piece, Sink, Teller, Totals, write_all, write_truncation};
+use racl_io::{
+    Captured, Fault, Piece, Sink, Teller, Totals, write_all, write_truncation, write_truncations,
+};
 use session_state::Verdict;
 use std::alloc::{AllocError, Global};
 
@@ -142,22 +145,18 @@ pub fn count_passing(verdicts: &[Verdict]) -> u64
     verdicts.iter().filter(|verdict| verdict.passes()).count() as u64
 }
 
-/// Writes what stands behind the lines on packets.
+/// Writes what stands behind the lines on packets of these captures.
 pub fn write_unmet_end<W: Sink>(
     writer: &mut W,
     piece: &mut Piece,
     expectations: &[Expectation],
+    captures: &[Captured],
     totals: &Totals,
 ) -> Result<(), Fault>
     requires { W.failures writer.old < 2 ^ 64 - 1 }
-    ensures { HasPutFront W.bytes W.failures writer.old writer.new (end_of expectations.now totals.now) result }
+    ensures { HasPutFront W.bytes W.failures writer.old writer.new (end_in (unmet_wording expectations.now) captures.now totals.now) result }
 {
-    let captured = Captured {
-        named: None,
-        packets: totals.packets as usize,
-        truncated: totals.truncated,
-    };
-    match write_truncation(writer, piece, &captured) {
+    match write_truncations(writer, piece, captures) {
         Ok(()) => {}
         Err(fault) => return Err(fault),
     }
@@ -203,8 +202,17 @@ impl<'e> Teller for UnmetLines<'e> {
         }
     }
 
-    fn tell_end<W: Sink>(&mut self, writer: &mut W, totals: &Totals) -> Result<(), Fault> {
+    fn tell_cut<W: Sink>(&mut self, writer: &mut W, captured: &Captured) -> Result<(), Fault> {
+        write_truncation(writer, &mut self.piece, captured)
+    }
+
+    fn tell_end<W: Sink>(
+        &mut self,
+        writer: &mut W,
+        captures: &[Captured],
+        totals: &Totals,
+    ) -> Result<(), Fault> {
         let expectations = self.expectations;
-        write_unmet_end(writer, &mut self.piece, expectations, totals)
+        write_unmet_end(writer, &mut self.piece, expectations, captures, totals)
     }
 }
