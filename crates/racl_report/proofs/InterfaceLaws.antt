@@ -1,6 +1,5 @@
 -- Captures of interfaces that come apart: what is read of them, and which fault they have.
-use Rattle.std.proofs.Common.{◌≡◌, ◌∙◌, ◌==◌, ◌||◌, ◌⊎◌, ◌+◌, ◌<◌, ◌≤◌, ◌++◌, ℕ, Bool, true, false, List, [], ◌∷◌, Option, Some, None, length, append-nil, append_assoc, drop, get_or, arith, refl, sym, ap, ap₂, subst, inl, inr}
-use Rattle.std.proofs.lemmas.List.{length-append}
+use Rattle.std.proofs.Common.{◌≡◌, ◌∙◌, ◌==◌, ◌||◌, ◌⊎◌, ◌+◌, ◌<◌, ◌≤◌, ◌++◌, ℕ, Bool, true, false, List, [], ◌∷◌, Option, Some, None, length, append-nil, append_assoc, drop, get_or, refl, sym, ap, ap₂, subst, inl, inr}
 use Rattle.std.proofs.lemmas.List.Elements.{recursion_from_All}
 use Rattle.std.specs.List.{AllByRecursion, list_any}
 use Rattle.std.proofs.lemmas.Bool.{cases_eq, eq-eqb, ne_eqb}
@@ -14,18 +13,19 @@ use Rattle.acl_policy.specs.declared.policy.PolicyFault.{PolicyFault}
 use Rattle.acl_policy.specs.declared.policy.PolicyFault.TheVariants as policy
 use Rattle.acl_policy.proofs.ReadingLaws as policies
 use Rattle.acl_policy.proofs.TextLaws as texts
+use Rattle.racl_io.specs.declared.capture_bytes.CaptureBytes.{CaptureBytes}
 use Rattle.racl_io.specs.declared.fault.Fault.{Fault}
 use Rattle.racl_io.specs.declared.fault.Fault.TheVariants.{Twice, Write}
 use Rattle.racl_io.specs.declared.totals_and_truncation.Captured.{Captured}
+use Rattle.racl_io.specs.CapturePackets.{HavePacketsTold}
 use Rattle.racl_io.specs.Faults.{capture_fault, policy_fault}
 use Rattle.racl_io.specs.Inputs.{most_bytes}
-use Rattle.racl_io.specs.Reports.{packets_in}
+use Rattle.racl_io.specs.Tellings.{AreNamedBy, own_name}
 use Rattle.racl_io.proofs.LeftLemmas.{drop_one}
-use Rattle.racl_views.specs.CapturePackets.{HavePackets}
-use Rattle.racl_views.specs.declared.capture_bytes.CaptureBytes.{CaptureBytes}
 use Rattle.racl_report.specs.InterfaceInputs.{AreAllBytes, AreTakenApart, IsFaultApart, IsFaultBehind, IsOwnFault, IsReadApart, IsRightCapture, IsTakenApart, bytes_in, placeless}
 use Rattle.racl_report.specs.ReadInputs.{told_of}
 use Rattle.racl_report.specs.declared.interface_captures.PlacedFault.{PlacedFault}
+use Rattle.racl_report.proofs.NamedCaptures.{named_at, named_next, named_none}
 use Rattle.racl_report.proofs.CaptureLaws.{AreSame, HasRecords, one_capture, records_at_end}
 
 abbrev pub found_at : Fault → Option ℕ → PlacedFault
@@ -59,23 +59,29 @@ among_or_not number seen false none = inr (not_among number seen none)
 
 -- ---- what captures have
 
--- captures that were taken have their packets
-pub have_packets : (seen : List ℕ) (captures : List CaptureBytes) (packets : List PacketFacts) (told : List Captured) → AreTakenApart seen captures packets told
-    → HavePackets captures packets
-have_packets seen [] packets told taken = taken.0
-have_packets seen (capture ∷ captures) packets told (mine, rest, captured, others, parted, listed, is, more) =
-    (mine, rest, end_of is.truncated, parted, is.records, have_packets (capture.interface ∷ seen) captures rest others more)
+-- captures that were taken have their packets, and this is told of them
+pub told_apart : (seen : List ℕ) (captures : List CaptureBytes) (packets : List PacketFacts) (told : List Captured) → AreTakenApart seen captures packets told
+    → HavePacketsTold captures told packets
+told_apart seen [] packets told (none, nothing) = (nothing, none)
+told_apart seen (capture ∷ captures) packets told (mine, rest, captured, others, parted, listed, is, more) = (
+  mine,
+  rest,
+  captured,
+  others,
+  parted,
+  listed,
+  record { truncated = is.truncated; records = is.records; count = ap (λ (c : Captured). c.packets) is.told; cut = ap (λ (c : Captured). c.truncated) is.told },
+  told_apart (capture.interface ∷ seen) captures rest others more,
+)
 
--- and what is told of them counts these
-pub counted_apart : (seen : List ℕ) (captures : List CaptureBytes) (packets : List PacketFacts) (told : List Captured) → AreTakenApart seen captures packets told
-    → packets_in told ≡ length packets
-counted_apart seen [] packets told (none, nothing) = ap packets_in nothing ∙ sym (ap length none)
-counted_apart seen (capture ∷ captures) packets told (mine, rest, captured, others, parted, listed, is, more) =
-    let counts = counted_apart (capture.interface ∷ seen) captures rest others more in
-    let own = ap (λ (c : Captured). c.packets) is.told in
-    let whole = ap packets_in listed in
-    let sizes = ap length parted ∙ length-append mine rest in
-    omega arith
+-- and it names each one's interface
+pub named_apart : (seen : List ℕ) (captures : List CaptureBytes) (packets : List PacketFacts) (told : List Captured) → AreTakenApart seen captures packets told
+    → AreNamedBy own_name packets told
+named_apart seen [] packets told (none, nothing) = named_none own_name packets told nothing
+named_apart seen (capture ∷ captures) packets told (mine, rest, captured, others, parted, listed, is, more) =
+    named_next own_name mine rest packets captured others told parted listed (ap (λ (c : Captured). c.packets) is.told)
+    (named_at capture.interface mine is.records.0 captured.named is.records.2 (ap (λ (c : Captured). c.named) is.told))
+    (named_apart (capture.interface ∷ seen) captures rest others more)
 
 one_taken : (seen : List ℕ) (capture : CaptureBytes) (ps qs : List PacketFacts) (c d : Captured) → AreBytes capture.bytes.items → IsTakenApart seen capture ps c
     → IsTakenApart seen capture qs d → (ps ≡ qs) × (c ≡ d)

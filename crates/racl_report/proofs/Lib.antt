@@ -1,3 +1,4 @@
 pub mod CaptureLaws
 pub mod InterfaceLaws
+pub mod NamedCaptures
 pub mod ReadInputLemmas

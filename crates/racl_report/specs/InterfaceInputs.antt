@@ -4,12 +4,12 @@ use Rattle.packet_view.specs.Bytes.{AreBytes}
 use Rattle.packet_view.specs.Captures.{End, IsCapture, IsCaptureAt, PacketFacts, RecordFacts, end_of}
 use Rattle.acl_policy.specs.Policies.{IsAmong, IsPolicyFault, IsPolicyText, PolicyFacts}
 use Rattle.acl_policy.specs.declared.policy.PolicyFault.{PolicyFault}
+use Rattle.racl_io.specs.declared.capture_bytes.CaptureBytes.{CaptureBytes}
 use Rattle.racl_io.specs.declared.fault.Fault.{Fault}
 use Rattle.racl_io.specs.declared.fault.Fault.TheVariants.{Twice}
 use Rattle.racl_io.specs.declared.totals_and_truncation.Captured.{Captured}
 use Rattle.racl_io.specs.Faults.{IsFaultOfCapture, policy_fault}
 use Rattle.racl_io.specs.Inputs.{most_bytes}
-use Rattle.racl_views.specs.declared.capture_bytes.CaptureBytes.{CaptureBytes}
 use Rattle.racl_report.specs.ReadInputs.{told_of}
 use Rattle.racl_report.specs.declared.interface_captures.PlacedFault.{PlacedFault}
 

@@ -1,10 +1,8 @@
 pub mod BehindTotals
-pub mod CapturesEnds
 pub mod Endings
 pub mod InterfaceInputs
 pub mod ReadInputs
 pub mod RunReports
 pub mod Saves
 pub mod Statuses
-pub mod WrittenReports
 pub mod inner

@@ -7,8 +7,7 @@ ghost use Rattle.racl_io.specs.Inputs.{most_bytes};
 ghost use Rattle.racl_report.specs.InterfaceInputs.{AreAllBytes, AreTakenApart, IsFaultBehind, IsOwnFault, IsTakenApart, bytes_in, placeless};
 
 use packet_view::check_capture;
-use racl_io::{Captured, Fault};
-use racl_views::CaptureBytes;
+use racl_io::{CaptureBytes, Captured, Fault};
 use std::alloc::Global;
 
 /// A policy's text, and the captures of interfaces in their order. Together they have no more bytes than an input may.

@@ -2,15 +2,13 @@
 #![tactic(auto)]
 
 mod asked_report;
-mod end_of_captures;
 mod interface_captures;
 mod message_texts;
 mod program_ending;
 mod saved_packets;
 mod text_behind_totals;
 
-pub use asked_report::{view_behind, write_lines};
-pub use end_of_captures::write_captures_end;
+pub use asked_report::view_behind;
 pub use interface_captures::{InterfaceInput, PlacedFault, is_interface_seen, told_of_interfaces};
 pub use message_texts::{
     Ending, Frames, FramesRemark, Hint, KindRemark, Message, Shortage, Unopened, shown_name,
