@@ -69,7 +69,7 @@ lines_behind wording n (one ∷ others) (behind, plain, are) (here, each) =
     ∙ sym (lines_in_both wording (n + 1) (next + 1) (packets_in one.batch) (packets_of others) one.said (said_of others) here (omega arith))
 
 -- their packets are those of the turns
-packets_listed : (judged : List (JudgedBatch Verdict)) → packets_of judged ≡ flat_map packets_in (batches_of judged)
+pub packets_listed : (judged : List (JudgedBatch Verdict)) → packets_of judged ≡ flat_map packets_in (batches_of judged)
 packets_listed [] = refl
 packets_listed (one ∷ others) = ap (λ (ps : List PacketFacts). packets_in one.batch ++ ps) (packets_listed others)
 

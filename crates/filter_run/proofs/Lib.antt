@@ -2,6 +2,7 @@ pub mod ArrivalLemmas
 mod CaptureLemmas
 mod CapturesReportLemmas
 mod EndLemmas
+pub mod InTurnLemmas
 mod LaneLemmas
 pub mod LineLemmas
 pub mod NumberLemmas
@@ -17,3 +18,5 @@ pub mod SaveLemmas
 pub mod ShardedLemmas
 mod TakeLemmas
 pub mod TellLemmas
+pub mod TurnLineLemmas
+mod TurnReportLemmas

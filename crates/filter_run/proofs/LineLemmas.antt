@@ -1,5 +1,6 @@
 -- Packets that are told in lines: what is written behind what was written.
-use Rattle.std.proofs.Common.{◌≡◌, ◌∙◌, ◌<◌, ◌+◌, ◌-◌, ◌^◌, ◌++◌, ℕ, List, [], ◌∷◌, Option, ap, arith, length, refl, subst, sym}
+use Rattle.std.proofs.Common.{◌≡◌, ◌∙◌, ◌<◌, ◌+◌, ◌-◌, ◌^◌, ◌++◌, ℕ, List, [], ◌∷◌, Option, Result, Ok, Err, ap, arith, length, refl, subst, sym}
+use Rattle.std.specs.Prelude.{IfOk, ⊤}
 use Rattle.std.proofs.lemmas.List.{length-append}
 use Rattle.std.proofs.KnownBytes.{Appends-nil, Appends-trans}
 use Rattle.std.specs.Io.KnownBytes.{Appends}
@@ -8,12 +9,12 @@ use Rattle.racl_io.specs.declared.fault.Fault.{Fault}
 use Rattle.racl_io.specs.declared.fault.Fault.TheVariants as fault
 use Rattle.racl_io.specs.Reports.{passed, without_pages}
 use Rattle.racl_io.specs.Sinks.{GotFront}
-use Rattle.racl_io.specs.Tellings.{IsTellingFault, Wording, with_write}
+use Rattle.racl_io.specs.Tellings.{HasToldText, IsTellingFault, Wording, with_write}
 use Rattle.racl_io.proofs.ReportLemmas.{passed_of_both, without_pages_of_both}
 use Rattle.racl_io.proofs.TellingLemmas.{front_on}
 use Rattle.filter_run.specs.Batches.{JudgedBatch, said_of}
-use Rattle.filter_run.specs.Lines.{AreSame, HasCutLines, HasToldLines, IsFresh, batch_text, text_of}
-use Rattle.filter_run.specs.Observers.{IsCutAt, TellsMore}
+use Rattle.filter_run.specs.Lines.{AreSame, HasCounts, HasCutLines, HasToldLines, IsFresh, batch_text, text_of}
+use Rattle.filter_run.specs.Observers.{HasHeard, IsCutAt, TellsMore}
 use Rattle.filter_run.specs.declared.told_lines.ToldLines.{ToldLines}
 use Rattle.filter_run.proofs.RunLemmas.{flat_push}
 
@@ -22,7 +23,20 @@ pub text_push : (wording : Wording) (batches : List (JudgedBatch Verdict)) (batc
     → text_of wording (batches ++ batch ∷ []) ≡ text_of wording batches ++ batch_text wording batch
 text_push wording batches batch = flat_push (batch_text wording) batches batch
 
+-- these are counted behind those before
+pub counts_more : {L W : Type 0} (old new : ToldLines L W) (said : List Verdict) → new.packets ≡ old.packets + length said → new.passed ≡ old.passed + passed said
+    → new.without_pages ≡ old.without_pages + without_pages said → (before : List Verdict) → HasCounts old before → HasCounts new (before ++ said)
+counts_more old new said packets passing lacking before counts = record {
+  packets = let both = length-append before said in let e = counts.packets in omega arith;
+  passing = let both = passed_of_both before said in let e = counts.passing in omega arith;
+  lacking = let both = without_pages_of_both before said in let e = counts.lacking in omega arith;
+}
+
 module _ {L W : Type 0} (wording : L → Wording) (bytes : W → Option (List ℕ)) (failures : W → ℕ) where
+  pub lines_counts : (begun : ToldLines L W) (judged : List (JudgedBatch Verdict)) (now : ToldLines L W) → HasToldLines wording bytes failures begun judged now
+      → HasCounts now (said_of judged)
+  lines_counts begun judged now told = record { packets = told.packets; passing = told.passing; lacking = told.lacking }
+
   -- nothing was told
   pub lines_begun : (lines : ToldLines L W) → IsFresh lines → failures lines.writer.now < 2 ^ 64 - 1 → HasToldLines wording bytes failures lines [] lines
   lines_begun lines fresh few = record {
@@ -52,11 +66,10 @@ module _ {L W : Type 0} (wording : L → Wording) (bytes : W → Option (List �
   -- a batch was told
   pub lines_more : (old new : ToldLines L W) (batch : JudgedBatch Verdict) → AreSame old new → wording new.teller.now ≡ wording old.teller.now
       → Appends (bytes old.writer.now) (bytes new.writer.now) (batch_text (wording old.teller.now) batch) → failures new.writer.now ≡ failures old.writer.now
-      → new.packets ≡ old.packets + length batch.said → new.passed ≡ old.passed + passed batch.said → new.without_pages ≡ old.without_pages + without_pages batch.said
-      → TellsMore (HasToldLines wording bytes failures) old batch new
+      → ((before : List Verdict) → HasCounts old before → HasCounts new (before ++ batch.said)) → TellsMore (HasToldLines wording bytes failures) old batch new
   unfolding same_on line_text line_said
-  lines_more old new batch same words wrote sound packets passing lacking begun earlier told =
-      let all = line_said old batch begun earlier told in
+  lines_more old new batch same words wrote sound counted begun earlier told =
+      let counts = subst (HasCounts new) (sym (line_said old batch begun earlier told)) (counted (said_of earlier) (lines_counts begun earlier old told)) in
       record {
         same = same_on begun old new told.same same;
         words = words ∙ told.words;
@@ -65,9 +78,9 @@ module _ {L W : Type 0} (wording : L → Wording) (bytes : W → Option (List �
             (batch_text (wording old.teller.now) batch) told.text wrote);
         few = told.few;
         sound = sound ∙ told.sound;
-        packets = let e = ap length all in let both = length-append (said_of earlier) batch.said in let before = told.packets in omega arith;
-        passing = let e = ap passed all in let both = passed_of_both (said_of earlier) batch.said in let before = told.passing in omega arith;
-        lacking = let e = ap without_pages all in let both = without_pages_of_both (said_of earlier) batch.said in let before = told.lacking in omega arith;
+        packets = counts.packets;
+        passing = counts.passing;
+        lacking = counts.lacking;
       }
 
   -- a batch couldn't be told
@@ -97,3 +110,12 @@ module _ {L W : Type 0} (wording : L → Wording) (bytes : W → Option (List �
     failed = failed ∙ ap (λ n. n + 1) told.sound;
   }
   lines_cut old new batch found same words wrong failed begun earlier told = absurd wrong
+
+  -- it was told or couldn't be
+  pub lines_heard : (old new : ToldLines L W) (batch : JudgedBatch Verdict) (result : Result ⊤ Fault) → AreSame old new → wording new.teller.now ≡ wording old.teller.now
+      → HasToldText bytes failures old.writer.now new.writer.now (batch_text (wording old.teller.now) batch) result
+      → IfOk result (λ _. (before : List Verdict) → HasCounts old before → HasCounts new (before ++ batch.said))
+      → HasHeard (HasToldLines wording bytes failures) (HasCutLines wording bytes failures) old new batch result
+  unfolding lines_more lines_cut
+  lines_heard old new batch (Ok x) same words told counted = lines_more old new batch same words told.0 told.1 counted
+  lines_heard old new batch (Err found) same words told counted = lines_cut old new batch found same words told.0 told.1

@@ -35,11 +35,11 @@ zip_push R [] (b ∷ ys) x y all last = absurd all
 zip_push R (a ∷ xs) [] x y all last = absurd all
 zip_push R (a ∷ xs) (b ∷ ys) x y (here, all) last = (here, zip_push R xs ys x y all last)
 
-total_push : (all : List BatchFacts) (batch : BatchFacts) → total (all ++ batch ∷ []) ≡ total all + length batch.records
+pub total_push : (all : List BatchFacts) (batch : BatchFacts) → total (all ++ batch ∷ []) ≡ total all + length batch.records
 total_push [] batch = omega arith
 total_push (one ∷ all) batch = let more = total_push all batch in omega arith
 
-latest_both : (ps qs : List PacketFacts) → latest_of (ps ++ qs) ≡ max (latest_of ps) (latest_of qs)
+pub latest_both : (ps qs : List PacketFacts) → latest_of (ps ++ qs) ≡ max (latest_of ps) (latest_of qs)
 latest_both [] qs = omega arith
 latest_both (p ∷ ps) qs = let more = latest_both ps qs in omega arith
 

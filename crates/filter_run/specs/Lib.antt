@@ -1,10 +1,12 @@
 pub mod Batches
 pub mod Both
 pub mod CaptureReports
+pub mod CapturesInTurn
 pub mod ComingCaptures
 pub mod Filters
 pub mod Judges
 pub mod Lines
+pub mod LinesInTurn
 pub mod Observers
 pub mod OneCapture
 pub mod OwnReports
@@ -13,5 +15,6 @@ pub mod Saving
 pub mod Sharded
 pub mod Sources
 pub mod Starts
+pub mod TurnReports
 pub mod Turns
 pub mod inner

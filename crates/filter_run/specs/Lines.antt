@@ -18,6 +18,12 @@ pub record IsFresh {L W : Type 0} (lines : ToldLines L W) : Type 0 where
   pub passing : lines.passed ≡ 0
   pub lacking : lines.without_pages ≡ 0
 
+-- what was said of packets is counted
+pub record HasCounts {L W : Type 0} (lines : ToldLines L W) (said : List Verdict) : Type 0 where
+  pub packets : lines.packets ≡ length said
+  pub passing : lines.passed ≡ passed said
+  pub lacking : lines.without_pages ≡ without_pages said
+
 -- what is told of a batch, by its packets' numbers
 abbrev pub batch_text : Wording → JudgedBatch Verdict → List ℕ
 batch_text wording judged = lines_at wording (numbers_in judged.batch) (packets_in judged.batch) judged.said

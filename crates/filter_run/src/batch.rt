@@ -42,7 +42,9 @@ impl Batch {
     }
 
     /// The room of its bytes, to be used again.
-    pub fn into_room(self) -> ReadBuffer {
+    pub fn into_room(self) -> ReadBuffer
+        ensures { result ≡ self.bytes }
+    {
         let Batch { bytes, .. } = self;
         bytes
     }

@@ -1,7 +1,6 @@
 //! The report on one capture, whose packets are told in lines, and saved, while they come.
 ghost use Rattle.std.specs.Prelude.{◌≡◌, ◌+◌, ◌-◌, ◌<◌, ◌≤◌, ◌^◌, [], IfOk, IfSome, MatchResult, length};
 ghost use Rattle.racl_io.specs.Inputs.{most_bytes};
-ghost use Rattle.racl_io.specs.Reports.{is_truncated};
 ghost use Rattle.racl_io.specs.Transfers.{GaveAtMost};
 ghost use Rattle.capture_stream.specs.Lives.{AreCounted, HaveFailed, with_read};
 ghost use Rattle.capture_stream.specs.Savings.{manner_of, outputs};
@@ -15,7 +14,7 @@ use crate::running::run;
 use crate::saved_records::SavedRecords;
 use crate::told_lines::ToldLines;
 use capture_stream::{Judge, Saver};
-use racl_io::{Captured, Fault, Sink, Source, Teller, Totals};
+use racl_io::{Fault, Sink, Source, Teller, Totals, is_truncated};
 use std::alloc::Global;
 
 /// A capture whose header was read, and who judges its packets.
@@ -35,13 +34,6 @@ pub struct ReportedCapture<J> {
     pub judges: J,
     /// The totals over these.
     pub totals: Totals,
-}
-
-/// Whether a capture ends within a record.
-pub fn is_any_cut(captures: &[Captured]) -> bool
-    ensures { result ≡ is_truncated captures.now }
-{
-    captures.iter().any(|captured| captured.truncated)
 }
 
 /// Judges all packets of a capture from its start on. After each read what is told of all packets whose records were read whole is
@@ -88,7 +80,7 @@ pub fn report_capture<J: Judge + Drop, L: Teller, K: Saver, R: Source, W: Sink>(
     let _reader = source.into_reader();
     match ran {
         Ok(captures) => {
-            let totals = observers.0.totals(is_any_cut(&captures));
+            let totals = observers.0.totals(is_truncated(&captures));
             let OneFilter { inner } = judge;
             Ok(ReportedCapture {
                 judges: inner,

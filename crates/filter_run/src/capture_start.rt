@@ -3,6 +3,9 @@
 use packet_view::Order;
 use std::alloc::Global;
 
+/// How many bytes the header of a capture has.
+pub const HEADER_BYTES: usize = 24;
+
 /// Where the records of a capture begin.
 #[derive(Drop)]
 pub struct CaptureStart {

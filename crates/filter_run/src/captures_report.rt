@@ -7,13 +7,12 @@ ghost use Rattle.capture_stream.specs.Lives.{AreCounted, with_read};
 ghost use Rattle.filter_run.specs.ComingCaptures.{HasToldCaptures, IsFaultOfComing};
 ghost use Rattle.filter_run.specs.inner.Parts.{or_long_at};
 
-use crate::capture_report::is_any_cut;
 use crate::coming_captures::{ComingCaptures, new_lanes};
 use crate::one_filter::OneFilter;
 use crate::running::run;
 use crate::told_lines::ToldLines;
 use capture_stream::{Arrivals, FaultAt, Judge};
-use racl_io::{Captured, Fault, Sink, Teller, Totals};
+use racl_io::{Captured, Fault, Sink, Teller, Totals, is_truncated};
 use std::alloc::Global;
 
 /// What came of several captures whose packets were told.
@@ -75,7 +74,7 @@ pub fn report_captures<J: Judge + Drop, L: Teller, A: Arrivals, W: Sink>(
     let _arrivals = source.into_arrivals();
     match ran {
         Ok(cuts) => {
-            let totals = lines.totals(is_any_cut(&cuts));
+            let totals = lines.totals(is_truncated(&cuts));
             let OneFilter { inner } = judge;
             Ok(ReportedCaptures {
                 judges: inner,

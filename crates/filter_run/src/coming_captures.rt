@@ -10,15 +10,13 @@ ghost use Rattle.filter_run.specs.inner.Lanes.{AreLanes, HasWaiting, IsHeadFault
 ghost use Rattle.filter_run.specs.inner.Parts.{HasPartedLane, HasTakenBytes, HasTakenEnd, IsEmptyBatch, cut_in, long_at};
 
 use crate::batch::Batch;
+use crate::capture_start::HEADER_BYTES;
 use crate::source::{CaptureSource, Step};
 use capture_stream::{Arrival, Arrivals, FaultAt, find_records};
 use packet_view::{Order, Stop, capture_header};
 use racl_io::{Captured, Fault, ReadBuffer};
 use std::alloc::{AllocError, Global};
 use std::mem::swap;
-
-/// How many bytes the header of a capture has.
-const HEADER_BYTES: usize = 24;
 
 /// How many numbers interfaces can have.
 const INTERFACES: usize = 256;

@@ -8,7 +8,7 @@ ghost use Rattle.capture_shards.specs.inner.OwnTests.{own_among};
 ghost use Rattle.filter_run.specs.OwnReports.{HasToldAllOwn, IsOwnFault};
 ghost use Rattle.filter_run.specs.Starts.{most_at, start_facts};
 
-use crate::capture_report::{OpenCapture, is_any_cut};
+use crate::capture_report::OpenCapture;
 use crate::one_capture::OneCapture;
 use crate::one_filter::OneFilter;
 use crate::running::run;
@@ -17,7 +17,7 @@ use crate::sharded::Sharded;
 use crate::told_lines::ToldLines;
 use capture_shards::Shard;
 use capture_stream::{Judge, Saver};
-use racl_io::{Fault, ReadBuffer, Sink, Source, Teller, Totals};
+use racl_io::{Fault, ReadBuffer, Sink, Source, Teller, Totals, is_truncated};
 use std::alloc::Global;
 
 /// A capture whose header was read, and the shard whose packets are judged, told and saved; all are, where there is none.
@@ -103,7 +103,7 @@ pub fn report_share<J: Judge + Drop, L: Teller, K: Saver, R: Source, W: Sink>(
     let _reader = source.into_inner().into_reader();
     match ran {
         Ok(captures) => {
-            let totals = observers.0.totals(is_any_cut(&captures));
+            let totals = observers.0.totals(is_truncated(&captures));
             let OneFilter { inner } = judge;
             Ok(ReportedShare {
                 judges: inner,

@@ -1,6 +1,5 @@
 //! The packets of a shard, of those that another source gives.
-ghost use Rattle.std.specs.Prelude.{◌≡◌, IfOk, None, Some, max, true};
-ghost use Rattle.packet_view.specs.CheckedCaptures.{remaining};
+ghost use Rattle.std.specs.Prelude.{◌≡◌, IfOk, None, Some};
 ghost use Rattle.racl_io.specs.declared.fault.Fault.{Fault};
 ghost use Rattle.capture_shards.specs.OwnRecords.{latest_of};
 ghost use Rattle.capture_shards.specs.inner.OwnTests.{own_of};
@@ -8,10 +7,10 @@ ghost use Rattle.filter_run.specs.Batches.{IsWhole, batch_facts, packets_in};
 ghost use Rattle.filter_run.specs.Sharded.{IsOwnBatch};
 
 use crate::batch::Batch;
+use crate::latest_second::latest_where;
 use crate::source::{CaptureSource, Step};
 use capture_shards::{OwnRecords, Shard, records_of_shard};
 use capture_stream::{FaultAt, find_records};
-use packet_view::Packets;
 use racl_io::{Fault, ReadBuffer};
 use std::alloc::{AllocError, Global};
 use std::mem::swap;
@@ -50,21 +49,6 @@ impl<S> Sharded<S> {
 struct OwnPart {
     batch: Batch,
     latest: u32,
-}
-
-// The latest second of any packet, among these and those before, of which this is the latest, where it is asked for.
-fn latest_where(asked: bool, before: u32, packets: Packets<'_>) -> u32
-    ensures { asked ≡ true → result ≡ max before (latest_of (remaining packets.entry)) }
-{
-    let mut latest = before;
-    let mut left = packets;
-    if !asked {
-        return latest;
-    }
-    'packets: while let Some(packet) = left.next() {
-        latest = latest.max(packet.moment);
-    }
-    latest
 }
 
 // The shard's packets of a batch, which may have none.

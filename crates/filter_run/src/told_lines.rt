@@ -3,7 +3,7 @@
 use crate::batch::Batch;
 use crate::numbered_lines::tell_numbered;
 use crate::observer::Observer;
-use racl_io::{Fault, Sink, Teller, Totals, without_pages};
+use racl_io::{Captured, Fault, Sink, Teller, Totals, without_pages};
 use session_state::Verdict;
 use std::alloc::Global;
 
@@ -58,11 +58,12 @@ impl<'t, 'w, L, W> ToldLines<'t, 'w, L, W> {
 }
 
 impl<'t, 'w, L: Teller, W: Sink> ToldLines<'t, 'w, L, W> {
-    ghost use Rattle.std.specs.Prelude.{◌≡◌, ◌-◌, ◌<◌, ◌^◌, IfOk, length};
+    ghost use Rattle.std.specs.Prelude.{◌≡◌, ◌+◌, ◌-◌, ◌<◌, ◌^◌, ◌++◌, IfOk, List, length};
+    ghost use Rattle.session_state.specs.declared.verdict.Verdict.{Verdict};
     ghost use Rattle.racl_io.specs.Reports;
     ghost use Rattle.racl_io.specs.Tellings.{HasToldText};
     ghost use Rattle.filter_run.specs.Batches.{IsWhole, batch_facts, packets_in};
-    ghost use Rattle.filter_run.specs.Lines.{batch_text};
+    ghost use Rattle.filter_run.specs.Lines.{AreSame, HasCounts, batch_text};
 
     // Tells the packets of a batch, and answers how many of them pass.
     fn tell(&mut self, batch: &Batch, said: &[Verdict]) -> Result<u64, Fault>
@@ -83,6 +84,38 @@ impl<'t, 'w, L: Teller, W: Sink> ToldLines<'t, 'w, L, W> {
             }
         }
     }
+
+    /// Tells the packets of a batch, and counts them.
+    pub fn tell_counted(&mut self, batch: &Batch, said: &[Verdict]) -> Result<(), Fault>
+        requires sound { W.failures self.old.writer.now < 2 ^ 64 - 1 }
+        requires whole { IsWhole batch.now }
+        requires each { length said.now ≡ length (packets_in (batch_facts batch.now)) }
+        requires fits { (before : List Verdict) × HasCounts self.old before × (length before + length said.now < 2 ^ 64) }
+        ensures told { HasToldText W.bytes W.failures self.old.writer.now self.new.writer.now (batch_text (L.wording self.old.teller.now) (record { batch = batch_facts batch.now; said = said.now })) result }
+        ensures counts { IfOk result (λ _. (before : List Verdict) → HasCounts self.old before → HasCounts self.new (before ++ said.now)) }
+        ensures words { L.wording self.new.teller.now ≡ L.wording self.old.teller.now }
+        ensures same { AreSame self.old self.new }
+    {
+        let passed = match self.tell(batch, said) {
+            Ok(passed) => passed,
+            Err(fault) => return Err(fault),
+        };
+        self.packets += said.len() as u64;
+        self.passed += passed;
+        self.without_pages += without_pages(said);
+        Ok(())
+    }
+
+    /// Tells, behind its packets, whether this capture ended within a record.
+    pub fn tell_cut(&mut self, captured: &Captured) -> Result<(), Fault>
+        requires { W.failures self.old.writer.now < 2 ^ 64 - 1 }
+        ensures told { HasToldText W.bytes W.failures self.old.writer.now self.new.writer.now ((L.wording self.old.teller.now).cut captured.now) result }
+        ensures counts { (said : List Verdict) → HasCounts self.old said → HasCounts self.new said }
+        ensures words { L.wording self.new.teller.now ≡ L.wording self.old.teller.now }
+        ensures same { AreSame self.old self.new }
+    {
+        self.teller.tell_cut(self.writer, captured)
+    }
 }
 
 impl<'t, 'w, L: Teller, W: Sink> Observer<Verdict> for ToldLines<'t, 'w, L, W> {
@@ -93,13 +126,6 @@ impl<'t, 'w, L: Teller, W: Sink> Observer<Verdict> for ToldLines<'t, 'w, L, W> {
     ghost cut = { λ begun batches fault now. HasCutLines L.wording W.bytes W.failures begun batches fault now };
 
     fn packets(&mut self, batch: &Batch, said: &[Verdict]) -> Result<(), Fault> {
-        let passed = match self.tell(batch, said) {
-            Ok(passed) => passed,
-            Err(fault) => return Err(fault),
-        };
-        self.packets += said.len() as u64;
-        self.passed += passed;
-        self.without_pages += without_pages(said);
-        Ok(())
+        self.tell_counted(batch, said)
     }
 }

@@ -12,7 +12,7 @@ returns-in-Ok-clause-told g c =
     let saves = ran.told.1.same in
     told_lent g.J.Judge.became g.J.Judge.judged g.L.Teller.wording g.K.Saver.saved g.K.Saver.failures g.R.Source.bytes g.R.Source.failures g.W.Sink.bytes g.W.Sink.failures
     c.new-source.result c.run-ran.new.source c.args.capture.judges _ c.run-ran.new.observer (start_facts c.args.capture.start) c.args.reader.now _ c.args.teller.now c.args.writer.now _
-    c.args.saver.now _ c.run-ran.new.judge c.in-Ok.captures.items (record { judges = c.run-ran.new.judge.inner; totals = c.totals-totals.result }) c.is_any_cut.result
+    c.args.saver.now _ c.run-ran.new.judge c.in-Ok.captures.items (record { judges = c.run-ran.new.judge.inner; totals = c.totals-totals.result }) c.is_truncated.result
     ran (search rules) c.totals-totals.ensures refl (record {
       same_start = c.new-source.ensures.start;
       saves_order = refl;

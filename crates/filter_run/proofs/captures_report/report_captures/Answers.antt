@@ -13,8 +13,8 @@ returns-in-Ok-ran-clause-told g c =
     let lines = ran.told.same in
     lent_told g.J.Judge.became g.J.Judge.judged g.L.Teller.wording g.W.Sink.bytes g.W.Sink.failures g.A.Arrivals.parts g.A.Arrivals.failures g.A.Arrivals.left g.A.Arrivals.unread
     c.new-source.result c.run-ran.new.source c.args.judges c.new-lines.result c.run-ran.new.observer c.args.arrivals.now _ c.args.teller.now c.args.writer.now _
-    c.run-ran.new.judge c.in-Ok-ran.cuts.items (record { judges = c.run-ran.new.judge.inner; totals = c.totals-totals.result; cuts = c.in-Ok-ran.cuts }) c.is_any_cut.result
-    (g.A.Arrivals.whole c.args.arrivals.now) ran (c.is_any_cut.ensures ∙ ap is_truncated c.deref.ensures.value) c.totals-totals.ensures refl refl (record {
+    c.run-ran.new.judge c.in-Ok-ran.cuts.items (record { judges = c.run-ran.new.judge.inner; totals = c.totals-totals.result; cuts = c.in-Ok-ran.cuts }) c.is_truncated.result
+    (g.A.Arrivals.whole c.args.arrivals.now) ran (c.is_truncated.ensures ∙ ap is_truncated c.deref.ensures.value) c.totals-totals.ensures refl refl (record {
       comes = c.new-source.ensures.arrivals;
       words = c.new-lines.ensures.teller;
       writes = c.new-lines.ensures.writer;

@@ -14,7 +14,7 @@ returns-in-Ok-clause-told g c =
     own_all_lent g.J.Judge.became g.J.Judge.judged g.L.Teller.wording g.K.Saver.saved g.K.Saver.failures g.R.Source.bytes g.R.Source.failures g.W.Sink.bytes g.W.Sink.failures
     _ c.run-ran.new.source c.args.share.capture.judges _ c.run-ran.new.observer (start_facts c.args.share.capture.start) c.args.reader.now _ c.args.teller.now c.args.writer.now _
     c.args.saver.now _ c.run-ran.new.judge c.in-Ok.captures.items
-    (record { judges = c.run-ran.new.judge.inner; totals = c.totals-totals.result; seen = c.run-ran.new.source.seen; latest = c.run-ran.new.source.latest }) c.is_any_cut.result
+    (record { judges = c.run-ran.new.judge.inner; totals = c.totals-totals.result; seen = c.run-ran.new.source.seen; latest = c.run-ran.new.source.latest }) c.is_truncated.result
     ran (search rules) c.totals-totals.ensures refl refl refl (record {
       none = refl;
       no_second = refl;

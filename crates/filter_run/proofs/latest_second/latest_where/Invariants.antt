@@ -1,7 +1,7 @@
 use Rattle.std.proofs.Common.{◌≡◌, length, max}
 use Rattle.packet_view.specs.CheckedCaptures.{remaining}
 use Rattle.capture_shards.specs.OwnRecords.{latest_of}
-use Rattle.filter_run.proofs.sharded.latest_where.Given as goal
+use Rattle.filter_run.proofs.latest_second.latest_where.Given as goal
 
 -- of the latest so far and those that are left
 abbrev pub invariant-packets : goal.invariant-packets
