@@ -1,3 +1,4 @@
+pub mod AnswerLaws
 pub mod CarriedLaws
 pub mod EndLaws
 pub mod FewLaws

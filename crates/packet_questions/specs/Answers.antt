@@ -64,15 +64,12 @@ AreDefaultTimes times = (times.established ≡ 86400) × (times.transient ≡ 12
 abbrev pub answered_of : List Verdict → List Captured
 answered_of verdicts = record { named = None; packets = length verdicts; truncated = false } ∷ []
 
+abbrev pub told_facts : PolicyFacts → List ℕ → List PacketFacts → List Verdict → RunFacts
+told_facts policy text packets verdicts =
+    record { policy = policy; text = text; packets = packets; verdicts = verdicts; captures = answered_of verdicts; shown = Every }
+
 abbrev pub answer_facts : PolicyFacts → List ℕ → List AskedFacts → List Verdict → RunFacts
-answer_facts policy text asked verdicts = record {
-  policy = policy;
-  text = text;
-  packets = map packet_asked asked;
-  verdicts = verdicts;
-  captures = answered_of verdicts;
-  shown = Every;
-}
+answer_facts policy text asked verdicts = told_facts policy text (map packet_asked asked) verdicts
 
 -- a line for each packet, explained where that is asked, and the totals
 abbrev pub AreAnswers : Bool → RunFacts → List ℕ → Type 0

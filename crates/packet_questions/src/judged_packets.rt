@@ -49,6 +49,7 @@ fn verdicts_on<'a, T: Threads + Wait + Sync>(
     ensures ok { IfOk result (λ v. HavePages v.items → AreVerdicts (layout_of ⟦<ShapeV4 as Shape>⟧ ⟦<ShapeV6 as Shape>⟧)
         filter.now.times (policy_facts filter.now.policy) (map packet_facts packets.now) v.items) }
     ensures few { IfOk result (λ v. length packets.now ≤ 64 → HavePages v.items) }
+    ensures each { IfOk result (λ v. length v.items ≡ length packets.now) }
     ensures fault { IfErr result (λ fault. fault ≡ Fault.Memory) }
 {
     flow_shapes_are_sound();
@@ -85,6 +86,7 @@ pub fn judged_in<T: Threads + Wait + Sync>(
 ) -> Result<Judged, QuestionFault>
     ensures ok { IfOk result (λ judged. AreVerdictsOnAsked (layout_of ⟦<ShapeV4 as Shape>⟧ ⟦<ShapeV6 as Shape>⟧) filter.now.times
         (policy_facts filter.now.policy) (words_of_each (texts said.now)) (map asked_facts judged.asked.items) judged.verdicts.items) }
+    ensures each { IfOk result (λ judged. length judged.verdicts.items ≡ length judged.asked.items) }
     ensures fault { IfErr result (IsTextFault (policy_facts filter.now.policy) (words_of_each (texts said.now))) }
 {
     let asked = match asked_in(alloc, filter, said) {
