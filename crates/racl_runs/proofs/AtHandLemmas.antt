@@ -1,5 +1,5 @@
 -- An input with captures as digits, of which all was read: what is answered of it.
-use Rattle.std.proofs.Common.{◌≡◌, ◌∙◌, ◌≤◌, ◌⊎◌, ◌++◌, ℕ, zero, suc, List, [], ◌∷◌, Option, Some, Ok, Err, ap, drop, length, refl, sym, subst, inl, inr}
+use Rattle.std.proofs.Common.{◌≡◌, ◌∙◌, ◌≤◌, ◌⊎◌, ◌++◌, ℕ, zero, suc, List, Bool, [], ◌∷◌, Option, Some, Ok, Err, ap, append_assoc, drop, length, refl, sym, subst, inl, inr}
 use Rattle.std.proofs.KnownBytes.{Appends-trans}
 use Rattle.std.specs.Io.KnownBytes.{Appends}
 use Rattle.packet_view.specs.Bytes.{AreBytes}
@@ -16,12 +16,14 @@ use Rattle.racl_io.specs.Reports.{totals_of}
 use Rattle.racl_io.specs.Faults.{IsFaultOfBytes, IsFaultOfContent}
 use Rattle.racl_io.specs.Inputs.{most_bytes}
 use Rattle.racl_report.specs.ReadInputs.{HasPackets}
-use Rattle.racl_report.specs.RunReports.{AreLines, IsReportOn, JudgedFacts, Outcome, told_facts}
+use Rattle.racl_report.specs.RunReports.{IsReportOn, JudgedFacts, Outcome}
 use Rattle.racl_report.proofs.CaptureLaws.{AreFit, fit_bytes, no_fault_of_packets, one_fault_of_content, one_packets}
 use Rattle.racl_report.proofs.ReadInputLemmas.{read_in}
 use Rattle.racl_views.specs.Hits.{latest_second}
-use Rattle.racl_runs.specs.LiveRuns.{IsToldBehind}
+use Rattle.racl_io.specs.Tellings.{AreNamedBy, Wording, end_in, name_where, report_in, turns_in}
+use Rattle.racl_runs.specs.LiveRuns.{IsToldBehind, TellsBy}
 use Rattle.racl_runs.specs.Reads.{AnswersInput, HasMarked, HasReportedOn, IsReached, IsReportOfInput}
+use Rattle.racl_runs.specs.inner.ReportsAtHand.{HasToldAtHand}
 use Rattle.racl_runs.specs.declared.input_front.Marked.{Marked}
 use Rattle.racl_runs.proofs.OutcomeLemmas.{memory_answers, reported}
 use Rattle.racl_runs.proofs.RunLemmas.{fault_of_known_parts, fault_of_right_policy}
@@ -150,23 +152,39 @@ module _ (options : Options) (bytes : List ℕ) (marked : Marked) (has : HasMark
       (subst (λ (t : List ℕ). IsReportOn options t policy packets judged told.report) same told.told))
       (told.counted ∙ ap (λ (cs : List Captured). totals_of judged.outcome.verdicts cs) (sym told.reached.told))
 
--- the report on packets at hand: what workers said of them and what stands behind that, by rules that are those of the policy; and their lines
-pub reported_at_hand : (options : Options) (text : List ℕ) (policy : PolicyFacts) (packets : List PacketFacts) (told : List Captured) (verdicts : List Verdict) (lines behind : List ℕ)
-    (old mid new : Option (List ℕ)) (totals : Totals) (judged shown : List PacketFacts) (said : List Verdict) (ready : PolicyFacts) → judged ≡ packets → shown ≡ packets → said ≡ verdicts
-    → ready ≡ policy → IsToldBehind options text ready judged verdicts (latest_second judged) behind
-    → AreLines options.lines (record { policy = policy; text = text; packets = shown; verdicts = said; captures = told; shown = options.shown }) lines
-    → Appends old mid lines → totals ≡ totals_of said told → Appends mid new behind → HasReportedOn options text policy packets told old new totals
-reported_at_hand options text policy packets told verdicts lines behind old mid new totals judged shown said ready one two three four is are wrote counted more =
-    let by = subst (λ (p : PolicyFacts). IsToldBehind options text p packets verdicts (latest_second packets) behind) four
-    (subst (λ (ps : List PacketFacts). IsToldBehind options text ready ps verdicts (latest_second ps) behind) one is) in
-    let own = subst (λ (vs : List Verdict). AreLines options.lines (told_facts policy text packets (record { verdicts = vs; captures = told }) options.shown) lines) three
-    (subst (λ (ps : List PacketFacts). AreLines options.lines (told_facts policy text ps (record { verdicts = said; captures = told }) options.shown) lines) two are) in
-    let made = reported options text policy packets verdicts told lines behind by own in
+-- ---- the report on captures in turn
+
+-- what workers said of the packets, and what stands behind that, was told
+pub told_at_hand : (options : Options) (text : List ℕ) (policy : PolicyFacts) (wording at : Wording) (packets : List PacketFacts) (told : List Captured) (verdicts : List Verdict) (behind : List ℕ)
+    (old mid new : Option (List ℕ)) (totals : Totals) → at ≡ wording → length verdicts ≡ length packets
+    → IsToldBehind options text policy packets verdicts (latest_second packets) behind → totals ≡ totals_of verdicts told
+    → Appends old mid (turns_in wording 1 packets verdicts told) → Appends mid new (end_in at [] totals ++ behind)
+    → HasToldAtHand options text policy wording packets told old new totals
+told_at_hand options text policy wording at packets told verdicts behind old mid new totals same count is counted wrote more =
+    let turns = turns_in wording 1 packets verdicts told in
+    let rest : Appends mid new (wording.all (totals_of verdicts told) ++ behind) =
+    subst (λ (t : Totals). Appends mid new (wording.all t ++ behind)) counted (subst (λ (w : Wording). Appends mid new (w.all totals ++ behind)) same more) in
     record {
+      verdicts = verdicts;
+      count = count;
+      behind = behind;
+      is_behind = is;
+      written = subst (Appends old new) (sym (append_assoc turns (wording.all (totals_of verdicts told)) behind)) (Appends-trans old mid new turns _ wrote rest);
+      counted = counted;
+    }
+
+-- so it is the report, by rules that are those of the policy, where the lines tell packets so
+pub reported_at_hand : (options : Options) (text : List ℕ) (policy ready : PolicyFacts) (wording : Wording) (names : Bool) (packets : List PacketFacts) (told : List Captured)
+    (old new : Option (List ℕ)) (totals : Totals) → ready ≡ policy → AreNamedBy (name_where names) packets told → TellsBy names options text ready wording
+    → HasToldAtHand options text ready wording packets told old new totals → HasReportedOn options text policy packets told old new totals
+reported_at_hand options text policy ready wording names packets told old new totals same named tells has =
+    let lines = report_in wording packets has.verdicts told in
+    let made = reported options text ready packets has.verdicts told lines has.behind has.is_behind (tells.report packets has.verdicts told has.count named) in
+    subst (λ (p : PolicyFacts). HasReportedOn options text p packets told old new totals) same (record {
       judged = made.0;
       reached = made.1;
-      report = lines ++ behind;
+      report = lines ++ has.behind;
       told = made.2;
-      written = Appends-trans old mid new lines behind wrote more;
-      counted = counted ∙ ap (λ (vs : List Verdict). totals_of vs told) three ∙ ap (λ (o : Outcome). totals_of o.verdicts told) (sym made.3);
-    }
+      written = has.written;
+      counted = has.counted ∙ ap (λ (o : Outcome). totals_of o.verdicts told) (sym made.3);
+    })

@@ -1,7 +1,6 @@
 -- Captures as digits that are decoded one after the other.
-use Rattle.std.proofs.Common.{◌≡◌, ◌∙◌, ℕ, List, [], ◌∷◌, ◌++◌, Option, Some, None, length, append-nil, append_assoc, arith, refl, sym, ap, subst, inl, inr}
-use Rattle.std.proofs.lemmas.List.{length-append}
-use Rattle.packet_view.specs.Captures.{End, IsCaptureAt, PacketFacts, end_of}
+use Rattle.std.proofs.Common.{◌≡◌, ◌∙◌, ℕ, Bool, List, [], ◌∷◌, ◌++◌, Option, Some, None, append-nil, append_assoc, refl, sym, ap, subst, inl, inr}
+use Rattle.packet_view.specs.Captures.{IsCaptureAt, PacketFacts, end_of}
 use Rattle.acl_policy.specs.Policies.{IsAmong}
 use Rattle.racl_io.specs.declared.fault.Fault.{Fault}
 use Rattle.racl_io.specs.declared.fault.Fault.TheVariants.{Twice}
@@ -11,15 +10,16 @@ use Rattle.racl_io.specs.declared.marker_line.Numbered as mark
 use Rattle.racl_io.specs.declared.totals_and_truncation.Captured.{Captured}
 use Rattle.racl_io.specs.Faults.{IsFaultOfOne, IsRight}
 use Rattle.racl_io.specs.Inputs.{AreCaptures, AreCutDigits, DigitsFacts, NumberedFacts, numbered_facts}
-use Rattle.racl_io.specs.Reports.{packets_in}
+use Rattle.racl_io.specs.CapturePackets.{HavePacketsTold, IsToldAs}
+use Rattle.racl_io.specs.Tellings.{AreNamedBy, name_where}
 use Rattle.racl_io.proofs.PartingLemmas.{some_captures}
-use Rattle.racl_views.specs.CapturePackets.{HavePackets}
-use Rattle.racl_views.specs.declared.capture_bytes.CaptureBytes.{CaptureBytes}
-use Rattle.racl_report.specs.ReadInputs.{AreTaken, HasPackets, IsTaken, told_of}
+use Rattle.racl_io.specs.declared.capture_bytes.CaptureBytes.{CaptureBytes}
+use Rattle.racl_report.specs.ReadInputs.{HasPackets, IsTaken, told_of}
+use Rattle.racl_report.proofs.NamedCaptures.{named_alone, named_taken}
 use Rattle.racl_report.specs.inner.NumberedCaptures.{AreTakenFrom, IsFaultFrom}
 use Rattle.racl_runs.specs.declared.digit_captures.Decoded.{Decoded}
 use Rattle.racl_runs.specs.declared.digit_captures.DigitWalk.{DigitWalk}
-use Rattle.racl_runs.specs.inner.Captures.{AreDecoded, HasDecoded, HasTaken}
+use Rattle.racl_runs.specs.inner.Captures.{AreDecoded, HasDecoded, HasTaken, has_number}
 
 -- ---- what a capture's digits and those behind them come to
 
@@ -67,18 +67,28 @@ second_of_one seen number content is = go (some_captures number content).0 (some
 
 -- ---- a walk over all captures
 
--- one more capture has its packets behind the others
-one_more : (all : List CaptureBytes) (packets : List PacketFacts) (capture : CaptureBytes) (mine : List PacketFacts) (end : End) → HavePackets all packets
-    → IsCaptureAt capture.interface capture.bytes.items mine end → HavePackets (all ++ capture ∷ []) (packets ++ mine)
-one_more [] packets capture mine end none at =
-    (mine, [], end, ap (λ (ps : List PacketFacts). ps ++ mine) none ∙ sym (append-nil mine), at, refl)
-one_more (first ∷ all) packets capture mine end (own, rest, own_end, parted, is, have) at = (
+-- one more capture has its packets behind the others, and is told behind them
+one_more : (all : List CaptureBytes) (told : List Captured) (packets : List PacketFacts) (capture : CaptureBytes) (captured : Captured) (mine : List PacketFacts)
+    → HavePacketsTold all told packets → IsToldAs capture captured mine → HavePacketsTold (all ++ capture ∷ []) (told ++ captured ∷ []) (packets ++ mine)
+one_more [] told packets capture captured mine (nothing, none) is = (
+  mine,
+  [],
+  captured,
+  [],
+  ap (λ (ps : List PacketFacts). ps ++ mine) none ∙ sym (append-nil mine),
+  ap (λ (cs : List Captured). cs ++ captured ∷ []) nothing,
+  is,
+  (refl, refl),
+)
+one_more (first ∷ all) told packets capture captured mine (own, rest, one, others, parted, listed, at, have) is = (
   own,
   rest ++ mine,
-  own_end,
+  one,
+  others ++ captured ∷ [],
   ap (λ (ps : List PacketFacts). ps ++ mine) parted ∙ append_assoc own rest mine,
-  is,
-  one_more all rest capture mine end have at,
+  ap (λ (cs : List Captured). cs ++ captured ∷ []) listed,
+  at,
+  one_more all others rest capture captured mine have is,
 )
 
 -- what was taken of a capture whose digits were decoded
@@ -88,17 +98,28 @@ taken_of old seen number digits new first has =
     record { first = first; capture = has.capture.bytes.items; spelt = has.spelt; truncated = has.truncated; records = has.records; told = refl }
 
 -- a capture that was decoded behind others has its packets behind theirs
-pub have_more : (old : Decoded) (named : Option ℕ) (interface : ℕ) (digits : List ℕ) (new : Decoded) (packets : List PacketFacts) → HavePackets old.captures.items packets
-    → (has : HasDecoded old named interface digits new) → HavePackets new.captures.items (packets ++ has.packets)
+pub have_more : (old : Decoded) (named : Option ℕ) (interface : ℕ) (digits : List ℕ) (new : Decoded) (packets : List PacketFacts)
+    → HavePacketsTold old.captures.items old.told.items packets → (has : HasDecoded old named interface digits new)
+    → HavePacketsTold new.captures.items new.told.items (packets ++ has.packets)
 have_more old named interface digits new packets have has =
-    subst (λ (cs : List CaptureBytes). HavePackets cs (packets ++ has.packets)) (sym has.captures)
-    (one_more old.captures.items packets has.capture has.packets (end_of has.truncated) have
-    (subst (λ n. IsCaptureAt n has.capture.bytes.items has.packets (end_of has.truncated)) (sym has.at) has.records))
+    let captured = told_of named has.packets has.truncated in
+    subst (λ (ts : List Captured). HavePacketsTold new.captures.items ts (packets ++ has.packets)) (sym has.told)
+    (subst (λ (cs : List CaptureBytes). HavePacketsTold cs (old.told.items ++ captured ∷ []) (packets ++ has.packets)) (sym has.captures)
+    (one_more old.captures.items old.told.items packets has.capture captured has.packets have (record {
+      truncated = has.truncated;
+      records = subst (λ n. IsCaptureAt n has.capture.bytes.items has.packets (end_of has.truncated)) (sym has.at) has.records;
+      count = refl;
+      cut = refl;
+    })))
+
+-- none was decoded
+none_told : (captures : List CaptureBytes) (told : List Captured) → captures ≡ [] → told ≡ [] → HavePacketsTold captures told []
+none_told captures told none nothing = subst (λ (cs : List CaptureBytes). HavePacketsTold cs told []) (sym none) (nothing, refl)
 
 -- amid the captures of which this is the first
 pub record IsAmid (begun : Option NumberedFacts) (walk : DigitWalk) : Type 0 where
   pub packets : List PacketFacts
-  pub have : HavePackets walk.decoded.captures.items packets
+  pub have : HavePacketsTold walk.decoded.captures.items walk.decoded.told.items packets
   pub taken : (more : List PacketFacts) (others : List Captured) → AreTakenFrom walk.seen.items (numbered_facts walk.next) more others
       → AreTakenFrom [] begun (packets ++ more) (walk.decoded.told.items ++ others)
   pub fault : (fault : Fault) → IsFaultFrom walk.seen.items (numbered_facts walk.next) fault → IsFaultFrom [] begun fault
@@ -106,7 +127,7 @@ pub record IsAmid (begun : Option NumberedFacts) (walk : DigitWalk) : Type 0 whe
 pub amid_begun : (walk : DigitWalk) → walk.decoded.captures.items ≡ [] → walk.decoded.told.items ≡ [] → walk.seen.items ≡ [] → IsAmid (numbered_facts walk.next) walk
 amid_begun walk captures told none = record {
   packets = [];
-  have = subst (λ (cs : List CaptureBytes). HavePackets cs []) (sym captures) refl;
+  have = none_told walk.decoded.captures.items walk.decoded.told.items captures told;
   taken = λ more others taken.
       subst (λ told. AreTakenFrom [] (numbered_facts walk.next) more (told ++ others)) (sym told)
       (subst (λ seen. AreTakenFrom seen (numbered_facts walk.next) more others) none taken);
@@ -164,22 +185,13 @@ only_decoded old content new captures told has = record {
     records = has.records;
     told = has.told ∙ ap (λ (cs : List Captured). cs ++ told_of None has.packets has.truncated ∷ []) told;
   };
-  have = have_more old None 0 content new [] (subst (λ (cs : List CaptureBytes). HavePackets cs []) (sym captures) refl) has;
+  have = have_more old None 0 content new [] (none_told old.captures.items old.told.items captures told) has;
 }
 
--- what is told of captures counts their packets
-told_counts : (seen : List ℕ) (all : List DigitsFacts) (packets : List PacketFacts) (told : List Captured) → AreTaken seen all packets told
-    → packets_in told ≡ length packets
-told_counts seen [] packets told (none, nothing) = ap packets_in nothing ∙ sym (ap length none)
-told_counts seen (digits ∷ others) packets told (mine, rest, captured, behind, parted, listed, is, more) =
-    let counts = told_counts (digits.interface ∷ seen) others rest behind more in
-    let own = ap (λ (c : Captured). c.packets) is.told in
-    let whole = ap packets_in listed in
-    let sizes = ap length parted ∙ length-append mine rest in
-    omega arith
-
-pub counted_packets : (form : Form) (content : List ℕ) (packets : List PacketFacts) (told : List Captured) → HasPackets form content packets told
-    → packets_in told ≡ length packets
-counted_packets Binary content packets told has = let counts = ap packets_in has.told in omega arith
-counted_packets Hexadecimal content packets told has = let counts = ap packets_in has.told in omega arith
-counted_packets (Numbered number) content packets told (all, cut, taken) = told_counts [] all packets told taken
+-- captures that were decoded are named where they have numbers
+pub decoded_named : (form : Form) (content : List ℕ) (packets : List PacketFacts) (told : List Captured) → HasPackets form content packets told → (names : Bool)
+    → names ≡ has_number form → AreNamedBy (name_where names) packets told
+decoded_named Binary content packets told has names is = subst (λ (n : Bool). AreNamedBy (name_where n) packets told) (sym is) (named_alone Binary content packets told has)
+decoded_named Hexadecimal content packets told has names is = subst (λ (n : Bool). AreNamedBy (name_where n) packets told) (sym is) (named_alone Hexadecimal content packets told has)
+decoded_named (Numbered number) content packets told (all, cut, taken) names is =
+    subst (λ (n : Bool). AreNamedBy (name_where n) packets told) (sym is) (named_taken [] all packets told taken)

@@ -14,7 +14,7 @@ use Rattle.racl_io.specs.declared.fault.Fault.TheVariants as fault
 use Rattle.racl_io.specs.declared.totals_and_truncation.Totals.{Totals}
 use Rattle.racl_io.specs.Reports.{totals_of}
 use Rattle.racl_io.specs.Sinks.{GotFront}
-use Rattle.racl_io.specs.Tellings.{IsTellingFault, Wording, lines_in, told_alone, with_write}
+use Rattle.racl_io.specs.Tellings.{IsTellingFault, Wording, end_alone, lines_in, told_alone, with_write}
 use Rattle.racl_io.proofs.TellingLemmas.{alone_truncated, front_on}
 use Rattle.filter_run.specs.Starts.{Start, behind_header}
 use Rattle.capture_stream.specs.Lives.{HaveFailed}
@@ -119,14 +119,14 @@ module _ {J : Type 0} {Judged : J → List PacketFacts → List Verdict → Type
     all_lines = ap₂ (λ (l : List ℕ) (b : Bool). l ++ (end_of expectations totals ++ met_told b (length expectations)))
         (lines_told expectations 1 (packets_at 0 all.packets) all.verdicts (all.count ∙ sym (length-map all.packets (packet_at 0)))) is
 
-    pub end_told : (new : Option (List ℕ)) (at : Wording) → at ≡ unmet_wording expectations → Appends mid new (at.end totals ++ last)
+    pub end_told : (new : Option (List ℕ)) (at : Wording) → at ≡ unmet_wording expectations → Appends mid new (end_alone at totals ++ last)
         → HasComparedAll options expectations policy order before after old new (record { met = met; truncated = totals.truncated })
     end_told new at same more = record {
       totals = totals;
       judged = judged;
       by = by;
       written = subst (λ (b : List ℕ). Appends old new b) all_lines
-          (Appends-trans old mid new lines (end_of expectations totals ++ last) wrote (subst (λ (w : Wording). Appends mid new (w.end totals ++ last)) same more));
+          (Appends-trans old mid new lines (end_of expectations totals ++ last) wrote (subst (λ (w : Wording). Appends mid new (end_alone w totals ++ last)) same more));
       met = is;
       cut = refl;
     }
@@ -144,9 +144,9 @@ module _ {J : Type 0} {Judged : J → List PacketFacts → List Verdict → Type
     fault_at_end new whole spelt found wrong = absurd wrong
 
     pub end_fault : (new : Option (List ℕ)) (whole : List ℕ) → all.read ≡ whole ++ all.rest → (found : Fault) (at : Wording) → at ≡ unmet_wording expectations
-        → IsTellingFault mid new (at.end totals ++ last) found
+        → IsTellingFault mid new (end_alone at totals ++ last) found
         → IsLiveFault (ByLoneWorker options) (manner_by expectations) policy (behind_header order) before after (output old) (output new) found ⊎ HasCutEnd options expectations policy order before after old new found
-    end_fault new whole spelt found at same why = fault_at_end new whole spelt found (subst (λ (w : Wording). IsTellingFault mid new (w.end totals ++ last) found) same why)
+    end_fault new whole spelt found at same why = fault_at_end new whole spelt found (subst (λ (w : Wording). IsTellingFault mid new (end_alone w totals ++ last) found) same why)
 
 -- ---- The whole run
 

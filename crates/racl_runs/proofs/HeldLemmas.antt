@@ -9,6 +9,7 @@ use Rattle.racl_io.specs.declared.fault.Fault.TheVariants as fault
 use Rattle.racl_io.specs.declared.totals_and_truncation.Totals.{Totals}
 use Rattle.racl_io.specs.Inputs.{most_bytes}
 use Rattle.racl_io.specs.Tellings.{Wording, report_in, told_alone}
+use Rattle.racl_io.proofs.TellingLemmas.{alone_named}
 use Rattle.racl_options.specs.declared.settings.Options.{Options}
 use Rattle.capture_stream.specs.Savings.{Outputs, manner_of}
 use Rattle.capture_shards.specs.inner.OwnTests.{own_among}
@@ -50,10 +51,12 @@ module _ {K : Type 0} (options : Options) (bytes : List ℕ) (headed : Headed) (
       let truncated = is.truncated in
       let verdicts = is.is.verdicts in
       let behind = all_told options has.parts.policy policy wording packets truncated totals told.report is.is in
-      let lines = report_in wording packets verdicts truncated in
-      let made = reported options has.parts.policy policy packets verdicts (told_alone (length packets) truncated) lines is.is.behind behind
-      (tells.report packets verdicts truncated (is.count ∙ ap length (all_own packets))) in
-      let spelt = all_text options has.parts.policy policy wording packets truncated totals told.report is.is in
+      let captures = told_alone (length packets) truncated in
+      let each = is.count ∙ ap length (all_own packets) in
+      let lines = report_in wording packets verdicts captures in
+      let made = reported options has.parts.policy policy packets verdicts captures lines is.is.behind behind
+      (tells.report packets verdicts captures each (alone_named packets (length packets) truncated)) in
+      let spelt = all_text options has.parts.policy policy wording packets truncated totals told.report is.is each in
       let written = held_text old.report new.report text told.report none some told.written in
       headed_report options bytes headed has before after made.0 text totals fits (record {
         read = is.read;

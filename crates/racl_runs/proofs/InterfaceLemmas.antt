@@ -1,5 +1,6 @@
 -- What was judged of captures of interfaces that come apart, and the report on it.
-use Rattle.std.proofs.Common.{◌≡◌, ◌≢◌, ◌∙◌, ◌≤◌, ◌⊎◌, ◌+◌, ℕ, List, [], Option, None, length, refl, sym, ap, ap₂, subst, inl, inr}
+use Rattle.std.proofs.Common.{◌≡◌, ◌≢◌, ◌∙◌, ◌≤◌, ◌⊎◌, ◌+◌, ℕ, List, [], Option, None, Some, length, refl, sym, ap, ap₂, subst, inl, inr}
+use Rattle.std.specs.Io.KnownBytes.{Appends}
 use Rattle.packet_view.specs.Captures.{PacketFacts}
 use Rattle.acl_policy.specs.Policies.{IsPolicyFault, IsPolicyText, PolicyFacts}
 use Rattle.acl_policy.specs.declared.policy.PolicyFault.{PolicyFault}
@@ -16,11 +17,12 @@ use Rattle.racl_io.specs.declared.totals_and_truncation.Totals.{Totals}
 use Rattle.racl_io.specs.Faults.{policy_fault}
 use Rattle.racl_io.specs.Inputs.{most_bytes}
 use Rattle.racl_io.specs.Reports.{totals_of}
-use Rattle.racl_views.specs.declared.capture_bytes.CaptureBytes.{CaptureBytes}
+use Rattle.racl_io.specs.declared.capture_bytes.CaptureBytes.{CaptureBytes}
 use Rattle.racl_report.specs.InterfaceInputs.{AreAllBytes, AreTakenApart, IsFaultApart, IsFaultBehind, bytes_in, placeless}
 use Rattle.racl_report.specs.declared.interface_captures.PlacedFault.{PlacedFault}
 use Rattle.racl_report.specs.RunReports.{Outcome}
 use Rattle.racl_report.proofs.InterfaceLaws.{fault_not_write, found_at, no_fault_apart, one_fault_apart, one_read_apart, read_or_fault}
+use Rattle.racl_runs.proofs.AtHandLemmas.{held_text}
 use Rattle.racl_runs.proofs.OutcomeLemmas.{outcome_of}
 use Rattle.racl_runs.specs.InterfaceRuns.{HasOutcomeApart, HasRunApart, IsSystemApart}
 use Rattle.racl_runs.specs.Reads.{HasReportedOn}
@@ -63,11 +65,11 @@ outcome_of_interfaces size times text captures few =
       | inr found ↦ inr found
     ]
 
--- the report on what was judged of a text and captures
+-- the report on what was judged of a text and captures, which was held, and then written
 pub has_run_apart : (options : Options) (text : List ℕ) (captures : List CaptureBytes) (policy : PolicyFacts) (packets : List PacketFacts) (told : List Captured)
-    (old new : Option (List ℕ)) (totals : Totals) → length text + bytes_in captures ≤ most_bytes → IsPolicyText text policy → AreTakenApart [] captures packets told
-    → HasReportedOn options text policy packets told old new totals → HasRunApart options text captures old new totals
-has_run_apart options text captures policy packets told old new totals few says taken has = record {
+    (held : List ℕ) (old new : Option (List ℕ)) (totals : Totals) → length text + bytes_in captures ≤ most_bytes → IsPolicyText text policy → AreTakenApart [] captures packets told
+    → HasReportedOn options text policy packets told (Some []) (Some held) totals → Appends old new held → HasRunApart options text captures old new totals
+has_run_apart options text captures policy packets told held old new totals few says taken has wrote = record {
   policy = policy;
   packets = packets;
   judged = has.judged;
@@ -75,7 +77,7 @@ has_run_apart options text captures policy packets told old new totals few says 
   reached = record { by_workers = has.reached.by_workers; kept = has.reached.kept; by_one_thread = has.reached.by_one_thread; told = refl };
   report = has.report;
   told = has.told;
-  written = has.written;
+  written = subst (Appends old new) (held_text (Some []) (Some held) held has.report refl refl has.written) wrote;
   counted = has.counted ∙ ap (λ (cs : List Captured). totals_of has.judged.outcome.verdicts cs) (sym has.reached.told);
 }
 

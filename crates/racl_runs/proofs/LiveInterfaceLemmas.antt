@@ -14,9 +14,8 @@ use Rattle.racl_io.specs.declared.fault.Fault.TheVariants as fault
 use Rattle.racl_io.specs.declared.totals_and_truncation.Captured.{Captured}
 use Rattle.racl_io.specs.declared.totals_and_truncation.Totals.{Totals}
 use Rattle.racl_io.specs.Faults.{policy_fault}
-use Rattle.racl_io.specs.Tellings.{IsTellingFault, Wording, lines_in}
+use Rattle.racl_io.specs.Tellings.{IsTellingFault, Wording, end_in, lines_in}
 use Rattle.racl_io.proofs.TellingLemmas.{front_on}
-use Rattle.racl_report.specs.CapturesEnds.{captures_end}
 use Rattle.capture_stream.specs.Arrivals.{Gives, Part}
 use Rattle.filter_run.specs.ComingCaptures.{HasToldCaptures, HasToldFront, HasToldTurns, IsFaultOfComing}
 use Rattle.filter_run.specs.Turns.{AreTurns, AreTurnsToLong, Turn, cuts_of, packets_of, parts_of}
@@ -152,14 +151,14 @@ module _ {T : Type 0} (way : LiveWay) (tables : SizedTables) (dated : Dated (Cou
       lines = lines_in wording 1 (packets_of all.all.turns) all.all.verdicts
 
       abbrev end : List ℕ
-      end = captures_end options.lines (cuts_of all.all.turns) told.totals ++ behind
+      end = end_in wording (cuts_of all.all.turns) told.totals ++ behind
 
       abbrev is_report : IsReportOfTurns options way.text.now wording policy all.all.turns told.totals (lines ++ end)
       is_report = record { verdicts = all.all.verdicts; count = all.all.count; behind = behind; told = is_behind; counted = all.totals; all = refl }
 
-      pub all_told : (new : Option (List ℕ)) (cuts : List Captured) → cuts ≡ told.cuts.items → Appends mid new (captures_end options.lines cuts told.totals ++ behind)
+      pub all_told : (new : Option (List ℕ)) (at : Wording) (cuts : List Captured) → at ≡ wording → cuts ≡ told.cuts.items → Appends mid new (end_in at cuts told.totals ++ behind)
           → HasToldComing options way.text.now wording policy before after old new told.totals
-      all_told new cuts same more = record {
+      all_told new at cuts is same more = record {
         turns = all.all.turns;
         are = all.all.are;
         given = all_given;
@@ -168,7 +167,8 @@ module _ {T : Type 0} (way : LiveWay) (tables : SizedTables) (dated : Dated (Cou
         report = lines ++ end;
         is = is_report;
         written = Appends-trans old mid new lines end all.all.text
-            (subst (λ (cs : List Captured). Appends mid new (captures_end options.lines cs told.totals ++ behind)) (same ∙ all.cuts) more);
+            (subst (λ (w : Wording). Appends mid new (end_in w (cuts_of all.all.turns) told.totals ++ behind)) is
+            (subst (λ (cs : List Captured). Appends mid new (end_in at cs told.totals ++ behind)) (same ∙ all.cuts) more));
       }
 
       fault_at_end : (new : Option (List ℕ)) (found : FaultAt) (why : Fault) → found.fault ≡ why → found.interface ≡ None → IsTellingFault mid new end why
@@ -190,8 +190,10 @@ module _ {T : Type 0} (way : LiveWay) (tables : SizedTables) (dated : Dated (Cou
       })
       fault_at_end new found why is placeless wrong = absurd wrong
 
-      pub end_fault : (new : Option (List ℕ)) (cuts : List Captured) → cuts ≡ told.cuts.items → (found : FaultAt) (why : Fault) → (found.fault ≡ why) × (found.interface ≡ None)
-          → IsTellingFault mid new (captures_end options.lines cuts told.totals ++ behind) why
+      pub end_fault : (new : Option (List ℕ)) (at : Wording) (cuts : List Captured) → at ≡ wording → cuts ≡ told.cuts.items → (found : FaultAt) (why : Fault) → (found.fault ≡ why) × (found.interface ≡ None)
+          → IsTellingFault mid new (end_in at cuts told.totals ++ behind) why
           → IsFaultOfComing (AreFirstVerdicts T options) wording policy before after old new found ⊎ HasCutComing options way.text.now wording policy before after old new found
-      end_fault new cuts same found why (is, placeless) cut =
-          fault_at_end new found why is placeless (subst (λ (cs : List Captured). IsTellingFault mid new (captures_end options.lines cs told.totals ++ behind) why) (same ∙ all.cuts) cut)
+      end_fault new at cuts same listed found why (is, placeless) cut =
+          fault_at_end new found why is placeless
+          (subst (λ (w : Wording). IsTellingFault mid new (end_in w (cuts_of all.all.turns) told.totals ++ behind) why) same
+          (subst (λ (cs : List Captured). IsTellingFault mid new (end_in at cs told.totals ++ behind) why) (listed ∙ all.cuts) cut))

@@ -23,7 +23,8 @@ use Rattle.racl_io.specs.declared.fault.Fault.TheVariants.{Write}
 use Rattle.racl_io.specs.declared.totals_and_truncation.Totals.{Totals}
 use Rattle.racl_io.specs.Inputs.{most_bytes}
 use Rattle.racl_io.specs.Reports.{totals_of}
-use Rattle.racl_io.specs.Tellings.{Wording, lines_in, report_in, told_alone}
+use Rattle.racl_io.specs.Tellings.{Wording, end_alone, lines_in, report_in, told_alone}
+use Rattle.racl_io.proofs.TellingLemmas.{alone_named, report_alone}
 use Rattle.racl_report.specs.declared.saved_packets.Saves.{Saves}
 use Rattle.filter_run.specs.Starts.{Start, behind_header, most_at}
 use Rattle.capture_stream.specs.Lives.{HaveFailed}
@@ -198,13 +199,14 @@ module _ (options : Options) (text : List ℕ) (policy : PolicyFacts) (wording :
   pub all_counted : totals ≡ totals_of is.verdicts (told_alone (length packets) truncated)
   all_counted = is.counted ∙ ap (λ (ps : List PacketFacts). totals_of is.verdicts (told_alone (length ps) truncated)) (all_own packets)
 
-  pub all_text : report ≡ report_in wording packets is.verdicts truncated ++ is.behind
+  pub all_text : length is.verdicts ≡ length packets → report ≡ report_in wording packets is.verdicts (told_alone (length packets) truncated) ++ is.behind
   unfolding all_counted
-  all_text =
+  all_text each =
       let lines = lines_in wording 1 packets is.verdicts in
-      is.all ∙ ap (λ (l : List ℕ). l ++ (wording.end totals ++ is.behind)) (all_lines wording 1 packets is.verdicts)
-      ∙ ap (λ (t : Totals). lines ++ (wording.end t ++ is.behind)) all_counted
-      ∙ sym (append_assoc lines (wording.end (totals_of is.verdicts (told_alone (length packets) truncated))) is.behind)
+      is.all ∙ ap (λ (l : List ℕ). l ++ (end_alone wording totals ++ is.behind)) (all_lines wording 1 packets is.verdicts)
+      ∙ ap (λ (t : Totals). lines ++ (end_alone wording t ++ is.behind)) all_counted
+      ∙ sym (append_assoc lines (end_alone wording (totals_of is.verdicts (told_alone (length packets) truncated))) is.behind)
+      ∙ ap (λ (l : List ℕ). l ++ is.behind) (sym (report_alone wording packets is.verdicts truncated each))
 
 -- all bytes were read, and this is the report on them
 pub live_report : (options : Options) (text : List ℕ) (before left after : Option (List ℕ)) (policy : PolicyFacts) (order : Order) (wording : Wording) (totals : Totals) (report : List ℕ)
@@ -216,6 +218,8 @@ live_report options text before left after policy order wording totals report sa
     let truncated = is.truncated in
     let (known, records) = whole_capture before left after order head is.read is.rest is.packets truncated is.consumed is.ended is.records is.end in
     let told = all_told options text policy wording packets truncated totals report is.is in
+    let captures = told_alone (length packets) truncated in
+    let each = is.count ∙ ap length (all_own packets) in
     record {
       policy = policy;
       says = says;
@@ -229,11 +233,11 @@ live_report options text before left after policy order wording totals report sa
       stored = told.stored;
       kept = told.kept;
       told = record {
-        lines = report_in wording packets verdicts truncated;
-        are = tells.report packets verdicts truncated (is.count ∙ ap length (all_own packets));
+        lines = report_in wording packets verdicts captures;
+        are = tells.report packets verdicts captures each (alone_named packets (length packets) truncated);
         hits = told.hits;
-        told = told.told (told_alone (length packets) truncated);
-        all = all_text options text policy wording packets truncated totals report is.is ∙ ap (λ (more : List ℕ). report_in wording packets verdicts truncated ++ more) told.all;
+        told = told.told captures;
+        all = all_text options text policy wording packets truncated totals report is.is each ∙ ap (λ (more : List ℕ). report_in wording packets verdicts captures ++ more) told.all;
       };
       counted = all_counted options text policy wording packets truncated totals report is.is;
     }

@@ -10,7 +10,8 @@ use Rattle.acl_policy.specs.Policies.{PolicyFacts, policy_facts}
 use Rattle.session_state.specs.declared.verdict.Verdict.{Verdict}
 use Rattle.racl_io.specs.declared.fault.Fault.{Fault}
 use Rattle.racl_io.specs.declared.fault.Fault.TheVariants as fault
-use Rattle.racl_io.specs.Tellings.{IsTellingFault, Wording}
+use Rattle.racl_io.specs.Tellings.{IsTellingFault, Wording, end_alone, end_in, told_alone}
+use Rattle.racl_io.specs.declared.totals_and_truncation.Captured.{Captured}
 use Rattle.racl_io.proofs.TellingLemmas.{front_on}
 use Rattle.racl_options.specs.declared.settings.Options.{Options}
 use Rattle.capture_stream.specs.Lives.{AreCounted}
@@ -44,7 +45,7 @@ note_same options None n m k l same at = refl
 note_same options (Some shard) n m k l same at = ap₂ (note_for options (Some shard)) same at
 
 -- the latest second
-latest_same : (packets : List PacketFacts) → latest_of packets ≡ latest_second packets
+pub latest_same : (packets : List PacketFacts) → latest_of packets ≡ latest_second packets
 latest_same [] = refl
 latest_same (p ∷ packets) = ap (max p.moment) (latest_same packets)
 
@@ -105,7 +106,7 @@ module _ {T K : Type 0} (way : LiveWay) (tables : SizedTables) (counted : Counte
     module _ (note : Note) (behind text : List ℕ) (is_behind : IsToldBehind options way.text.now policy (own_packets own 1 packets) said (latest_second packets) behind)
         (text_is : text ≡ note (length packets) (latest_second packets) ++ behind) (new : Option (List ℕ)) where
       abbrev end : List ℕ
-      end = wording.end told.totals ++ text
+      end = end_alone wording told.totals ++ text
 
       abbrev report : List ℕ
       report = own_lines wording own packets said ++ end
@@ -126,19 +127,21 @@ module _ {T K : Type 0} (way : LiveWay) (tables : SizedTables) (counted : Counte
           behind = behind;
           told = is_behind;
           counted = all.counted;
-          all = ap (λ (t : List ℕ). own_lines wording own packets said ++ (wording.end told.totals ++ t)) text_is;
+          all = ap (λ (t : List ℕ). own_lines wording own packets said ++ (end_alone wording told.totals ++ t)) text_is;
         };
         count = all.all.by.count;
       }
 
-      pub own_end_told : (at : Wording) → at ≡ wording → Appends mid.report new (at.end told.totals ++ text)
+      pub own_end_told : (at : Wording) (captures : List Captured) → at ≡ wording → captures ≡ told_alone told.totals.packets told.totals.truncated
+          → Appends mid.report new (end_in at captures told.totals ++ text)
           → HasToldOwn options way.text.now note (manner_of wording Saved) policy own start before after old (outputs new mid.saver) told.totals
       unfolding is_report
-      own_end_told at same more = record {
+      own_end_told at captures same alone more = record {
         report = report;
         is = is_report;
         written = Appends-trans old.report mid.report new (own_lines wording own packets said) end all.all.text
-            (subst (λ (w : Wording). Appends mid.report new (w.end told.totals ++ text)) same more);
+            (subst (λ (w : Wording). Appends mid.report new (end_alone w told.totals ++ text)) same
+            (subst (λ (cs : List Captured). Appends mid.report new (end_in at cs told.totals ++ text)) alone more));
         pieces = all.all.by.pieces;
         each = all.all.by.each;
         spelt = all.all.by.spelt;
@@ -159,8 +162,11 @@ module _ {T K : Type 0} (way : LiveWay) (tables : SizedTables) (counted : Counte
       })
       fault_at_end found wrong = absurd wrong
 
-      pub own_end_fault : (found : Fault) (at : Wording) → at ≡ wording → IsTellingFault mid.report new (at.end told.totals ++ text) found
+      pub own_end_fault : (found : Fault) (at : Wording) (captures : List Captured) → at ≡ wording → captures ≡ told_alone told.totals.packets told.totals.truncated
+          → IsTellingFault mid.report new (end_in at captures told.totals ++ text) found
           → IsOwnFault T options (manner_of wording Saved) policy own start before after old (outputs new mid.saver) found
           ⊎ HasCutOwn options way.text.now note wording policy own start before after old.report new found
       unfolding fault_at_end
-      own_end_fault found at same why = fault_at_end found (subst (λ (w : Wording). IsTellingFault mid.report new (w.end told.totals ++ text) found) same why)
+      own_end_fault found at captures same alone why =
+          fault_at_end found (subst (λ (w : Wording). IsTellingFault mid.report new (end_alone w told.totals ++ text) found) same
+          (subst (λ (cs : List Captured). IsTellingFault mid.report new (end_in at cs told.totals ++ text) found) alone why))

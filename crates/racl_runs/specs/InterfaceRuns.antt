@@ -10,7 +10,7 @@ use Rattle.racl_options.specs.declared.settings.TableSize.{TableSize}
 use Rattle.racl_io.specs.declared.fault.Fault.TheVariants.{Memory, Write}
 use Rattle.racl_io.specs.declared.totals_and_truncation.Totals.{Totals}
 use Rattle.racl_io.specs.Reports.{totals_of}
-use Rattle.racl_views.specs.declared.capture_bytes.CaptureBytes.{CaptureBytes}
+use Rattle.racl_io.specs.declared.capture_bytes.CaptureBytes.{CaptureBytes}
 use Rattle.racl_report.specs.InterfaceInputs.{IsFaultApart, IsReadApart, placeless}
 use Rattle.racl_report.specs.RunReports.{IsReportOn, JudgedFacts, Outcome}
 use Rattle.racl_report.specs.declared.interface_captures.PlacedFault.{PlacedFault}

@@ -1,38 +1,26 @@
 -- A live run on several interfaces: captures come together, and their packets are told as their records become whole.
-use Rattle.std.specs.Prelude.{◌≡◌, ◌≢◌, ◌⊎◌, ◌++◌, ℕ, List, [], Option, None, Some, MatchResult, Result, length}
+use Rattle.std.specs.Prelude.{◌≡◌, ◌≢◌, ◌⊎◌, ◌++◌, true, ℕ, List, [], Option, None, MatchResult, Result, length}
 use Rattle.std.specs.Io.KnownBytes.{Appends}
 use Rattle.acl_policy.specs.Policies.{IsPolicyFault, IsPolicyText, PolicyFacts}
 use Rattle.acl_policy.specs.declared.policy.PolicyFault.{PolicyFault}
 use Rattle.session_state.specs.declared.verdict.Verdict.{Verdict}
-use Rattle.racl_options.specs.declared.settings.Lines.{Lines}
-use Rattle.racl_options.specs.declared.settings.Lines.TheVariants.{Plain, Explained, Json}
 use Rattle.racl_options.specs.declared.settings.Options.{Options}
 use Rattle.racl_io.specs.declared.fault.Fault.TheVariants.{Memory, Write}
 use Rattle.racl_io.specs.declared.totals_and_truncation.Totals.{Totals}
 use Rattle.racl_io.specs.Faults.{policy_fault}
 use Rattle.racl_io.specs.Reports.{totals_of}
-use Rattle.racl_io.specs.ShownReports.{line_shown}
 use Rattle.racl_io.specs.Sinks.{GotFront}
-use Rattle.racl_io.specs.Tellings.{Wording, lines_by, lines_in}
-use Rattle.racl_views.specs.PartTellings.{AreNamedLines, AreObjectLines, TellsLines}
-use Rattle.racl_views.specs.RunEntries.{RunFacts}
-use Rattle.racl_report.specs.CapturesEnds.{captures_end}
+use Rattle.racl_io.specs.Tellings.{Wording, end_in, lines_in}
 use Rattle.capture_stream.specs.Arrivals.{AreAllGiven, Gives, IsWhole, Part}
 use Rattle.filter_run.specs.ComingCaptures.{IsFaultOfComing}
 use Rattle.filter_run.specs.Turns.{AreTurns, Turn, cuts_of, packets_of, parts_of}
 use Rattle.capture_stream.specs.declared.arrivals.FaultAt.{FaultAt}
 use Rattle.racl_views.specs.Hits.{latest_second}
-use Rattle.racl_runs.specs.LiveRuns.{AreFirstVerdicts, IsToldBehind}
+use Rattle.racl_runs.specs.LiveRuns.{AreFirstVerdicts, IsToldBehind, TellsBy}
 
--- what is told of a run's packets, in the form that is asked for, where each line names its packet's interface
-abbrev pub AreNamed : Lines → RunFacts → List ℕ → Type 0
-AreNamed Plain run told = told ≡ lines_by (λ n packet verdict. line_shown run.shown (Some packet.interface) n verdict) 1 run.packets run.verdicts
-AreNamed Explained run told = AreNamedLines run told
-AreNamed Json run told = AreObjectLines run told
-
--- packets are told so by a policy with this text
+-- packets are told by a policy with this text, each with the name of its interface
 abbrev pub TellsNamed : Options → List ℕ → PolicyFacts → Wording → Type 0
-TellsNamed options text policy wording = TellsLines (AreNamed options.lines) (record { policy = policy; text = text; shown = options.shown }) wording
+TellsNamed = TellsBy true
 
 -- Workers judged the packets of these turns, in their order, and this is the report on them: their lines, what is told of captures
 -- that were cut, the totals over all of them, and what stands behind the totals.
@@ -43,7 +31,7 @@ pub record IsReportOfTurns (options : Options) (text : List ℕ) (wording : Word
   pub behind : List ℕ
   pub told : IsToldBehind options text policy (packets_of turns) verdicts (latest_second (packets_of turns)) behind
   pub counted : totals ≡ totals_of verdicts (cuts_of turns)
-  pub all : report ≡ lines_in wording 1 (packets_of turns) verdicts ++ (captures_end options.lines (cuts_of turns) totals ++ behind)
+  pub all : report ≡ lines_in wording 1 (packets_of turns) verdicts ++ (end_in wording (cuts_of turns) totals ++ behind)
 
 -- all parts of all captures came to their ends, in these turns, and the report on them was written
 pub record HasToldComing (options : Options) (text : List ℕ) (wording : Wording) (policy : PolicyFacts) (before after : Option (List Part))

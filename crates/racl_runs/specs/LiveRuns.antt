@@ -1,5 +1,5 @@
 -- A run over a capture that is told while it comes: its policy is text of its own, and sessions that have ended are removed.
-use Rattle.std.specs.Prelude.{◌≡◌, ◌≢◌, ◌<◌, ◌⊎◌, ◌++◌, ℕ, Bool, true, List, ◌∷◌, [], None, Option, IfSome, length}
+use Rattle.std.specs.Prelude.{◌≡◌, ◌≢◌, ◌<◌, ◌⊎◌, ◌++◌, ℕ, Bool, false, true, List, ◌∷◌, [], None, Option, Some, IfSome, length}
 use Rattle.std.specs.Io.KnownBytes.{Appends, Consumes, IsAtEnd}
 use Rattle.packet_view.specs.Captures.{HasFileHeader, IsCaptureAt, IsHeaderFault, PacketFacts, end_of}
 use Rattle.packet_view.specs.declared.capture.CaptureFault.{CaptureFault}
@@ -16,14 +16,14 @@ use Rattle.racl_io.specs.declared.fault.Fault.TheVariants.{Memory, Read, Write}
 use Rattle.racl_io.specs.declared.totals_and_truncation.Totals.{Totals}
 use Rattle.racl_io.specs.Faults.{capture_fault, policy_fault}
 use Rattle.racl_io.specs.Reports.{totals_of}
-use Rattle.racl_io.specs.ShownReports.{lines_shown}
+use Rattle.racl_io.specs.ShownReports.{line_shown, lines_shown}
 use Rattle.racl_io.specs.declared.totals_and_truncation.Captured.{Captured}
 use Rattle.racl_io.specs.Sinks.{GotFront}
-use Rattle.racl_io.specs.Tellings.{Wording}
+use Rattle.racl_io.specs.Tellings.{Wording, lines_by, name_where}
 use Rattle.racl_io.specs.Transfers.{GaveAtMost}
 use Rattle.racl_views.specs.Hits.{AreHits, latest_second}
 use Rattle.racl_views.specs.Stored.{StoredFacts}
-use Rattle.racl_views.specs.PartTellings.{AreExplainedLines, AreObjectLines, TellsRun}
+use Rattle.racl_views.specs.PartTellings.{AreExplainedLines, AreNamedLines, AreObjectLines, TellsRun}
 use Rattle.racl_views.specs.RunEntries.{RunFacts}
 use Rattle.filter_run.specs.CaptureReports.{IsLiveFault}
 use Rattle.filter_run.specs.Starts.{behind_header}
@@ -83,10 +83,27 @@ AreFirstLines Plain run told = told ≡ lines_shown run.shown None 1 run.verdict
 AreFirstLines Explained run told = AreExplainedLines run told
 AreFirstLines Json run told = AreObjectLines run told
 
--- packets are told by a policy with this text, of a capture that comes, as its report in the form that is asked for tells them
+-- the same, where each line names its packet's interface
+abbrev pub AreNamed : Lines → RunFacts → List ℕ → Type 0
+AreNamed Plain run told = told ≡ lines_by (λ n packet verdict. line_shown run.shown (Some packet.interface) n verdict) 1 run.packets run.verdicts
+AreNamed Explained run told = AreNamedLines run told
+AreNamed Json run told = AreObjectLines run told
+
+-- the second where interfaces are named, else the first
+abbrev pub AreLinesBy : Bool → Lines → RunFacts → List ℕ → Type 0
+AreLinesBy false = AreFirstLines
+AreLinesBy true = AreNamed
+
+-- The wording tells packets by a policy with this text in the form that is asked for, with the names of interfaces or without them:
+-- the lines of packets that come are the report's, and what it tells of captures in turn is the report on them. So the text behind a
+-- capture and that of the totals are the report's, too: of captures without packets nothing else is told.
+abbrev pub TellsBy : Bool → Options → List ℕ → PolicyFacts → Wording → Type 0
+TellsBy names options text policy wording =
+    TellsRun (name_where names) (AreLinesBy names options.lines) (AreLines options.lines) (record { policy = policy; text = text; shown = options.shown }) wording
+
+-- without them
 abbrev pub TellsAsAsked : Options → List ℕ → PolicyFacts → Wording → Type 0
-TellsAsAsked options text policy wording =
-    TellsRun (AreFirstLines options.lines) (AreLines options.lines) (record { policy = policy; text = text; shown = options.shown }) wording
+TellsAsAsked = TellsBy false
 
 -- What stands behind the totals of packets with these verdicts: hits, and the sessions that stood in the tables then. Sessions are
 -- counted at this second; where they may be removed, those are told that are live then.

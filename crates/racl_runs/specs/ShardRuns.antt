@@ -11,7 +11,7 @@ use Rattle.racl_io.specs.declared.fault.Fault.TheVariants.{Write}
 use Rattle.racl_io.specs.declared.totals_and_truncation.Totals.{Totals}
 use Rattle.racl_io.specs.Reports.{totals_of}
 use Rattle.racl_io.specs.Sinks.{GotFront}
-use Rattle.racl_io.specs.Tellings.{Wording, told_alone}
+use Rattle.racl_io.specs.Tellings.{Wording, end_alone, told_alone}
 use Rattle.capture_stream.specs.Lives.{HaveFailed}
 use Rattle.filter_run.specs.OwnReports as share
 use Rattle.filter_run.specs.OwnReports.{own_lines}
@@ -53,7 +53,7 @@ pub record IsOwnReport (options : Options) (text : List ℕ) (note : Note) (word
   pub behind : List ℕ
   pub told : IsToldBehind options text policy (own_packets own 1 packets) verdicts (latest_second packets) behind
   pub counted : totals ≡ totals_of verdicts (told_alone (length (own_packets own 1 packets)) truncated)
-  pub all : report ≡ own_lines wording own packets verdicts ++ (wording.end totals ++ (note (length packets) (latest_second packets) ++ behind))
+  pub all : report ≡ own_lines wording own packets verdicts ++ (end_alone wording totals ++ (note (length packets) (latest_second packets) ++ behind))
 
 -- Why not all of them were told, before the totals: workers who go on handed over verdicts on one's own packets.
 abbrev pub IsOwnFault : {K : Type 0} → Type 0 → Options → Manner K → PolicyFacts → Own → Start → Option (List ℕ) → Option (List ℕ) → Outputs K → Outputs K

@@ -8,3 +8,4 @@ pub mod InterfaceChecks
 pub mod Kept
 pub mod LiveEnds
 pub mod OwnRuns
+pub mod ReportsAtHand

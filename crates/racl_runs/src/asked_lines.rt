@@ -1,13 +1,12 @@
 //! What tells the packets of a run in the form that is asked for.
 ghost use Rattle.std.specs.Prelude.{IfOk};
 ghost use Rattle.acl_policy.specs.Policies.{IsPolicyText, policy_facts};
-ghost use Rattle.racl_runs.specs.LiveInterfaceRuns.{TellsNamed};
-ghost use Rattle.racl_runs.specs.LiveRuns.{TellsAsAsked};
+ghost use Rattle.racl_runs.specs.LiveRuns.{TellsBy};
 ghost use Rattle.racl_runs.specs.inner.AskedWordings.{asked_wording};
 
 use crate::live_run::LiveWay;
 use packet_view::Packets;
-use racl_io::{Fault, NamedLines, PlainLines, Sink, Teller, Totals};
+use racl_io::{Captured, Fault, ReportLines, Sink, Teller, Totals};
 use racl_options::Lines;
 use racl_views::{ExplainedLines, ObjectLines};
 use session_state::Verdict;
@@ -16,48 +15,29 @@ use std::alloc::{AllocError, Global};
 /// Lines of one of the forms.
 #[derive(Drop)]
 pub enum AskedLines<'t> {
-    Plain(PlainLines),
-    Named(NamedLines),
+    Plain(ReportLines),
     Explained(ExplainedLines<'t>),
     Objects(ObjectLines<'t>),
 }
 
 impl<'t> AskedLines<'t> {
-    /// Those of one capture, whose interface they don't name.
-    pub fn new(alloc: Global, way: LiveWay<'t, '_>) -> Result<AskedLines<'t>, AllocError>
+    /// Lines in the form that is asked for. With `names` each line names its packet's interface; an object does so always.
+    pub fn new(
+        alloc: Global,
+        way: LiveWay<'t, '_>,
+        names: bool,
+    ) -> Result<AskedLines<'t>, AllocError>
         requires { IsPolicyText way.text.now (policy_facts way.filter.now.policy.now) }
-        ensures { IfOk result (λ lines. TellsAsAsked way.entry.options.now way.entry.text.now (policy_facts way.entry.filter.now.policy.now) (asked_wording lines)) }
+        ensures { IfOk result (λ lines. TellsBy names way.entry.options.now way.entry.text.now (policy_facts way.entry.filter.now.policy.now) (asked_wording lines)) }
     {
         let (shown, policy) = (way.options.shown, way.filter.policy);
         match way.options.lines {
             Lines::Plain => {
-                let plain = PlainLines::new(alloc, shown)?;
+                let plain = ReportLines::new(alloc, shown, names)?;
                 Ok(AskedLines::Plain(plain))
             }
             Lines::Explained => {
-                let explained = ExplainedLines::new(alloc, shown, policy, way.text)?;
-                Ok(AskedLines::Explained(explained))
-            }
-            Lines::Json => {
-                let objects = ObjectLines::new(alloc, shown, policy, way.text)?;
-                Ok(AskedLines::Objects(objects))
-            }
-        }
-    }
-
-    /// Those of captures of several interfaces, which name each packet's.
-    pub fn naming(alloc: Global, way: LiveWay<'t, '_>) -> Result<AskedLines<'t>, AllocError>
-        requires { IsPolicyText way.text.now (policy_facts way.filter.now.policy.now) }
-        ensures { IfOk result (λ lines. TellsNamed way.entry.options.now way.entry.text.now (policy_facts way.entry.filter.now.policy.now) (asked_wording lines)) }
-    {
-        let (shown, policy) = (way.options.shown, way.filter.policy);
-        match way.options.lines {
-            Lines::Plain => {
-                let plain = NamedLines::new(alloc, shown)?;
-                Ok(AskedLines::Named(plain))
-            }
-            Lines::Explained => {
-                let explained = ExplainedLines::naming(alloc, shown, policy, way.text)?;
+                let explained = ExplainedLines::new(alloc, shown, names, policy, way.text)?;
                 Ok(AskedLines::Explained(explained))
             }
             Lines::Json => {
@@ -80,18 +60,29 @@ impl<'t> Teller for AskedLines<'t> {
     ) -> Result<u64, Fault> {
         match self {
             AskedLines::Plain(lines) => lines.tell(writer, others, packets, verdicts),
-            AskedLines::Named(lines) => lines.tell(writer, others, packets, verdicts),
             AskedLines::Explained(lines) => lines.tell(writer, others, packets, verdicts),
             AskedLines::Objects(lines) => lines.tell(writer, others, packets, verdicts),
         }
     }
 
-    fn tell_end<W: Sink>(&mut self, writer: &mut W, totals: &Totals) -> Result<(), Fault> {
+    fn tell_cut<W: Sink>(&mut self, writer: &mut W, captured: &Captured) -> Result<(), Fault> {
         match self {
-            AskedLines::Plain(lines) => lines.tell_end(writer, totals),
-            AskedLines::Named(lines) => lines.tell_end(writer, totals),
-            AskedLines::Explained(lines) => lines.tell_end(writer, totals),
-            AskedLines::Objects(lines) => lines.tell_end(writer, totals),
+            AskedLines::Plain(lines) => lines.tell_cut(writer, captured),
+            AskedLines::Explained(lines) => lines.tell_cut(writer, captured),
+            AskedLines::Objects(lines) => lines.tell_cut(writer, captured),
+        }
+    }
+
+    fn tell_end<W: Sink>(
+        &mut self,
+        writer: &mut W,
+        captures: &[Captured],
+        totals: &Totals,
+    ) -> Result<(), Fault> {
+        match self {
+            AskedLines::Plain(lines) => lines.tell_end(writer, captures, totals),
+            AskedLines::Explained(lines) => lines.tell_end(writer, captures, totals),
+            AskedLines::Objects(lines) => lines.tell_end(writer, captures, totals),
         }
     }
 }

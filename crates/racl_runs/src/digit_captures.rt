@@ -4,12 +4,14 @@ ghost use Rattle.racl_io.specs.declared.fault.Fault.TheVariants.{Memory};
 ghost use Rattle.racl_io.specs.declared.marker_line.Form.TheVariants.{Binary, Hexadecimal};
 ghost use Rattle.racl_io.specs.declared.marker_line.Form.TheVariants as form;
 ghost use Rattle.racl_io.specs.Faults.{IsFaultOfContent, IsFaultOfOne};
+ghost use Rattle.racl_runs.specs.inner.Captures;
 ghost use Rattle.racl_runs.specs.inner.Captures.{AreDecoded, HasDecoded, HasTaken, IsFaultAt};
 
 use packet_view::check_capture;
-use racl_io::{Captured, Digits, Fault, Form, Numbered, cut_at_numbered_marker, decode_digits};
+use racl_io::{
+    CaptureBytes, Captured, Digits, Fault, Form, Numbered, cut_at_numbered_marker, decode_digits,
+};
 use racl_report::is_interface_seen;
-use racl_views::CaptureBytes;
 use std::alloc::Global;
 
 /// Captures that were decoded, in their order.
@@ -120,6 +122,13 @@ fn decode_each(alloc: Global, first: Numbered<'_>) -> Result<Decoded, Fault>
     }
     let DigitWalk { decoded, .. } = walk;
     Ok(decoded)
+}
+
+/// Whether captures behind a marker line of this form have numbers.
+pub fn has_number(form: Form) -> bool
+    ensures { result ≡ Captures.has_number form }
+{
+    matches!(form, Form::Numbered(_))
 }
 
 /// Decodes all captures as digits that follow a marker line of this form: the only one, or those with numbers.

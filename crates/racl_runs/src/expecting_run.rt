@@ -1,7 +1,7 @@
 //! One run over a capture whose verdicts are compared with expected ones while it comes.
 ghost use Rattle.std.specs.Prelude.{◌≡◌, ◌-◌, ◌<◌, ◌^◌, ◌++◌, MatchResult};
 ghost use Rattle.acl_policy.specs.Policies.{policy_facts};
-ghost use Rattle.racl_io.specs.Tellings.{HasToldText, with_write};
+ghost use Rattle.racl_io.specs.Tellings.{HasToldText, end_alone, with_write};
 ghost use Rattle.capture_stream.specs.Lives.{with_read};
 ghost use Rattle.compared_verdicts.specs.Meeting.{met_told};
 ghost use Rattle.racl_runs.specs.ExpectingRuns.{ComparesAll, EndsExpecting};
@@ -19,7 +19,7 @@ use filter_run::{CaptureStart, OpenCapture, ReportedCapture, report_capture};
 use flow_filter::InterfaceFilters;
 use flow_workers::Filter;
 use packet_view::Order;
-use racl_io::{Fault, Piece, Sink, Source, Teller, Totals};
+use racl_io::{Fault, Piece, Sink, Source, Teller, Totals, captured_alone};
 use racl_options::Options;
 use std::alloc::Global;
 use std::sync::Wait;
@@ -62,9 +62,10 @@ fn tell_last<L: Teller, W: Sink>(
     count: usize,
 ) -> Result<(), Fault>
     requires { W.failures writer.old < 2 ^ 64 - 1 }
-    ensures { HasToldText W.bytes W.failures writer.old writer.new ((L.wording teller.old).end totals.now ++ met_told met count) result }
+    ensures { HasToldText W.bytes W.failures writer.old writer.new (end_alone (L.wording teller.old) totals.now ++ met_told met count) result }
 {
-    match teller.tell_end(writer, totals) {
+    let captures = [captured_alone(totals)];
+    match teller.tell_end(writer, &captures, totals) {
         Ok(()) => write_met(writer, piece, met, count),
         Err(fault) => Err(fault),
     }

@@ -1,5 +1,5 @@
 //! The report on what an input has behind its front, which is held until all of the input was judged.
-ghost use Rattle.std.specs.Prelude.{◌≡◌, ◌≢◌, ◌⊎◌, ◌+◌, ◌-◌, ◌<◌, ◌≤◌, ◌^◌, Err, IfErr, IfOk, length};
+ghost use Rattle.std.specs.Prelude.{◌≡◌, ◌≢◌, ◌+◌, ◌-◌, ◌<◌, ◌≤◌, ◌^◌, Err, IfErr, IfOk, length};
 ghost use Rattle.racl_io.specs.Inputs.{most_bytes};
 ghost use Rattle.racl_io.specs.Transfers.{HasReadWithin};
 ghost use Rattle.racl_io.specs.declared.fault.Fault.TheVariants.{Memory};
@@ -8,26 +8,19 @@ ghost use Rattle.racl_runs.specs.Reads.{AnswersInput, AnswersRead, HasHeaded, Ha
 ghost use Rattle.racl_runs.specs.inner.HeldTexts.{without_device};
 
 use crate::asked_lines::AskedLines;
-use crate::captures_at_hand::{AtHand, report_at_hand};
-use crate::digit_captures::{Decoded, decode_captures};
+use crate::captures_at_hand::{AtHand, HeldReport, report_at_hand};
+use crate::digit_captures::{Decoded, decode_captures, has_number};
 use crate::input_front::{Headed, Marked};
 use crate::live_run::{LiveHead, LiveWay, tell_capture};
 use crate::run_plan::expected_packets;
 use capture_stream::Unsaved;
 use filter_run::CaptureStart;
-use racl_io::{Device, Fault, Source, Totals};
+use racl_io::{Device, Fault, Source};
 use racl_options::Options;
 use std::alloc::Global;
 use std::sync::Wait;
 use std::thread::Threads;
 use std::time::Clock;
-
-/// A report, before any of it is written, and the totals in it.
-#[derive(Drop)]
-pub struct HeldReport {
-    pub text: Vec<u8>,
-    pub totals: Totals,
-}
 
 // The fault of a report that is held: what can't be held wants memory.
 fn of_held(fault: Fault) -> Fault
@@ -75,7 +68,7 @@ pub fn report_headed<R: Source, T: Clock + Threads + Wait + Sync>(
         text: &bytes[..text],
         filter: &ready,
     };
-    let Ok(lines) = AskedLines::new(alloc, way) else {
+    let Ok(lines) = AskedLines::new(alloc, way, false) else {
         return Err(Fault::Memory);
     };
     let start = CaptureStart {
@@ -131,16 +124,10 @@ pub fn report_digits<T: Clock + Threads + Wait + Sync>(
         text: &bytes[..text],
         captures: &captures,
         told: &told,
+        names: has_number(form),
     };
-    let mut held = Device::new(Vec::new(alloc));
-    match report_at_hand(rt, alloc, options, at_hand, &mut held) {
-        Ok(totals) => {
-            let Device { inner, .. } = held;
-            Ok(HeldReport {
-                text: inner,
-                totals,
-            })
-        }
-        Err(fault) => Err(of_held(fault)),
+    match report_at_hand(rt, alloc, options, at_hand) {
+        Ok(held) => Ok(held),
+        Err(fault) => Err(fault),
     }
 }

@@ -2,14 +2,13 @@
 ghost use Rattle.std.specs.Prelude.{◌≡◌, ◌≢◌, ◌+◌, ◌-◌, ◌<◌, ◌^◌, ◌⊎◌, ◌↔◌, Err, IfErr, IfOk};
 ghost use Rattle.racl_io.specs.declared.fault.Fault.TheVariants.{Memory, Write};
 ghost use Rattle.racl_report.specs.InterfaceInputs.{IsFaultApart, placeless};
-ghost use Rattle.racl_report.specs.WrittenReports.{EndsOnce};
 ghost use Rattle.racl_runs.specs.InterfaceRuns.{AnswersRightApart, HasRunApart, IsSystemApart, RefusesApart};
-ghost use Rattle.racl_runs.specs.inner.InterfaceChecks.{AreRightParts};
+ghost use Rattle.racl_runs.specs.inner.InterfaceChecks.{AreRightParts, EndsOnce};
 
-use crate::captures_at_hand::{AtHand, report_at_hand};
+use crate::captures_at_hand::{AtHand, HeldReport, report_at_hand};
 use acl_policy::read_policy;
 use flow_workers::Filter;
-use racl_io::{Captured, Fault, Sink, Totals};
+use racl_io::{Captured, Fault, Sink, Totals, write_all};
 use racl_options::Options;
 use racl_report::{InterfaceInput, PlacedFault, told_of_interfaces};
 use std::alloc::Global;
@@ -53,7 +52,7 @@ fn checked_interfaces(
     }
 }
 
-// Filters captures that were found right, and writes the report.
+// Filters captures that were found right, and then writes the whole report.
 fn run_checked<W: Sink, T: Clock + Threads + Wait + Sync>(
     rt: &T,
     alloc: Global,
@@ -72,8 +71,16 @@ fn run_checked<W: Sink, T: Clock + Threads + Wait + Sync>(
         text: &input.text,
         captures: &input.captures,
         told: &right.told,
+        names: true,
     };
-    report_at_hand(rt, alloc, options, at_hand, writer)
+    let HeldReport { text, totals } = match report_at_hand(rt, alloc, options, at_hand) {
+        Ok(held) => held,
+        Err(fault) => return Err(fault),
+    };
+    match write_all(writer, &text) {
+        Ok(()) => Ok(totals),
+        Err(fault) => Err(fault),
+    }
 }
 
 /// Filters captures of interfaces, one after the other, by a policy, and writes the report. What has a fault gets the first

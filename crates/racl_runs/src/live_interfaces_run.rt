@@ -1,16 +1,17 @@
 //! One run over captures of several interfaces, which are told while they come.
-ghost use Rattle.std.specs.Prelude.{◌≡◌, ◌-◌, ◌<◌, ◌^◌, ◌++◌, IfErr, IfOk, MatchResult, None};
+ghost use Rattle.std.specs.Prelude.{◌≡◌, ◌-◌, ◌<◌, ◌^◌, IfErr, IfOk, MatchResult, None};
 ghost use Rattle.acl_policy.specs.Policies.{IsPolicyText, policy_facts};
-ghost use Rattle.racl_io.specs.Tellings.{HasToldText, with_write};
+ghost use Rattle.racl_io.specs.Tellings.{with_write};
 ghost use Rattle.racl_io.specs.declared.fault.Fault.TheVariants.{Read};
-ghost use Rattle.racl_report.specs.CapturesEnds.{captures_end};
 ghost use Rattle.capture_stream.specs.Arrivals.{HaveAllEnded};
 ghost use Rattle.capture_stream.specs.Lives.{with_read};
 ghost use Rattle.racl_runs.specs.LiveInterfaceRuns.{HasRunComing, IsComingRunFault, TellsComing};
 
 use crate::asked_lines::AskedLines;
 use crate::dated_judging::Dated;
-use crate::live_run::{LiveAsked, LiveWay, ages_early, told_behind_live, workers_over};
+use crate::live_run::{
+    LiveAsked, LiveWay, ages_early, tell_end_behind, told_behind_live, workers_over,
+};
 use crate::run_plan::EXPECTED;
 use crate::sized_tables_and_workers::create_sized;
 use crate::stored_sessions::keeps_stored;
@@ -18,9 +19,7 @@ use acl_policy::read_policy;
 use capture_stream::{Arrivals, FaultAt};
 use filter_run::{ReportedCaptures, report_captures};
 use flow_workers::Filter;
-use racl_io::{Captured, Fault, Sink, Teller, Totals};
-use racl_options::Lines;
-use racl_report::{Behind, write_behind, write_captures_end};
+use racl_io::{Fault, Sink, Teller, Totals};
 use std::alloc::Global;
 use std::sync::Wait;
 use std::thread::Threads;
@@ -33,24 +32,6 @@ fn placeless(fault: Fault) -> FaultAt
     FaultAt {
         fault,
         interface: None,
-    }
-}
-
-// Of captures that have ended what stands behind the lines of their packets is told.
-fn tell_end_of_captures<W: Sink>(
-    alloc: Global,
-    writer: &mut W,
-    lines: Lines,
-    cuts: &[Captured],
-    totals: &Totals,
-    behind: &Behind,
-) -> Result<(), Fault>
-    requires { W.failures writer.old < 2 ^ 64 - 1 }
-    ensures { HasToldText W.bytes W.failures writer.old writer.new (captures_end lines cuts.now totals.now ++ (behind.now.hits.items ++ behind.now.sessions.items)) result }
-{
-    match write_captures_end(alloc, writer, lines, cuts, totals) {
-        Ok(()) => write_behind(writer, behind),
-        Err(fault) => Err(fault),
     }
 }
 
@@ -101,7 +82,7 @@ fn tell_captures<L: Teller, A: Arrivals, W: Sink, T: Clock + Threads + Wait + Sy
     let Ok(behind) = told_behind_live(alloc, way, tables, &counts, callers, latest) else {
         return Err(placeless(Fault::Memory));
     };
-    match tell_end_of_captures(alloc, writer, way.options.lines, &cuts, &totals, &behind) {
+    match tell_end_behind(writer, teller, &cuts, &totals, &behind) {
         Ok(()) => Ok(totals),
         Err(fault) => Err(placeless(fault)),
     }
@@ -152,7 +133,7 @@ pub fn run_live_interfaces<A: Arrivals, W: Sink, T: Clock + Threads + Wait + Syn
         text,
         filter: &ready,
     };
-    let Ok(mut lines) = AskedLines::naming(alloc, way) else {
+    let Ok(mut lines) = AskedLines::new(alloc, way, true) else {
         return Err(placeless(Fault::Memory));
     };
     tell_captures(rt, alloc, way, arrivals, writer, &mut lines)

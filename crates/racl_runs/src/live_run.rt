@@ -4,7 +4,7 @@ ghost use Rattle.packet_view.specs.Captures.{PacketFacts};
 ghost use Rattle.acl_policy.specs.Policies.{IsPolicyText, policy_facts};
 ghost use Rattle.session_state.specs.declared.verdict.Verdict.{Verdict};
 ghost use Rattle.racl_io.specs.Inputs.{most_bytes};
-ghost use Rattle.racl_io.specs.Tellings.{HasToldText};
+ghost use Rattle.racl_io.specs.Tellings.{HasToldText, end_in};
 ghost use Rattle.racl_io.specs.Transfers.{GaveAtMost};
 ghost use Rattle.filter_run.specs.Starts.{most_at, start_facts};
 ghost use Rattle.capture_stream.specs.Lives.{HaveFailed, with_read};
@@ -37,7 +37,7 @@ use capture_stream::Saver;
 use filter_run::{CaptureStart, OpenCapture, ReportedShare, Share, report_share};
 use flow_filter::InterfaceFilters;
 use flow_workers::Filter;
-use racl_io::{Fault, Sink, Source, Teller, Totals};
+use racl_io::{Captured, Fault, Sink, Source, Teller, Totals, captured_alone};
 use racl_options::Options;
 use racl_report::{Behind, behind_totals, view_behind, write_behind};
 use racl_views::{HitCounts, ShardOf, shard_text};
@@ -157,17 +157,19 @@ fn noted_behind(
     })
 }
 
-/// Of a live run the totals are told, and what stands behind them.
+/// Of a run is told what stands behind its packets: of these captures whether they end within a record, the totals, and what stands
+/// behind these.
 pub fn tell_end_behind<L: Teller, W: Sink>(
     writer: &mut W,
     teller: &mut L,
+    captures: &[Captured],
     totals: &Totals,
     behind: &Behind,
 ) -> Result<(), Fault>
     requires { W.failures writer.old < 2 ^ 64 - 1 }
-    ensures { HasToldText W.bytes W.failures writer.old writer.new ((L.wording teller.old).end totals.now ++ (behind.now.hits.items ++ behind.now.sessions.items)) result }
+    ensures { HasToldText W.bytes W.failures writer.old writer.new (end_in (L.wording teller.old) captures.now totals.now ++ (behind.now.hits.items ++ behind.now.sessions.items)) result }
 {
-    match teller.tell_end(writer, totals) {
+    match teller.tell_end(writer, captures, totals) {
         Ok(()) => write_behind(writer, behind),
         Err(fault) => Err(fault),
     }
@@ -269,7 +271,8 @@ pub fn tell_capture<
     let Ok(behind) = noted_behind(alloc, way.options, shard, seen as u64, latest, behind) else {
         return Err(Fault::Memory);
     };
-    match tell_end_behind(writer, &mut teller, &totals, &behind) {
+    let captures = [captured_alone(&totals)];
+    match tell_end_behind(writer, &mut teller, &captures, &totals, &behind) {
         Ok(()) => Ok(totals),
         Err(fault) => Err(fault),
     }
@@ -326,7 +329,7 @@ pub fn run_live<R: Source, W: Sink, S: Sink, T: Clock + Threads + Wait + Sync>(
         text,
         filter: &ready,
     };
-    let Ok(lines) = AskedLines::new(alloc, way) else {
+    let Ok(lines) = AskedLines::new(alloc, way, false) else {
         return Err(Fault::Memory);
     };
     match saves.begin(header.as_slice()) {

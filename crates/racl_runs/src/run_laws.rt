@@ -14,7 +14,7 @@ ghost use Rattle.racl_io.specs.declared.fault.Fault.{Fault};
 ghost use Rattle.racl_io.specs.declared.totals_and_truncation.Totals.{Totals};
 ghost use Rattle.racl_io.specs.Faults.{IsInputFault};
 ghost use Rattle.racl_io.specs.Inputs.{most_bytes};
-ghost use Rattle.racl_views.specs.declared.capture_bytes.CaptureBytes.{CaptureBytes};
+ghost use Rattle.racl_io.specs.declared.capture_bytes.CaptureBytes.{CaptureBytes};
 ghost use Rattle.racl_report.specs.InterfaceInputs.{AreAllBytes, IsFaultApart, bytes_in};
 ghost use Rattle.racl_report.specs.declared.interface_captures.PlacedFault.{PlacedFault};
 ghost use Rattle.racl_runs.specs.InterfaceRuns.{HasOutcomeApart};

@@ -1,5 +1,5 @@
 //! How much of an input is read before its packets are judged, and what is prepared for them: the plan of a run.
-ghost use Rattle.std.specs.Prelude.{◌≡◌, ◌≤◌, is_some};
+ghost use Rattle.std.specs.Prelude.{◌≤◌};
 
 use racl_options::Options;
 
@@ -36,11 +36,4 @@ pub fn expected_packets(options: &Options, bytes: usize) -> usize
     } else {
         EXPECTED
     }
-}
-
-/// Whose threads may work beside this one: nobody's where one worker does all.
-pub fn threads_beside<T>(rt: &T, are_several: bool) -> Option<&T>
-    ensures { is_some result ≡ are_several }
-{
-    if are_several { Some(rt) } else { None }
 }

@@ -7,7 +7,8 @@ ghost use Rattle.racl_io.specs.Transfers.{GaveAtMost, HasReadWithin};
 ghost use Rattle.racl_runs.specs.Reads.{AnswersRead, HoldsReport};
 ghost use Rattle.racl_runs.specs.Runs.{AnswersRight, HasRun};
 
-use crate::held_reports::{HeldReport, report_digits, report_headed};
+use crate::captures_at_hand::HeldReport;
+use crate::held_reports::{report_digits, report_headed};
 use crate::input_front::{InputFront, Opened, open_source};
 use racl_io::{Fault, Sink, Source, Totals, write_all};
 use racl_options::Options;

@@ -101,7 +101,7 @@ pub fn run_shard<R: Source, W: Sink, S: Sink, T: Clock + Threads + Wait + Sync>(
         text,
         filter: &ready,
     };
-    let Ok(lines) = AskedLines::new(alloc, way) else {
+    let Ok(lines) = AskedLines::new(alloc, way, false) else {
         return Err(Fault::Memory);
     };
     match saves.begin(header.as_slice()) {

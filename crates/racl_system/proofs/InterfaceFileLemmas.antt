@@ -13,7 +13,7 @@ use Rattle.racl_io.specs.Inputs.{most_bytes}
 use Rattle.racl_io.specs.Transfers.{HasRead}
 use Rattle.racl_io.specs.declared.fault.Fault.{Fault}
 use Rattle.racl_io.specs.declared.fault.Fault.TheVariants as fault
-use Rattle.racl_views.specs.declared.capture_bytes.CaptureBytes.{CaptureBytes}
+use Rattle.racl_io.specs.declared.capture_bytes.CaptureBytes.{CaptureBytes}
 use Rattle.racl_report.specs.InterfaceInputs.{AreAllBytes, bytes_in}
 use Rattle.racl_report.specs.Statuses.{status_of_fault}
 use Rattle.racl_system.specs.InterfaceFiles.{AreAllOf, AreOver, AreUnread, GivenFacts, IsInterfacesStatus, IsUnreadInput, given_by}

@@ -5,7 +5,7 @@ use Rattle.racl_io.specs.Inputs.{most_bytes}
 use Rattle.racl_io.specs.declared.fault.Fault.{Fault}
 use Rattle.racl_io.specs.declared.fault.Fault.TheVariants.{Memory, Read, TooLarge}
 use Rattle.racl_options.specs.Origins.{CaptureFacts}
-use Rattle.racl_views.specs.declared.capture_bytes.CaptureBytes.{CaptureBytes}
+use Rattle.racl_io.specs.declared.capture_bytes.CaptureBytes.{CaptureBytes}
 use Rattle.racl_system.specs.MarkedPolicies.{IsFileStatus, IsUnheld}
 use Rattle.racl_system.specs.declared.interface_capture.InterfaceCapture.{InterfaceCapture}
 

@@ -9,13 +9,12 @@ use crate::say_policy_remarks::{Seen, say_foreign, say_unlooked};
 use crate::say_wrong_policy::{NamedPolicy, say_ended};
 use capture_stream::FaultAt;
 use packet_view::check_capture;
-use racl_io::{Fault, Totals};
+use racl_io::{CaptureBytes, Fault, Totals};
 use racl_options::{Files, Interfaces, Options, TableSize};
 use racl_report::{
     FramesRemark, Hint, InterfaceInput, KindRemark, ending, frames, hint, remark, shortage,
     shown_name, status,
 };
-use racl_views::CaptureBytes;
 use std::alloc::Global;
 use std::fs::metadata;
 use std::io;

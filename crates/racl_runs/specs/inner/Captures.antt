@@ -1,14 +1,14 @@
 -- Captures as digits, which are decoded one after the other.
-use Rattle.std.specs.Prelude.{◌≡◌, ◌++◌, ℕ, Bool, List, [], ◌∷◌, Option, Some}
+use Rattle.std.specs.Prelude.{◌≡◌, ◌++◌, ℕ, Bool, false, true, List, [], ◌∷◌, Option, Some}
 use Rattle.packet_view.specs.Captures.{IsCaptureAt, PacketFacts, end_of}
 use Rattle.acl_policy.specs.Policies.{IsAmong}
 use Rattle.racl_io.specs.declared.fault.Fault.{Fault}
 use Rattle.racl_io.specs.declared.marker_line.Form.{Form}
-use Rattle.racl_io.specs.declared.marker_line.Form.TheVariants.{Hexadecimal}
+use Rattle.racl_io.specs.declared.marker_line.Form.TheVariants.{Hexadecimal, Numbered}
 use Rattle.racl_io.specs.declared.marker_line.Numbered as mark
 use Rattle.racl_io.specs.Inputs.{AreCutDigits, IsContent, numbered_facts}
-use Rattle.racl_views.specs.CapturePackets.{HavePackets}
-use Rattle.racl_views.specs.declared.capture_bytes.CaptureBytes.{CaptureBytes}
+use Rattle.racl_io.specs.CapturePackets.{HavePacketsTold}
+use Rattle.racl_io.specs.declared.capture_bytes.CaptureBytes.{CaptureBytes}
 use Rattle.racl_report.specs.ReadInputs.{HasPackets, told_of}
 use Rattle.racl_report.specs.inner.NumberedCaptures.{IsFaultFrom, facts_of}
 use Rattle.racl_runs.specs.declared.digit_captures.Decoded.{Decoded}
@@ -37,8 +37,13 @@ pub record HasTaken (old : DigitWalk) (capture : mark.Numbered) (new : DigitWalk
   pub decoded : HasDecoded old.decoded (Some capture.interface) capture.interface digits new.decoded
   pub seen : new.seen.items ≡ capture.interface ∷ old.seen.items
 
+-- whether captures behind a marker line of this form have numbers
+abbrev pub has_number : Form → Bool
+has_number (Numbered number) = true
+has_number form = false
+
 -- all captures were decoded that follow a marker line of this form
 pub record AreDecoded (form : Form) (content : List ℕ) (decoded : Decoded) : Type 0 where
   pub packets : List PacketFacts
   pub taken : HasPackets form content packets decoded.told.items
-  pub have : HavePackets decoded.captures.items packets
+  pub have : HavePacketsTold decoded.captures.items decoded.told.items packets

@@ -15,11 +15,11 @@ returns-in_default-clause-told g c = inl (gives_none (g.A.Arrivals.parts c.args.
 pub returns-in_default-ready_with-clause-told : goal.returns-in_default-ready_with-clause-told
 returns-in_default-ready_with-clause-told g c = inl (gives_none (g.A.Arrivals.parts c.args.arrivals.now), refl, c.placeless-in_default-ready_with.ensures.1, inl c.placeless-in_default-ready_with.ensures.0)
 
-pub returns-in_default-naming-clause-told : goal.returns-in_default-naming-clause-told
-returns-in_default-naming-clause-told g c = inl (gives_none (g.A.Arrivals.parts c.args.arrivals.now), refl, c.placeless-in_default-naming.ensures.1, inl c.placeless-in_default-naming.ensures.0)
+pub returns-in_default-new-clause-told : goal.returns-in_default-new-clause-told
+returns-in_default-new-clause-told g c = inl (gives_none (g.A.Arrivals.parts c.args.arrivals.now), refl, c.placeless-in_default-new.ensures.1, inl c.placeless-in_default-new.ensures.0)
 
-pub naming-requires : goal.naming-requires
-naming-requires g c = ready_says c.in-Ok-ready_with.ensures.policy c.in-Ok.ensures.ok
+pub new-requires : goal.new-requires
+new-requires g c = ready_says c.in-Ok-ready_with.ensures.policy c.in-Ok.ensures.ok
 
 pub tell_captures-requires-clause-says : goal.tell_captures-requires-clause-says
 tell_captures-requires-clause-says g c κs lives = ready_says c.in-Ok-ready_with.ensures.policy c.in-Ok.ensures.ok
@@ -27,4 +27,4 @@ tell_captures-requires-clause-says g c κs lives = ready_says c.in-Ok-ready_with
 pub returns-clause-told : goal.returns-clause-told
 returns-clause-told g c =
     run_ends _ c.args.asked.options.now c.args.asked.text.now (policy_facts c.in-Ok-ready_with.ready.policy.now) _ _ _ _ _ c.tell_captures.result
-    (ready_says c.in-Ok-ready_with.ensures.policy c.in-Ok.ensures.ok) c.in-Ok-naming.ensures c.tell_captures.ensures.told
+    (ready_says c.in-Ok-ready_with.ensures.policy c.in-Ok.ensures.ok) c.in-Ok-new.ensures c.tell_captures.ensures.told

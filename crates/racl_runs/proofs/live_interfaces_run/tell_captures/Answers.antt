@@ -46,15 +46,15 @@ returns-in_default-told_behind_live-clause-told g c =
     inl (end_refused c.args.way _ _ c.in-Ok-workers_over.ensures (as_asked c.in-Ok.ensures.asked c.ages_early-ages.ensures) c.requires.sound.0 (g.L.Teller.wording c.args.teller.now) _ _ _ _ c.in-Ok-report_captures.told c.in-Ok-report_captures.ensures.told
     c.placeless-in_default-told_behind_live.result c.placeless-in_default-told_behind_live.ensures)
 
-pub returns-in-Ok-tell_end_of_captures-clause-told : goal.returns-in-Ok-tell_end_of_captures-clause-told
-returns-in-Ok-tell_end_of_captures-clause-told g c =
+pub returns-in-Ok-tell_end_behind-clause-told : goal.returns-in-Ok-tell_end_behind-clause-told
+returns-in-Ok-tell_end_behind-clause-told g c =
     let all = c.in-Ok-report_captures.ensures.told in
     let asked = as_asked c.in-Ok.ensures.asked c.ages_early-ages.ensures in
     let may = may_tell_behind c.args.way _ c.in-Ok-workers_over.inner _ _ _ _ c.requires.says c.requires.sound.0 asked c.in-Ok-workers_over.ensures (c.in-Ok-end.ensures _ _ _ _ all.stand.became.1) in
     let latest = latest_of_turns c.args.way _ _ c.in-Ok-workers_over.ensures (as_asked c.in-Ok.ensures.asked c.ages_early-ages.ensures) c.requires.sound.0 (g.L.Teller.wording c.args.teller.now) _ _ _ _
     c.in-Ok-report_captures.told all in
     all_told c.args.way _ _ c.in-Ok-workers_over.ensures (as_asked c.in-Ok.ensures.asked c.ages_early-ages.ensures) c.requires.sound.0 (g.L.Teller.wording c.args.teller.now) _ _ _ _ c.in-Ok-report_captures.told all _
-    (c.in-Ok-told_behind_live.ensures _ _ _ may (λ kept. latest (c.keeps_stored.ensures ∙ kept) refl)) _ c.deref.result.now c.deref.ensures.value c.in-Ok-tell_end_of_captures.ensures.0
+    (c.in-Ok-told_behind_live.ensures _ _ _ may (λ kept. latest (c.keeps_stored.ensures ∙ kept) refl)) _ (g.L.Teller.wording c.report_captures.new.teller) c.deref.result.now c.in-Ok-report_captures.ensures.same c.deref.ensures.value c.in-Ok-tell_end_behind.ensures.0
 
 pub returns-clause-told : goal.returns-clause-told
 returns-clause-told g c =
@@ -64,5 +64,5 @@ returns-clause-told g c =
     let latest = latest_of_turns c.args.way _ _ c.in-Ok-workers_over.ensures (as_asked c.in-Ok.ensures.asked c.ages_early-ages.ensures) c.requires.sound.0 (g.L.Teller.wording c.args.teller.now) _ _ _ _
     c.in-Ok-report_captures.told all in
     end_fault c.args.way _ _ c.in-Ok-workers_over.ensures (as_asked c.in-Ok.ensures.asked c.ages_early-ages.ensures) c.requires.sound.0 (g.L.Teller.wording c.args.teller.now) _ _ _ _ c.in-Ok-report_captures.told all _
-    (c.in-Ok-told_behind_live.ensures _ _ _ may (λ kept. latest (c.keeps_stored.ensures ∙ kept) refl)) _ c.deref.result.now c.deref.ensures.value c.placeless-in-Err-tell_end_of_captures.result c.in-Err-tell_end_of_captures.fault
-    c.placeless-in-Err-tell_end_of_captures.ensures c.in-Err-tell_end_of_captures.ensures.0
+    (c.in-Ok-told_behind_live.ensures _ _ _ may (λ kept. latest (c.keeps_stored.ensures ∙ kept) refl)) _ (g.L.Teller.wording c.report_captures.new.teller) c.deref.result.now c.in-Ok-report_captures.ensures.same c.deref.ensures.value c.placeless-in-Err-tell_end_behind.result c.in-Err-tell_end_behind.fault
+    c.placeless-in-Err-tell_end_behind.ensures c.in-Err-tell_end_behind.ensures.0

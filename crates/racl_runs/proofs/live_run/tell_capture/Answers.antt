@@ -1,7 +1,8 @@
-use Rattle.std.proofs.Common.{◌∙◌, ◌++◌, ℕ, List, ap, inl, rules}
+use Rattle.std.proofs.Common.{◌∙◌, ◌++◌, ℕ, List, [], ◌∷◌, ap, inl, rules}
 use Rattle.std.proofs.lemmas.Option.{IfSome_then}
 use Rattle.acl_policy.specs.Policies.{policy_facts}
 use Rattle.capture_stream.specs.Savings.{manner_of, outputs}
+use Rattle.racl_io.specs.declared.totals_and_truncation.Captured.{Captured}
 use Rattle.filter_run.specs.Starts.{start_facts}
 use Rattle.filter_run.proofs.OwnTellLemmas.{none_told_own}
 use Rattle.filter_run.proofs.TellLemmas.{failed_since, report_failed}
@@ -79,7 +80,7 @@ returns-in-Ok-tell_end_behind-clause-told g c =
     own_end_told c.args.head.way _ _ c.in-Ok-workers_over.ensures asked c.requires.sound.0 (g.L.Teller.wording c.args.lines) g.K.Saver.saved
     _ _ _ _ _ _ _ c.in-Ok-report_share.told all (note_for c.args.head.way.options.now c.args.head.shard) _ _
     (c.in-Ok-told_behind_live.ensures _ _ _ may (λ kept. latest (c.notes_latest.ensures.stored kept))) text _
-    (g.L.Teller.wording c.report_share.new.teller) c.in-Ok-report_share.ensures.same c.in-Ok-tell_end_behind.ensures.0
+    (g.L.Teller.wording c.report_share.new.teller) (c.captured_alone.result ∷ []) c.in-Ok-report_share.ensures.same (ap (λ (one : Captured). one ∷ []) c.captured_alone.ensures) c.in-Ok-tell_end_behind.ensures.0
 
 pub returns-clause-told : goal.returns-clause-told
 returns-clause-told g c =
@@ -98,7 +99,7 @@ returns-clause-told g c =
     own_end_fault c.args.head.way _ _ c.in-Ok-workers_over.ensures asked c.requires.sound.0 (g.L.Teller.wording c.args.lines) g.K.Saver.saved
     _ _ _ _ _ _ _ c.in-Ok-report_share.told all (note_for c.args.head.way.options.now c.args.head.shard) _ _
     (c.in-Ok-told_behind_live.ensures _ _ _ may (λ kept. latest (c.notes_latest.ensures.stored kept))) text _ c.in-Err-tell_end_behind.fault
-    (g.L.Teller.wording c.report_share.new.teller) c.in-Ok-report_share.ensures.same c.in-Err-tell_end_behind.ensures.0
+    (g.L.Teller.wording c.report_share.new.teller) (c.captured_alone.result ∷ []) c.in-Ok-report_share.ensures.same (ap (λ (one : Captured). one ∷ []) c.captured_alone.ensures) c.in-Err-tell_end_behind.ensures.0
 
 pub returns-clause-write : goal.returns-clause-write
 returns-clause-write g c =

@@ -4,7 +4,7 @@ use Rattle.packet_view.specs.Bytes.{AreBytes}
 use Rattle.racl_io.specs.Inputs.{most_bytes}
 use Rattle.racl_io.specs.declared.fault.Fault.TheVariants as fault
 use Rattle.racl_report.specs.InterfaceInputs.{AreAllBytes, bytes_in}
-use Rattle.racl_views.specs.declared.capture_bytes.CaptureBytes.{CaptureBytes}
+use Rattle.racl_io.specs.declared.capture_bytes.CaptureBytes.{CaptureBytes}
 use Rattle.racl_system.specs.InterfaceFiles.{AreAllOf, AreUnread, given_by}
 use Rattle.racl_system.proofs.InterfaceFileLemmas.{bytes_more, fit_more, next_given, over_stays, read_more, unread_there}
 use Rattle.racl_system.proofs.interface_files.read_interfaces.Goals as goal
