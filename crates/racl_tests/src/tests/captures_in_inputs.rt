@@ -5,7 +5,7 @@ ghost use Rattle.std.specs.Prelude.{◌≡◌, ◌-◌, ◌<◌, ◌^◌, None, 
 use capture_stream::{Judge, Unsaved};
 use filter_run::{CaptureStart, OpenCapture, report_capture};
 use packet_view::{Order, Packets};
-use racl_io::{Device, DeviceFault, Fault, MOST_BYTES, PlainLines, Source};
+use racl_io::{Device, DeviceFault, Fault, MOST_BYTES, ReportLines, Source};
 use session_state::{Shown, Verdict};
 use std::alloc::{AllocError, Global};
 use std::test::Fail;
@@ -85,7 +85,7 @@ fn report(
     alloc: Global,
     begun: Begun<'_>,
     reader: &mut Paced<'_>,
-    teller: &mut PlainLines,
+    teller: &mut ReportLines,
     lines: &mut Device<Vec<u8>>,
 ) -> Result<(u64, bool), Fault>
     requires reader { reader.old.failures < 2 ^ 64 - 1 }
@@ -124,7 +124,7 @@ const THREE: &[u8] = b"\
 #[test]
 fn a_front_is_read_before_a_capture(rt: HostRuntime) -> Result<(), Fail> {
     let alloc = rt.alloc();
-    let mut teller = PlainLines::new(alloc, Shown::Every)?;
+    let mut teller = ReportLines::new(alloc, Shown::Every, false)?;
     for place in 0..=60usize {
         for (front, length) in [(place, 60), (place.min(30), place)] {
             for most in [1, 7, 65_536] {
@@ -199,7 +199,7 @@ const FAILED: usize = 14_228;
 #[test]
 fn an_input_has_64_mib_at_most(rt: HostRuntime) -> Result<(), Fail> {
     let alloc = rt.alloc();
-    let mut teller = PlainLines::new(alloc, Shown::Every)?;
+    let mut teller = ReportLines::new(alloc, Shown::Every, false)?;
     // Reads ask for 8 MiB at most.
     let records = large_records(alloc, 128)?;
     let (front, rest) = records.split_at(FRONT.min(records.len()));
@@ -242,7 +242,7 @@ fn an_input_has_64_mib_at_most(rt: HostRuntime) -> Result<(), Fail> {
 #[test]
 fn a_capture_alone_has_no_such_limit(rt: HostRuntime) -> Result<(), Fail> {
     let alloc = rt.alloc();
-    let mut teller = PlainLines::new(alloc, Shown::Every)?;
+    let mut teller = ReportLines::new(alloc, Shown::Every, false)?;
     let records = large_records(alloc, 2)?;
     let (front, rest) = records.split_at(FRONT.min(records.len()));
     let begun = Begun {
@@ -285,7 +285,7 @@ const BEHIND: [(Option<usize>, bool, Fault, usize, u64); 4] = [
 #[test]
 fn a_long_record_is_told_behind_its_input(rt: HostRuntime) -> Result<(), Fail> {
     let alloc = rt.alloc();
-    let mut teller = PlainLines::new(alloc, Shown::Every)?;
+    let mut teller = ReportLines::new(alloc, Shown::Every, false)?;
     for front in 0..=56usize {
         for most in [1, 7, 65_536] {
             for (input, fails, fault, unread, failures) in BEHIND {
@@ -338,7 +338,7 @@ const LATER: [(usize, bool, Fault, usize, u64); 4] = [
 #[test]
 fn too_many_bytes_go_before_a_long_record(rt: HostRuntime) -> Result<(), Fail> {
     let alloc = rt.alloc();
-    let mut teller = PlainLines::new(alloc, Shown::Every)?;
+    let mut teller = ReportLines::new(alloc, Shown::Every, false)?;
     let zeros = vec![in alloc; 0u8; 65_536]?;
     for front in [0, 30, 56usize] {
         for (left, fails, fault, unread, failures) in LATER {

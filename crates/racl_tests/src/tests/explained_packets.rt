@@ -1,8 +1,8 @@
 //! What is told of packets: what they are, and which rule decided.
 use acl_policy::read_policy;
 use packet_view::{Packet, Packets};
-use racl_io::{Captured, Device};
-use racl_views::{Run, TextOrJson, write_explained, write_objects};
+use racl_io::{Captured, Device, Fault, Teller, totals_on};
+use racl_views::{ExplainedLines, ObjectLines, TextOrJson};
 use session_state::{Shown, Verdict};
 use std::alloc::Global;
 use std::test::Fail;
@@ -120,7 +120,28 @@ const ROWS: [(u8, &[u8], Verdict, &str, &str); 7] = [
     ),
 ];
 
-// For tests of explained packets: what is told, as text or as JSON, of this packet as the only one of a capture.
+// For tests of explained packets: what these lines tell of this packet as the only one of a truncated capture.
+fn told_by<L: Teller + Drop>(
+    alloc: Global,
+    lines: L,
+    packet: Packet<'_>,
+    verdict: Verdict,
+) -> Result<Vec<u8>, Fault> {
+    let mut lines = lines;
+    let mut report = Device::new(Vec::new(alloc));
+    let captured = Captured {
+        named: Some(packet.interface),
+        packets: 1,
+        truncated: true,
+    };
+    let passed = lines.tell(&mut report, 0, Packets::Slice(&[packet]), &[verdict])?;
+    lines.tell_cut(&mut report, &captured)?;
+    let totals = totals_on(passed, &[verdict], &[captured]);
+    lines.tell_end(&mut report, &[], &totals)?;
+    Ok(report.inner)
+}
+
+// For tests of explained packets: what is told, as text or as JSON, of this packet.
 fn told(
     alloc: Global,
     view: TextOrJson,
@@ -129,31 +150,24 @@ fn told(
     verdict: Verdict,
 ) -> Result<Vec<u8>, Fail> {
     let policy = read_policy(alloc, POLICY)?;
-    let captures = [Captured {
-        named: Some(interface),
-        packets: 1,
-        truncated: true,
-    }];
-    let packets = [Packet {
+    let packet = Packet {
         interface,
         moment: 10,
         micros: 250,
         frame,
-    }];
-    let run = Run {
-        policy: &policy,
-        text: POLICY,
-        packets: Packets::Slice(&packets),
-        verdicts: &[verdict],
-        captures: &captures,
-        shown: Shown::Every,
     };
-    let mut report = Device::new(Vec::new(alloc));
-    match view {
-        TextOrJson::Text => write_explained(alloc, &mut report, run)?,
-        TextOrJson::Json => write_objects(alloc, &mut report, run)?,
+    let every = Shown::Every;
+    let text = match view {
+        TextOrJson::Text => {
+            let lines = ExplainedLines::new(alloc, every, true, &policy, POLICY)?;
+            told_by(alloc, lines, packet, verdict)?
+        }
+        TextOrJson::Json => {
+            let lines = ObjectLines::new(alloc, every, &policy, POLICY)?;
+            told_by(alloc, lines, packet, verdict)?
+        }
     };
-    Ok(report.inner)
+    Ok(text)
 }
 
 /// One packet explained, as text and as JSON: what it is, and which rule decided.

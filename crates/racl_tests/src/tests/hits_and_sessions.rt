@@ -1,9 +1,9 @@
 //! What is told of a run's rules and sessions. `tests/run` has what the program writes of them.
 use acl_policy::{Policy, read_policy};
-use packet_view::{Direction, Packets};
+use packet_view::{Direction, Packets, read_capture};
 use racl_views::{
-    CaptureBytes, RuleLine, RuleName, Run, ShardOf, StoredPairs, TextOrJson, hits_text,
-    live_sessions, numbered_rules, packets_in, sessions_text, shard_text,
+    RuleLine, RuleName, Run, ShardOf, StoredPairs, TextOrJson, hits_text, live_sessions,
+    numbered_rules, sessions_text, shard_text,
 };
 use session_state::{Shown, Timeouts, Verdict};
 use std::alloc::{AllocError, Global};
@@ -125,14 +125,9 @@ fn hits_run<'a>(policy: &'a Policy, packets: Packets<'a>) -> Run<'a> {
 
 // For tests of hits: what is told of the capture's packets, after which the session of the request is stored.
 fn hits_told(alloc: Global, times: Timeouts, view: TextOrJson) -> Result<Vec<u8>, Fail> {
-    let mut captures = Vec::new(alloc);
-    captures.push(CaptureBytes {
-        interface: 0,
-        bytes: Vec::from_slice(alloc, hits_capture())?,
-    })?;
     let policy = read_policy(alloc, hits_rules())?;
-    let packets = packets_in(alloc, &captures)?;
-    let run = hits_run(&policy, Packets::Slice(&packets));
+    let capture = read_capture(alloc, hits_capture(), 0)?;
+    let run = hits_run(&policy, Packets::Slice(&capture.packets));
     let request = [([0x0a00_0001_0a00_0002, 0x03e8_0035_1100_0000], 100)];
     let stored = stored_of(alloc, &request, &[])?;
     Ok(hits_text(alloc, view, times, run, &stored)?)

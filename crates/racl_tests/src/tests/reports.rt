@@ -1,5 +1,6 @@
 //! The lines of a report.
-use racl_io::{Captured, Device, write_shown};
+use packet_view::{Packet, Packets};
+use racl_io::{Captured, Device, ReportLines, Teller, totals_on};
 use session_state::{Shown, Verdict};
 use std::test::Fail;
 
@@ -38,20 +39,23 @@ fn a_report_line_per_verdict(rt: HostRuntime) -> Result<(), Fail> {
         Verdict::Malformed,
         Verdict::Short,
     ];
-    let mut writer = Device::new(Vec::new(rt.alloc()));
-    const CAPTURES: [Captured; 1] = [Captured {
+    const CAPTURE: Captured = Captured {
         named: None,
         packets: 11,
         truncated: true,
-    }];
-    let totals = write_shown(
-        Some(&rt),
-        rt.alloc(),
-        &mut writer,
-        Shown::Every,
-        &VERDICTS,
-        &CAPTURES,
-    )?;
+    };
+    const PACKETS: [Packet<'static>; 11] = [Packet {
+        interface: 0,
+        moment: 0,
+        micros: 0,
+        frame: b"",
+    }; 11];
+    let mut writer = Device::new(Vec::new(rt.alloc()));
+    let mut lines = ReportLines::new(rt.alloc(), Shown::Every, false)?;
+    let passed = lines.tell(&mut writer, 0, Packets::Slice(&PACKETS), &VERDICTS)?;
+    lines.tell_cut(&mut writer, &CAPTURE)?;
+    let totals = totals_on(passed, &VERDICTS, &[CAPTURE]);
+    lines.tell_end(&mut writer, &[], &totals)?;
     assert!(rt; writer.inner.as_slice() == report_of_verdicts());
     assert!(rt; (totals.packets, totals.passed, totals.dropped) == (11, 4, 7));
     assert!(rt; totals.truncated);
